@@ -1,0 +1,4 @@
+pub mod Faults
+pub mod Name
+pub mod Oid
+pub mod Streams

@@ -1,0 +1,24 @@
+ghost use Rattle.std.specs.Prelude.{◌≡◌, ℕ, List, Option, OnErr};
+ghost use Rattle.vf_base.specs.Faults.{HasRisen, NeverFalls};
+ghost use Rattle.vf_base.specs.Streams.{Writes};
+
+use crate::Failed;
+
+/// Where octets go.
+pub trait Sink {
+    /// The octets that were taken, where the sink tells them.
+    ghost taken: { Self → Option (List ℕ) };
+
+    /// The number of calls that failed.
+    ghost fault_count: { Self → ℕ };
+
+    /// Takes all of the octets, or a front of them where it fails.
+    fn write(&mut self, octets: &[u8]) -> Result<(), Failed>
+        ensures octets { Writes (taken self.old) (taken self.new) octets.now result }
+        ensures falls { NeverFalls (fault_count self.old) (fault_count self.new) }
+        ensures failed { OnErr result (HasRisen (fault_count self.old) (fault_count self.new)) };
+
+    /// How many calls failed; it stands still at its type's end.
+    fn faults(&self) -> u64
+        ensures { result ≡ fault_count self.now };
+}
