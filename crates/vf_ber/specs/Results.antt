@@ -1,0 +1,16 @@
+-- What the calls answer.
+use Rattle.std.specs.Prelude.{◌≡◌, ℕ, ◌≤◌, ◌↔◌, Result, Ok, Err, List, ◌++◌, length}
+use Rattle.vf_ber.specs.declared.errors.BerError.{BerError}
+use Rattle.vf_ber.specs.declared.errors.BerError.TheVariants as ber
+use Rattle.vf_ber.specs.declared.value.Value.{Value}
+use Rattle.vf_ber.specs.Reading.{Reading, Short, Bad, Read}
+use Rattle.vf_ber.specs.Views.{tree_of}
+
+-- a read answers this reading, where memory is there
+abbrev pub Answers : Result (Value × ℕ) BerError → Reading → Type 0
+Answers (Ok read) reading = reading ≡ Read (tree_of read.0) read.1
+Answers (Err ber.Short) reading = reading ≡ Short
+Answers (Err (ber.Bad at)) reading = (at ≡ 0) × (reading ≡ Bad)
+Answers (Err (ber.Deep at)) reading = ⊥
+Answers (Err (ber.Long at)) reading = ⊥
+Answers (Err ber.NoMemory) reading = Unit {0}
