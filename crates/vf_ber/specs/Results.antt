@@ -1,5 +1,5 @@
 -- What the calls answer.
-use Rattle.std.specs.Prelude.{◌≡◌, ℕ, ◌≤◌, ◌↔◌, Result, Ok, Err, List, ◌++◌, length}
+use Rattle.std.specs.Prelude.{◌≡◌, ℕ, Result, Ok, Err, List, length, take}
 use Rattle.vf_ber.specs.declared.errors.BerError.{BerError}
 use Rattle.vf_ber.specs.declared.errors.BerError.TheVariants as ber
 use Rattle.vf_ber.specs.declared.value.Value.{Value}
@@ -14,3 +14,7 @@ Answers (Err (ber.Bad at)) reading = (at ≡ 0) × (reading ≡ Bad)
 Answers (Err (ber.Deep at)) reading = ⊥
 Answers (Err (ber.Long at)) reading = ⊥
 Answers (Err ber.NoMemory) reading = Unit {0}
+
+-- what was there stands in front
+abbrev pub Keeps : List ℕ → List ℕ → Type 0
+Keeps old new = take (length old) new ≡ old

@@ -5,7 +5,9 @@ mod errors;
 mod measure;
 mod tag;
 mod value;
+mod writing;
 
 pub use errors::{BerError, WriteError};
 pub use tag::Tag;
 pub use value::{Value, Values};
+pub use writing::write;
