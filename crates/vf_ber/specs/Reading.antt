@@ -2,7 +2,7 @@
 -- octets (profile); it is read as the tree whose canonical spelling it is.
 use Rattle.std.specs.Prelude.{ℕ, zero, suc, ◌+◌, ◌-◌, ◌*◌, ◌/◌, ◌%◌, Bool, true, false, nat_lt, nat_le, nat_eq, ◌||◌, List, [], ◌∷◌, length, take, drop, Option, Some, None, if◌then◌else◌}
 use Rattle.std.specs.Option.{option_and_then, option_map}
-use Rattle.vf_ber.specs.Tree.{Tag, Tree, plain, built, Trees, none, more}
+use Rattle.vf_ber.specs.Tree.{Tag, Tree, plain, built, Trees, none, more, alone}
 
 -- octets are a proper front of a message, or begin none, or begin with a message of so many octets
 pub data Cut : Type 0 where
@@ -86,16 +86,14 @@ pub data Reading : Type 0 where
   Bad : Reading
   Read : Tree → ℕ → Reading
 
-abbrev pub single : ℕ → Option Trees → Reading
-single n None = Bad
-single n (Some none) = Bad
-single n (Some (more value none)) = Read value n
-single n (Some (more value (more other values))) = Bad
+abbrev pub whole : ℕ → Option Tree → Reading
+whole n None = Bad
+whole n (Some value) = Read value n
 
 abbrev pub reading_of : List ℕ → Cut → Reading
 reading_of octets Begun = Short
 reading_of octets Wrong = Bad
-reading_of octets (Whole n) = single n (values_at n (take n octets))
+reading_of octets (Whole n) = whole n (option_and_then alone (values_at n (take n octets)))
 
 abbrev pub reading : List ℕ → Reading
 reading octets = reading_of octets (cut octets)

@@ -3,7 +3,7 @@ use Rattle.std.specs.Prelude.{◌≡◌, ℕ, Result, Ok, Err, List, length, tak
 use Rattle.vf_ber.specs.declared.errors.BerError.{BerError}
 use Rattle.vf_ber.specs.declared.errors.BerError.TheVariants as ber
 use Rattle.vf_ber.specs.declared.value.Value.{Value}
-use Rattle.vf_ber.specs.Reading.{Reading, Short, Bad, Read}
+use Rattle.vf_ber.specs.Reading.{Reading, Short, Bad, Read, Cut, Begun, Wrong, Whole}
 use Rattle.vf_ber.specs.Views.{tree_of}
 
 -- a read answers this reading, where memory is there
@@ -18,3 +18,12 @@ Answers (Err ber.NoMemory) reading = Unit {0}
 -- what was there stands in front
 abbrev pub Keeps : List ℕ → List ℕ → Type 0
 Keeps old new = take (length old) new ≡ old
+
+-- the cutting of a message answers this
+abbrev pub AnswersCut : Result ℕ BerError → Cut → Type 0
+AnswersCut (Ok n) cut = cut ≡ Whole n
+AnswersCut (Err ber.Short) cut = cut ≡ Begun
+AnswersCut (Err (ber.Bad at)) cut = (at ≡ 0) × (cut ≡ Wrong)
+AnswersCut (Err (ber.Deep at)) cut = ⊥
+AnswersCut (Err (ber.Long at)) cut = ⊥
+AnswersCut (Err ber.NoMemory) cut = ⊥

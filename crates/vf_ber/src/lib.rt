@@ -3,11 +3,13 @@
 
 mod errors;
 mod measure;
+mod reading;
 mod tag;
 mod value;
 mod writing;
 
 pub use errors::{BerError, WriteError};
+pub use reading::read;
 pub use tag::Tag;
 pub use value::{Value, Values};
 pub use writing::write;
