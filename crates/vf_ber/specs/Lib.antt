@@ -1,5 +1,6 @@
 pub mod Code
 pub mod Falls
+pub mod Laws
 pub mod Limits
 pub mod Reading
 pub mod Results

@@ -2,6 +2,7 @@
 #![tactic(auto)]
 
 mod errors;
+mod laws;
 mod measure;
 mod reading;
 mod tag;
@@ -9,6 +10,7 @@ mod value;
 mod writing;
 
 pub use errors::{BerError, WriteError};
+pub use laws::{read_is_spelled, spelled_is_read};
 pub use reading::read;
 pub use tag::Tag;
 pub use value::{Value, Values};
