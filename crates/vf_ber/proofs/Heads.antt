@@ -120,9 +120,11 @@ head_from octet octets head x number_is length_is =
     let b = nat_eq (octet / 32 % 2) 1 in
     let l = length_sound class b x.0 x.1 head length_is in
     let n = number_sound b class (octet % 32) x.0 octets x.1 (omega arith) number_is in
-    let t : identifier head.constructed head.tag ≡ identifier b (tag class x.0) = ap (λ c. identifier c head.tag) l.0 ∙ ap (identifier b) l.1 in
-    (ap (λ o. o ∷ octets) (first_octet-parts octet) ∙ n ∙ ap (λ r. identifier b (tag class x.0) ++ r) l.2
-        ∙ ap (λ i. i ++ (length_octets head.len ++ head.rest)) (sym t) ∙ sym (append_assoc (identifier head.constructed head.tag) (length_octets head.len) head.rest), l.3)
+    let t : identifier head.constructed head.tag ≡ identifier b (tag class x.0) = ap (λ c. identifier c head.tag) l.0 ∙ ap (identifier b) l.1 in (
+      ap (λ o. o ∷ octets) (first_octet-parts octet) ∙ n ∙ ap (λ r. identifier b (tag class x.0) ++ r) l.2
+          ∙ ap (λ i. i ++ (length_octets head.len ++ head.rest)) (sym t) ∙ sym (append_assoc (identifier head.constructed head.tag) (length_octets head.len) head.rest),
+      l.3,
+    )
 
 pub head_sound : (octets : List ℕ) (head : Head) → head_at octets ≡ Some head
     → (octets ≡ header head.constructed head.tag head.len ++ head.rest) × (head.len ≤ length head.rest)
@@ -176,17 +178,17 @@ pub head_complete : (constructed : Bool) (t : Tag) (len : ℕ) (rest : List ℕ)
     → head_at (header constructed t len ++ rest) ≡ Some (record { tag = t; constructed = constructed; len = len; rest = rest })
 head_complete constructed t len rest fits short reached =
     let spelled : header constructed t len ++ rest ≡ identifier constructed t ++ (len ∷ rest) =
-        append_assoc (identifier constructed t) (length_octets len) rest ∙ ap (λ l. identifier constructed t ++ (l ++ rest)) (short_length len short) in
+    append_assoc (identifier constructed t) (length_octets len) rest ∙ ap (λ l. identifier constructed t ++ (l ++ rest)) (short_length len short) in
     let named = λ (i : List ℕ) (e : identifier constructed t ≡ i). ap head_at spelled ∙ ap (λ l. head_at (l ++ (len ∷ rest))) e in
     elim (cases_lt t.number 31) [
       | inl lt ↦ named _ (identifier-short constructed t.class t.number lt)
           ∙ behind_first constructed t.class t.number t.number len _ rest (omega arith) (number_complete-short t.number (len ∷ rest) lt) short reached fits.some_value
       | inr le ↦ elim (cases_lt t.number 128) [
-          | inl lt ↦ named _ (identifier-longer constructed t.class t.number le lt)
-              ∙ behind_first constructed t.class 31 t.number len _ rest (omega arith) (number_complete-longer t.number (len ∷ rest) le lt) short reached fits.some_value
-          | inr far ↦ named _ (identifier-longest constructed t.class t.number far)
-              ∙ behind_first constructed t.class 31 t.number len _ rest (omega arith) (number_complete-longest t.number (len ∷ rest) far) short reached fits.some_value
-        ]
+        | inl lt ↦ named _ (identifier-longer constructed t.class t.number le lt)
+            ∙ behind_first constructed t.class 31 t.number len _ rest (omega arith) (number_complete-longer t.number (len ∷ rest) le lt) short reached fits.some_value
+        | inr far ↦ named _ (identifier-longest constructed t.class t.number far)
+            ∙ behind_first constructed t.class 31 t.number len _ rest (omega arith) (number_complete-longest t.number (len ∷ rest) far) short reached fits.some_value
+      ]
     ]
 
 -- a header has two octets at least

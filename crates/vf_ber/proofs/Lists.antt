@@ -53,5 +53,4 @@ take_one values place value e lt =
 pub take_whole : (values : List Value) (place : ℕ) → length values ≤ place → trees_in (take place values) ≡ trees_in values
 take_whole values place le = ap trees_in (take_all place values le)
 
-
 pub ruleset lists = (trees_in-push, count-trees_in, part_at-trees_in)

@@ -39,13 +39,13 @@ behind_sound inner reads octets values head is e =
     let front = take head.len head.rest in
     let back = drop head.len head.rest in
     option_and_then_some (λ part. option_map (more part) (inner back)) (value_at inner head.constructed head.tag front) values e (λ part part_is behind_is.
-        let m = option_map_some (more part) (inner back) values behind_is in
-        let others : spells m.0 ≡ back = reads back m.0 m.1 in
-        let len : length front ≡ head.len = omega (arith, length-take head.len head.rest, h.1) in
-        let first : spell part ≡ header head.constructed head.tag head.len ++ front =
-            value_sound inner reads head.constructed head.tag front part part_is ∙ ap (λ n. header head.constructed head.tag n ++ front) len in
-        sym (ap spells m.2) ∙ ap (λ f. f ++ spells m.0) first ∙ ap (λ o. (header head.constructed head.tag head.len ++ front) ++ o) others
-        ∙ append_assoc (header head.constructed head.tag head.len) front back ∙ ap (λ r. header head.constructed head.tag head.len ++ r) (take-append-drop head.len head.rest) ∙ sym h.0)
+    let m = option_map_some (more part) (inner back) values behind_is in
+    let others : spells m.0 ≡ back = reads back m.0 m.1 in
+    let len : length front ≡ head.len = omega (arith, length-take head.len head.rest, h.1) in
+    let first : spell part ≡ header head.constructed head.tag head.len ++ front =
+    value_sound inner reads head.constructed head.tag front part part_is ∙ ap (λ n. header head.constructed head.tag n ++ front) len in
+    sym (ap spells m.2) ∙ ap (λ f. f ++ spells m.0) first ∙ ap (λ o. (header head.constructed head.tag head.len ++ front) ++ o) others
+    ∙ append_assoc (header head.constructed head.tag head.len) front back ∙ ap (λ r. header head.constructed head.tag head.len ++ r) (take-append-drop head.len head.rest) ∙ sym h.0)
 
 with_sound : (inner : List ℕ → Option Trees) → Reads inner → Reads (values_with inner)
 with_sound inner reads [] values e = sym (ap spells (some_is none values e))
@@ -72,7 +72,7 @@ front_complete budget constructed tag content value rest others fits short read 
     let begun : 0 < length octets = omega (arith, length-append (h ++ content) rest, length-append h content, header_some constructed tag (length content)) in
     let is : Some head ≡ head_at octets = sym (ap head_at (append_assoc h content rest) ∙ head_complete constructed tag (length content) (content ++ rest) fits short reached) in
     let inside : Some value ≡ value_at (values_at (suc budget - 1)) constructed tag (take (length content) (content ++ rest)) =
-        sym (ap (value_at (values_at (suc budget - 1)) constructed tag) (take_at content rest (length content) refl) ∙ read) in
+    sym (ap (value_at (values_at (suc budget - 1)) constructed tag) (take_at content rest (length content) refl) ∙ read) in
     one_read (suc budget) octets head (Some value) (omega arith) begun is inside
     ∙ ap (λ o. option_map (more value) (values_at (suc budget - 1) o)) (drop_at content rest (length content) refl)
     ∙ ap (option_map (more value)) behind
@@ -91,15 +91,15 @@ values_complete (suc budget) (more (plain tag content) others) fits enough short
     let c = header_some false tag (length content) in
     let left : budget ≡ suc budget - 1 = omega arith in
     front_complete budget false tag content (plain tag content) (spells others) others fits.0 (omega arith) refl
-        (ap (λ n. values_at n (spells others)) (sym left) ∙ values_complete budget others fits.1 (omega arith) (omega arith))
+    (ap (λ n. values_at n (spells others)) (sym left) ∙ values_complete budget others fits.1 (omega arith) (omega arith))
 values_complete (suc budget) (more (built tag parts) others) fits enough short =
     let a = length-append (spell (built tag parts)) (spells others) in
     let b = length-append (header true tag (length (spells parts))) (spells parts) in
     let c = header_some true tag (length (spells parts)) in
     let left : budget ≡ suc budget - 1 = omega arith in
     front_complete budget true tag (spells parts) (built tag parts) (spells others) others fits.0.0 (omega arith)
-        (ap (λ n. option_map (built tag) (values_at n (spells parts))) (sym left) ∙ ap (option_map (built tag)) (values_complete budget parts fits.0.1 (omega arith) (omega arith)))
-        (ap (λ n. values_at n (spells others)) (sym left) ∙ values_complete budget others fits.1 (omega arith) (omega arith))
+    (ap (λ n. option_map (built tag) (values_at n (spells parts))) (sym left) ∙ ap (option_map (built tag)) (values_complete budget parts fits.0.1 (omega arith) (omega arith)))
+    (ap (λ n. values_at n (spells others)) (sym left) ∙ values_complete budget others fits.1 (omega arith) (omega arith))
 
 -- ---- messages
 
@@ -139,8 +139,8 @@ sound octets value n e = go (cut octets) refl e
         let w = whole_is m n (option_and_then alone (values_at m (take m octets))) value e in
         let there = cut_there octets m is in
         let spelled : take m octets ≡ spell value =
-            option_and_then_some alone (values_at m (take m octets)) value w.1 (λ values values_is alone_value.
-                sym (values_sound m (take m octets) values values_is) ∙ ap spells (alone_is values value alone_value) ∙ append-nil (spell value)) in
+        option_and_then_some alone (values_at m (take m octets)) value w.1 (λ values values_is alone_value.
+        sym (values_sound m (take m octets) values values_is) ∙ ap spells (alone_is values value alone_value) ∙ append-nil (spell value)) in
         let begins : BeginsWith octets value m = record { message = is; there = there.0; spelled = spelled } in
         subst (λ (k : ℕ). BeginsWith octets value k) w.0 begins
 
@@ -150,5 +150,5 @@ complete octets value n fits begins =
     let listed : spells (more value none) ≡ take n octets = append-nil (spell value) ∙ sym begins.spelled in
     let len : length (spells (more value none)) ≡ n = ap length listed ∙ (let l : length (take n octets) ≡ n = omega (arith, length-take n octets, there.0) in l) in
     let read : values_at n (take n octets) ≡ Some (more value none) =
-        ap (values_at n) (sym listed) ∙ values_complete n (more value none) (fits, tt) (omega (arith, len)) (omega (arith, len, there.1)) in
+    ap (values_at n) (sym listed) ∙ values_complete n (more value none) (fits, tt) (omega (arith, len)) (omega (arith, len, there.1)) in
     ap (reading_of octets) begins.message ∙ ap (λ o. whole n (option_and_then alone o)) read

@@ -67,7 +67,7 @@ value_at inner false tag content = Some (plain tag content)
 abbrev pub values_behind : (List ℕ → Option Trees) → Head → Option Trees
 values_behind inner head =
     option_and_then (λ part. option_map (more part) (inner (drop head.len head.rest)))
-        (value_at inner head.constructed head.tag (take head.len head.rest))
+    (value_at inner head.constructed head.tag (take head.len head.rest))
 
 abbrev pub values_with : (List ℕ → Option Trees) → List ℕ → Option Trees
 values_with inner [] = Some none

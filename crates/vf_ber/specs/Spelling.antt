@@ -35,4 +35,3 @@ abbrev mutual
   pub spells : Trees → List ℕ
   spells none = []
   spells (more part parts) = spell part ++ spells parts
-

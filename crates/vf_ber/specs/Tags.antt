@@ -17,4 +17,3 @@ abbrev mutual
   pub AreTrees : Trees → Type 0
   AreTrees none = Unit {0}
   AreTrees (more part parts) = IsTree part × AreTrees parts
-

@@ -17,7 +17,6 @@ mutual
     none : Trees
     more : Tree → Trees → Trees
 
-
 abbrev mutual
   -- the outermost value has depth 1
   pub depth : Tree → ℕ
@@ -27,7 +26,6 @@ abbrev mutual
   pub depth_in : Trees → ℕ
   depth_in none = 0
   depth_in (more part parts) = max (depth part) (depth_in parts)
-
 
 abbrev mutual
   -- how many values and ends of lists there are

@@ -15,3 +15,6 @@ pub use reading::read;
 pub use tag::Tag;
 pub use value::{Value, Values};
 pub use writing::write;
+
+#[cfg(test)]
+mod tests;

@@ -23,13 +23,14 @@ values_of-returns-in_default t c =
 pub values_of-returns-in_default-2 : goal.values_of-returns-in_default-2
 values_of-returns-in_default-2 t c =
     not_read c.loop-rest.values _ c.loop-rest.left c.loop-rest.rest.now _ _ _ (omega arith) (search rules) c.in-Some.ensures.head c.split_at.ensures.front
-        c.in_ok-value.ensures (ap (option_map tree_of) c.in_default-2.is) c.loop-rest.invariant.1
+    c.in_ok-value.ensures (ap (option_map tree_of) c.in_default-2.is) c.loop-rest.invariant.1
 
 pub values_of-loop-rest-preserved : goal.values_of-loop-rest-preserved
-values_of-loop-rest-preserved t c =
-    (omega arith,
-    next c.loop-rest.values _ _ c.loop-rest.left c.loop-rest.rest.now _ _ _ _ _ (omega arith) (search rules) c.in-Some.ensures.head c.split_at.ensures.front c.split_at.ensures.back
-        c.in_ok-value.ensures (ap (option_map tree_of) c.in-Some-2.is) c.in_ok-push.ensures.ok c.loop-rest.invariant.1)
+values_of-loop-rest-preserved t c = (
+  omega arith,
+  next c.loop-rest.values _ _ c.loop-rest.left c.loop-rest.rest.now _ _ _ _ _ (omega arith) (search rules) c.in-Some.ensures.head c.split_at.ensures.front c.split_at.ensures.back
+      c.in_ok-value.ensures (ap (option_map tree_of) c.in-Some-2.is) c.in_ok-push.ensures.ok c.loop-rest.invariant.1,
+)
 
 pub values_of-returns : goal.values_of-returns
 values_of-returns t c =

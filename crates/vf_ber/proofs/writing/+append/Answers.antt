@@ -21,7 +21,7 @@ on_err (Err e) P h = h
 keeps : (old added middle new : List ℕ) → middle ≡ old ++ added → Keeps middle new → Keeps old new
 keeps old added middle new e h =
     let split : new ≡ old ++ (added ++ drop (length middle) new) =
-        sym (take-append-drop (length middle) new) ∙ ap (λ front. front ++ drop (length middle) new) (h ∙ e) ∙ append_assoc old added (drop (length middle) new) in
+    sym (take-append-drop (length middle) new) ∙ ap (λ front. front ++ drop (length middle) new) (h ∙ e) ∙ append_assoc old added (drop (length middle) new) in
     ap (take (length old)) split ∙ take_at old (added ++ drop (length middle) new) (length old) refl
 
 pub append_parts-returns-in_err-append-clause-err :
@@ -35,7 +35,7 @@ append_parts-loop-part-preserved t c =
     let one = take_one c.args.parts.now c.loop-part.part-index c.part-item.result c.part-item.is c.loop-part-test.true in
     let last = more (tree_of c.part-item.result) none in
     let longer : spells (trees_in (take (c.loop-part.part-index + 1) c.args.parts.now)) ≡ spells (trees_in front) ++ spell (tree_of c.part-item.result) =
-        ap spells one ∙ spells-joined (trees_in front) last ∙ ap (λ rest. spells (trees_in front) ++ rest) (append-nil (spell (tree_of c.part-item.result))) in
+    ap spells one ∙ spells-joined (trees_in front) last ∙ ap (λ rest. spells (trees_in front) ++ rest) (append-nil (spell (tree_of c.part-item.result))) in
     c.in_ok-append.ensures.ok ∙ ap (λ o. o ++ spell (tree_of c.part-item.result)) c.loop-part.invariant
     ∙ append_assoc c.args.out.now.items (spells (trees_in front)) (spell (tree_of c.part-item.result))
     ∙ ap (λ rest. c.args.out.now.items ++ rest) (sym longer)
