@@ -1,9 +1,11 @@
 -- A reader of lines over a source (profile).
-use Rattle.std.specs.Prelude.{◌≡◌, ◌<◌, ℕ, ◌++◌, List, [], ◌∷◌, length, Bool, true, false, Option, Some, None, option_map, IfSome, Result, Ok, Err}
-use Rattle.vf_cli.specs.Lines.{Input, line_feed, IsInLine, says_from, ended, bad_at, piece_before}
+use Rattle.std.specs.Prelude.{◌≡◌, ◌<◌, ◌≤◌, ℕ, ◌++◌, List, [], ◌∷◌, length, Bool, true, false, Option, Some, None, option_map, IfSome, Result, Ok, Err}
+use Rattle.vf_cli.specs.Lines.{Input, line_feed, input_limit, IsInLine, says_from, ended, bad_at, piece_before}
 use Rattle.vf_cli.specs.declared.lines.NextLine.{NextLine}
 use Rattle.vf_cli.specs.declared.lines.NextLine.TheVariants.{Piece, Bad, End}
 use Rattle.vf_cli.specs.declared.lines.LineError.{LineError}
+use Rattle.vf_cli.specs.declared.lines.Found.{Found}
+use Rattle.vf_cli.specs.declared.lines.Found.TheVariants.{Whole, Long, Rest}
 
 -- octets in front of those that a source has left, where it tells them
 abbrev pub with_front : List ℕ → Option (List ℕ) → Option (List ℕ)
@@ -43,3 +45,19 @@ MovesLine old new old_line new_line feed =
 abbrev pub IsFilled : List ℕ → Option (List ℕ) → Bool → Type 0
 IsFilled block left true = 0 < length block
 IsFilled block left false = (block ≡ []) × IfSome left (λ octets. octets ≡ [])
+
+-- What a search left in front: a line feed, too long a line, or the end.
+abbrev pub Finds : ℕ → List ℕ → List ℕ → Option (List ℕ) → Found → Type 0
+Finds room line block left Whole = FromFeed true block
+Finds room line block left Long = room < length line
+Finds room line block left Rest = (block ≡ []) × IfSome left (λ octets. octets ≡ [])
+
+abbrev pub IsPiece : Option (List ℕ) → List ℕ → Bool → Type 0
+IsPiece spelled piece true = spelled ≡ Some piece
+IsPiece spelled piece false = spelled ≡ None
+
+-- A piece takes an octet at least, within the limit. Else the count stays.
+abbrev pub Progresses : ℕ → ℕ → NextLine → Type 0
+Progresses old new Piece = (old < new) × (new ≤ input_limit)
+Progresses old new (Bad number) = new ≡ old
+Progresses old new End = new ≡ old

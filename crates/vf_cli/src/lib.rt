@@ -6,4 +6,4 @@ mod hex;
 mod lines;
 
 pub use hex::{decode, encode};
-pub use lines::{LineError, NextLine};
+pub use lines::{LineError, LineReader, NextLine};
