@@ -1,10 +1,10 @@
 -- What an input says, line by line.
-use Rattle.std.proofs.Common.{◌≡◌, ◌≢◌, ℕ, suc, ◌+◌, ◌<◌, ◌≤◌, List, [], ◌∷◌, ◌++◌, Bool, true, false, length, refl, sym, ap, ◌∙◌, arith, subst, length-append}
-use Rattle.std.specs.Prelude.{nat_le, nat_eq, if◌then◌else◌, Option, Some, None}
+use Rattle.std.proofs.Common.{◌≡◌, ◌≢◌, ℕ, suc, ◌+◌, ◌<◌, ◌≤◌, List, [], ◌∷◌, ◌++◌, length, refl, sym, ap, ◌∙◌, arith, subst}
+use Rattle.std.specs.Prelude.{if◌then◌else◌, Some, None}
 use Rattle.std.proofs.lemmas.Bool.{ne_eqb, lt-leb}
 use Rattle.std.proofs.lemmas.List.Elements.{All-head, All-tail}
 use Rattle.vf_cli.specs.Hex.{octets_of}
-use Rattle.vf_cli.specs.Lines.{line_feed, input_limit, Cut, octet_before, cut, IsInLine, Input, ended, bad_at, piece_before, piece_of, line_before, lines_say, says_from}
+use Rattle.vf_cli.specs.Lines.{line_feed, input_limit, Cut, octet_before, cut, IsInLine, ended, bad_at, piece_before, piece_of, line_before, lines_say, says_from}
 
 head_in_line : (octet : ℕ) (octets : List ℕ) → IsInLine (octet ∷ octets) → octet ≢ line_feed
 head_in_line octet octets in_line = All-head (λ octet. octet ≢ line_feed) octet octets in_line
@@ -16,7 +16,7 @@ cut_step : (octet : ℕ) (octets : List ℕ) → octet ≢ line_feed →
     cut (octet ∷ octets) ≡ octet_before octet (cut octets).lines (cut octets).rest
 cut_step octet octets other =
     ap (λ feed. if feed then record { lines = [] ∷ (cut octets).lines; rest = (cut octets).rest }
-      else octet_before octet (cut octets).lines (cut octets).rest) (ne_eqb octet line_feed other)
+    else octet_before octet (cut octets).lines (cut octets).rest) (ne_eqb octet line_feed other)
 
 cut_feed : (line rest : List ℕ) → IsInLine line →
     cut (line ++ line_feed ∷ rest) ≡ record { lines = line ∷ (cut rest).lines; rest = (cut rest).rest }
@@ -54,7 +54,7 @@ first_within (octet ∷ front) rest in_line =
 
 says_line : (count number : ℕ) (line rest : List ℕ) → IsInLine line →
     says_from count number (line ++ line_feed ∷ rest)
-      ≡ line_before (piece_of (count + length line + 1) line) number (says_from (count + length line + 1) (number + 1) rest)
+    ≡ line_before (piece_of (count + length line + 1) line) number (says_from (count + length line + 1) (number + 1) rest)
 says_line count number line rest in_line =
     ap (λ (c : Cut). lines_say count number c.lines c.rest) (cut_feed line rest in_line)
 
@@ -94,7 +94,7 @@ unfolding first_length
 first_is_long count number room [] rest limit long = rest_is_bad count number rest (omega arith)
 first_is_long count number room (line ∷ lines) rest limit long =
     ap (λ p. line_before p number (lines_say (count + length line + 1) (number + 1) lines rest))
-      (long_is_bad (count + length line + 1) line (omega arith))
+    (long_is_bad (count + length line + 1) line (omega arith))
 
 -- the line that begins with these octets ends behind the limit, or not at all
 pub says_long : (count number room : ℕ) (front rest : List ℕ) → IsInLine front →

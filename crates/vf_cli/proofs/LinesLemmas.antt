@@ -1,5 +1,5 @@
 -- Lines as they come out of blocks.
-use Rattle.std.proofs.Common.{◌≡◌, ℕ, suc, ◌+◌, ◌-◌, ◌<◌, ◌≤◌, List, [], ◌∷◌, ◌++◌, Bool, true, false, length, drop, take, get_or, refl, sym, ap, ◌∙◌, arith, subst, ◌⊎◌, inl, inr}
+use Rattle.std.proofs.Common.{◌≡◌, ℕ, suc, ◌+◌, ◌-◌, ◌<◌, ◌≤◌, List, ◌∷◌, ◌++◌, Bool, length, drop, take, get_or, sym, ap, ◌∙◌, arith, subst, inl, inr}
 use Rattle.std.specs.Prelude.{nat_lt}
 use Rattle.std.proofs.lemmas.List.{drop_more, drop_all, drop-take, drop-drop, take-append-drop}
 use Rattle.std.proofs.lemmas.Bool.Decides.{leb_tells}
@@ -11,9 +11,9 @@ pub from_feed : (octets : List ℕ) (count : ℕ) → (count < length octets →
 from_feed octets count at_feed =
     let P : Bool → Type 0 = λ feed. FromFeed feed (drop count octets) in
     elim (leb_tells (suc count) (length octets)) [
-      inl yes' ↦ subst P (sym yes'.0)
-        (drop (count + 1) octets, drop_more octets count 0 yes'.1 ∙ ap (λ (first : ℕ). first ∷ drop (count + 1) octets) (at_feed yes'.1))
-    | inr no' ↦ subst P (sym no'.0) (drop_all count octets (omega arith))
+      | inl yes' ↦ subst P (sym yes'.0)
+          (drop (count + 1) octets, drop_more octets count 0 yes'.1 ∙ ap (λ (first : ℕ). first ∷ drop (count + 1) octets) (at_feed yes'.1))
+      | inr no' ↦ subst P (sym no'.0) (drop_all count octets (omega arith))
     ]
 
 -- the octets from a place to an end, without so many at their front
@@ -22,7 +22,7 @@ pub drop_front : (items : List ℕ) (place end count : ℕ) → place ≤ end �
 drop_front items place end count within =
     let size : place + (end - place) ≡ end = omega arith in
     let slice : drop place (take end items) ≡ take (end - place) (drop place items) =
-      ap (λ (n : ℕ). drop place (take n items)) (sym size) ∙ drop-take place (end - place) items in
+    ap (λ (n : ℕ). drop place (take n items)) (sym size) ∙ drop-take place (end - place) items in
     sym (drop-drop count place (take end items)) ∙ ap (drop count) slice
 
 pub moves_line : (items old old_line new_line : List ℕ) (place end count : ℕ) → place ≤ end →
@@ -35,11 +35,13 @@ moves_line items old old_line new_line place end count within is_old in_line at_
     let octets : List ℕ = take (end - place) (drop place items) in
     let rest : drop (place + count) (take end items) ≡ drop count octets = drop_front items place end count within in
     let same : drop place (take end items) ≡ octets = ap (λ (n : ℕ). drop n (take end items)) (omega arith) ∙ drop_front items place end 0 within in
-    let P : List ℕ → Type 0 = λ rest. FromFeed (nat_lt count (length octets)) rest in
-    (take count octets, in_line,
+    let P : List ℕ → Type 0 = λ rest. FromFeed (nat_lt count (length octets)) rest in (
+      take count octets,
+      in_line,
       sym is_old ∙ (same ∙ (sym (take-append-drop count octets) ∙ ap (λ (xs : List ℕ). take count octets ++ xs) (sym rest))),
       appended,
-      subst P (sym rest) (from_feed octets count at_feed))
+      subst P (sym rest) (from_feed octets count at_feed),
+    )
 
 -- the same where the octets are seen through a slice
 pub moves_line_of : (items shown old old_line new_line : List ℕ) (place end count : ℕ) → shown ≡ items → place ≤ end →
@@ -50,7 +52,7 @@ pub moves_line_of : (items shown old old_line new_line : List ℕ) (place end co
     MovesLine old (drop (place + count) (take end items)) old_line new_line (nat_lt count (length (take (end - place) (drop place shown))))
 moves_line_of items shown old old_line new_line place end count same within is_old in_line at_feed appended =
     let P : List ℕ → Type 0 = λ xs.
-      MovesLine old (drop (place + count) (take end xs)) old_line new_line (nat_lt count (length (take (end - place) (drop place shown)))) in
+    MovesLine old (drop (place + count) (take end xs)) old_line new_line (nat_lt count (length (take (end - place) (drop place shown)))) in
     subst P same
-      (moves_line shown old old_line new_line place end count within
-        (ap (λ (xs : List ℕ). drop place (take end xs)) same ∙ is_old) in_line at_feed appended)
+    (moves_line shown old old_line new_line place end count within
+    (ap (λ (xs : List ℕ). drop place (take end xs)) same ∙ is_old) in_line at_feed appended)

@@ -106,7 +106,11 @@ impl LineReader {
 
     /// What comes next; a piece is put in place of what `piece` has. Where no piece is answered, the next call
     /// answers what this one did, or could have.
-    pub fn next<S: Source>(&mut self, input: &mut S, piece: &mut Vec<u8>) -> Result<NextLine, LineError>
+    pub fn next<S: Source>(
+        &mut self,
+        input: &mut S,
+        piece: &mut Vec<u8>,
+    ) -> Result<NextLine, LineError>
         ensures answers { Answers (will_say self.old (S.left input.old)) (will_say self.new (S.left input.new)) piece.new.items result }
         ensures progresses { IfOk result (Progresses self.old.count self.new.count) }
         ensures falls { NeverFalls (S.fault_count input.old) (S.fault_count input.new) }
@@ -116,7 +120,11 @@ impl LineReader {
         match find_line(&mut self.block, &mut self.line, room, input)? {
             Found::Whole => {}
             Found::Long => return Ok(NextLine::Bad(self.number)),
-            Found::Rest => return Ok(if self.line.is_empty() { NextLine::End } else { NextLine::Bad(self.number) }),
+            Found::Rest => return Ok(if self.line.is_empty() {
+                NextLine::End
+            } else {
+                NextLine::Bad(self.number)
+            }),
         }
         let count = self.count + self.line.len() + 1;
         if !take_piece(self.line.as_slice(), count, piece)? {
@@ -141,7 +149,12 @@ enum Found {
 }
 
 /// Moves the octets before the next line feed to a line that has room for so many, and reads on where none is there.
-fn find_line<S: Source>(block: &mut Block, line: &mut Vec<u8>, room: usize, input: &mut S) -> Result<Found, LineError>
+fn find_line<S: Source>(
+    block: &mut Block,
+    line: &mut Vec<u8>,
+    room: usize,
+    input: &mut S,
+) -> Result<Found, LineError>
     requires { IsInLine line.old.items }
     ensures octets { with_front (line.new.items ++ block.new) (S.left input.new) ≡ with_front (line.old.items ++ block.old) (S.left input.old) }
     ensures within { IsInLine line.new.items }
