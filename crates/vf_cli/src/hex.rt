@@ -68,3 +68,39 @@ fn half(digit: u8) -> Option<u8>
         None
     }
 }
+
+#[cfg(test)]
+mod tests {
+    use super::*;
+
+    #[test]
+    fn digits_of_octets(rt: HostRuntime) {
+        for (octets, text) in [
+            (&b""[..], "F2"),
+            (&b"\x00"[..], "F200"),
+            (&b"\x1F\xC7\x9A"[..], "F21FC79A"),
+        ] {
+            let mut digits = Vec::new(rt.alloc());
+            assert!(rt; encode(b"\xF2", &mut digits).is_ok());
+            assert!(rt; encode(octets, &mut digits).is_ok());
+            assert!(rt; digits.as_slice() == text.as_bytes(), "{text}");
+        }
+    }
+
+    #[test]
+    fn octets_of_digits(rt: HostRuntime) {
+        for (text, octets) in [
+            ("", Some(&b""[..])),
+            ("09AF", Some(&b"\x09\xAF"[..])),
+            ("0", None),
+            ("0aFF", None),
+            ("FG", None),
+            ("0 0A", None),
+        ] {
+            let mut read = Vec::new(rt.alloc());
+            let spells = decode(text.as_bytes(), &mut read);
+            assert!(rt; spells == Ok(octets.is_some()), "{text}");
+            assert!(rt; read.as_slice() == octets.unwrap_or(b""), "{text}");
+        }
+    }
+}

@@ -2,8 +2,12 @@
 #![tactic(auto)]
 
 mod block;
+mod command;
 mod hex;
 mod lines;
+mod words;
 
+pub use command::{Command, Wanted};
 pub use hex::{decode, encode};
 pub use lines::{LineError, LineReader, NextLine};
+pub use words::{WordsError, parse, wanted};

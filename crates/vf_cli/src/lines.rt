@@ -185,3 +185,165 @@ fn take_piece(line: &[u8], count: usize, piece: &mut Vec<u8>) -> Result<bool, No
     }
     decode(line, piece)
 }
+
+#[cfg(test)]
+mod tests {
+    ghost use Rattle.std.specs.Prelude.{◌<◌, None};
+
+    use super::*;
+    use vf_base::SliceSource;
+
+    /// How many pieces come, their octets, and what comes behind them.
+    #[derive(Drop)]
+    struct Seen {
+        pieces: usize,
+        octets: Vec<u8>,
+        ending: Result<NextLine, LineError>,
+    }
+
+    fn read_on<S: Source>(
+        alloc: Global,
+        reader: &mut LineReader,
+        input: &mut S,
+    ) -> Result<Seen, LineError> {
+        let mut octets = Vec::new(alloc);
+        let mut piece = Vec::new(alloc);
+        for pieces in 0..usize::MAX {
+            let ending = reader.next(input, &mut piece);
+            if ending != Ok(NextLine::Piece) {
+                return Ok(Seen {
+                    pieces,
+                    octets,
+                    ending,
+                });
+            }
+            if octets.extend_from_slice(piece.as_slice()).is_err() {
+                return Err(LineError::NoMemory);
+            }
+        }
+        Err(LineError::Failed)
+    }
+
+    fn seen(alloc: Global, text: &[u8], room: usize) -> Result<Seen, LineError>
+        requires { 0 < room }
+    {
+        let mut input = SliceSource::new(text, Vec::new(alloc));
+        let mut reader = LineReader::with_room(alloc, room)?;
+        read_on(alloc, &mut reader, &mut input)
+    }
+
+    #[test]
+    fn lines_in_blocks(rt: HostRuntime) -> Result<(), LineError> {
+        for (text, pieces, octets, ending) in [
+            ("", 0, &b""[..], NextLine::End),
+            (
+                "A0038001\nA200\n",
+                2,
+                &b"\xA0\x03\x80\x01\xA2\x00"[..],
+                NextLine::End,
+            ),
+            (
+                "A0038001\na2\nA2\n",
+                1,
+                &b"\xA0\x03\x80\x01"[..],
+                NextLine::Bad(2),
+            ),
+            ("A0\nA2\nA6", 2, &b"\xA0\xA2"[..], NextLine::Bad(3)),
+            ("\n", 0, &b""[..], NextLine::Bad(1)),
+            ("A0\n\nA0\n", 1, &b"\xA0"[..], NextLine::Bad(2)),
+            ("A00\n", 0, &b""[..], NextLine::Bad(1)),
+            ("A0\r\n", 0, &b""[..], NextLine::Bad(1)),
+            ("A0 A0\n", 0, &b""[..], NextLine::Bad(1)),
+        ] {
+            for room in [1, 2, 3, 64] {
+                let seen = seen(rt.alloc(), text.as_bytes(), room)?;
+                assert!(rt;
+                    seen.pieces == pieces && seen.ending == Ok(ending),
+                    "{text} {room}"
+                );
+                assert!(rt; seen.octets.as_slice() == octets, "{text} {room}");
+            }
+        }
+        Ok(())
+    }
+
+    #[test]
+    fn a_failed_read_is_answered_and_nothing_is_lost(rt: HostRuntime) -> Result<(), LineError> {
+        let text = b"A003\nA200\nA6\n";
+        for failing in 1..6 {
+            let mut calls = Vec::new(rt.alloc());
+            assert!(rt; calls.push(failing).is_ok());
+            let mut input = SliceSource::new(text, calls);
+            let mut reader = LineReader::with_room(rt.alloc(), 4)?;
+            let before = read_on(rt.alloc(), &mut reader, &mut input)?;
+            assert!(rt;
+                before.ending == Err(LineError::Failed) && input.faults() == 1,
+                "{failing}"
+            );
+            let behind = read_on(rt.alloc(), &mut reader, &mut input)?;
+            assert!(rt; behind.ending == Ok(NextLine::End), "{failing}");
+            assert!(rt; before.octets.len() + behind.octets.len() == 5, "{failing}");
+        }
+        Ok(())
+    }
+
+    /// So many octets, two of them line feeds and all others digits.
+    #[derive(Drop)]
+    struct TwoLines {
+        place: usize,
+        first: usize,
+        second: usize,
+        end: usize,
+        ghost in_order: { place ≤ end },
+    }
+
+    impl Source for TwoLines {
+        ghost left = { λ source. None };
+
+        ghost fault_count = { λ source. 0 };
+
+        fn read(&mut self, into: &mut [u8]) -> Result<usize, Failed> {
+            let count = into.len().min(self.end - self.place);
+            for place in 0..count {
+                let at = self.place + place;
+                into[place] = if at == self.first || at == self.second {
+                    b'\n'
+                } else {
+                    b'A'
+                };
+            }
+            self.place += count;
+            Ok(count)
+        }
+
+        fn faults(&self) -> u64 {
+            0
+        }
+    }
+
+    #[test]
+    fn lines_up_to_the_limit(rt: HostRuntime) -> Result<(), LineError> {
+        let half = INPUT_LIMIT / 2;
+        for (first, second, pieces, ending) in [
+            (half - 2, INPUT_LIMIT - 1, 2, NextLine::End),
+            (half - 2, INPUT_LIMIT, 1, NextLine::Bad(2)),
+            (half - 1, INPUT_LIMIT + 1, 0, NextLine::Bad(1)),
+            (half, INPUT_LIMIT + 1, 1, NextLine::Bad(2)),
+            (2 * INPUT_LIMIT, 2 * INPUT_LIMIT, 0, NextLine::Bad(1)),
+        ] {
+            let mut input = TwoLines {
+                place: 0,
+                first,
+                second,
+                end: second + 1,
+            };
+            let mut reader = LineReader::new(rt.alloc())?;
+            let seen = read_on(rt.alloc(), &mut reader, &mut input)?;
+            assert!(rt;
+                seen.pieces == pieces && seen.ending == Ok(ending),
+                "{first} {second}"
+            );
+        }
+        Ok(())
+    }
+}
