@@ -1,5 +1,5 @@
 //! A reader of lines, which spell pieces in hexadecimal, over a source that is read in blocks.
-ghost use Rattle.std.specs.Prelude.{◌≡◌, ◌+◌, ◌<◌, ◌≤◌, ◌++◌, [], length, IfOk, IsErrOf};
+ghost use Rattle.std.specs.Prelude.{◌≡◌, ◌+◌, ◌<◌, ◌≤◌, ◌++◌, [], length, IfOk, IsErrOf, None};
 ghost use Rattle.vf_base.specs.Faults.{HasRisen, NeverFalls};
 ghost use Rattle.vf_cli.specs.Lines.{IsInLine, input_limit, piece_of, says_from};
 ghost use Rattle.vf_cli.specs.Reader.{with_front, will_say, Answers, Progresses, Finds, IsPiece};
@@ -188,8 +188,6 @@ fn take_piece(line: &[u8], count: usize, piece: &mut Vec<u8>) -> Result<bool, No
 
 #[cfg(test)]
 mod tests {
-    ghost use Rattle.std.specs.Prelude.{◌<◌, None};
-
     use super::*;
     use vf_base::SliceSource;
 
@@ -224,7 +222,7 @@ mod tests {
         Err(LineError::Failed)
     }
 
-    fn seen(alloc: Global, text: &[u8], room: usize) -> Result<Seen, LineError>
+    fn read_text(alloc: Global, text: &[u8], room: usize) -> Result<Seen, LineError>
         requires { 0 < room }
     {
         let mut input = SliceSource::new(text, Vec::new(alloc));
@@ -256,7 +254,7 @@ mod tests {
             ("A0 A0\n", 0, &b""[..], NextLine::Bad(1)),
         ] {
             for room in [1, 2, 3, 64] {
-                let seen = seen(rt.alloc(), text.as_bytes(), room)?;
+                let seen = read_text(rt.alloc(), text.as_bytes(), room)?;
                 assert!(rt;
                     seen.pieces == pieces && seen.ending == Ok(ending),
                     "{text} {room}"
@@ -326,9 +324,7 @@ mod tests {
         let half = INPUT_LIMIT / 2;
         for (first, second, pieces, ending) in [
             (half - 2, INPUT_LIMIT - 1, 2, NextLine::End),
-            (half - 2, INPUT_LIMIT, 1, NextLine::Bad(2)),
-            (half - 1, INPUT_LIMIT + 1, 0, NextLine::Bad(1)),
-            (half, INPUT_LIMIT + 1, 1, NextLine::Bad(2)),
+            (half - 2, INPUT_LIMIT + 1, 1, NextLine::Bad(2)),
             (2 * INPUT_LIMIT, 2 * INPUT_LIMIT, 0, NextLine::Bad(1)),
         ] {
             let mut input = TwoLines {
