@@ -1,0 +1,7 @@
+use crate::Files;
+
+/// What a filestore keeps.
+#[derive(Drop)]
+pub struct Tables {
+    pub files: Files,
+}
