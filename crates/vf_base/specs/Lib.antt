@@ -1,4 +1,6 @@
+pub mod Calendar
 pub mod Faults
+pub mod Moment
 pub mod Name
 pub mod Oid
 pub mod Streams

@@ -25,7 +25,7 @@ pub use access::{Constraint, Context, FaduId};
 pub use action::{Action, Actions, Control, Controls};
 pub use contents::Contents;
 pub use diagnostic::Diagnostic;
-pub use duplicate::{copy_option, Duplicate};
+pub use duplicate::{Duplicate, copy_option};
 pub use element::Element;
 pub use errors::{BaseError, Failed, NoMemory};
 pub use lists::{DataUnit, Elements, Terms};
