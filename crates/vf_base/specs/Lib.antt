@@ -1,5 +1,6 @@
 pub mod Calendar
 pub mod Faults
+pub mod Memory
 pub mod Moment
 pub mod Name
 pub mod Oid

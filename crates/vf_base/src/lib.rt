@@ -14,6 +14,7 @@ mod moment;
 mod name;
 mod octets;
 mod oid;
+mod plan;
 mod sequence;
 mod sink;
 mod source;
