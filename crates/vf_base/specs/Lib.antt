@@ -1,5 +1,7 @@
 pub mod Calendar
+pub mod Dial
 pub mod Faults
+pub mod Links
 pub mod Memory
 pub mod Moment
 pub mod Name
