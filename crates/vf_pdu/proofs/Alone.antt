@@ -1,9 +1,9 @@
 -- Lists of a few values.
-use Rattle.std.proofs.Common.{◌≡◌, ℕ, ◌≤◌, List, [], ◌∷◌, length, refl, arith, get_or, ap, ◌∙◌}
-use Rattle.std.specs.Prelude.{Option, Some, None, slice_get}
+use Rattle.std.proofs.Common.{◌≡◌, ◌≤◌, List, [], ◌∷◌, length, refl, arith, get_or, ap, ◌∙◌}
+use Rattle.std.specs.Prelude.{Some, None, slice_get}
 use Rattle.std.specs.Option.{option_map}
 use Rattle.vf_ber.specs.declared.value.Value.{Value}
-use Rattle.vf_ber.specs.Tree.{Tree, Trees, alone}
+use Rattle.vf_ber.specs.Tree.{alone}
 use Rattle.vf_ber.specs.Views.{tree_of, trees_in}
 use Rattle.vf_pdu.specs.declared.pdu.Pdu.{Pdu}
 use Rattle.vf_pdu.specs.Meaning.{bare, two}

@@ -12,7 +12,7 @@ use Rattle.vf_pdu.specs.declared.pdu.Pdu.{Pdu}
 use Rattle.vf_pdu.specs.declared.pdu.Pdu.TheVariants.{InitializeRequest, TerminateRequest, SelectRequest, DeselectRequest, CreateRequest}
 use Rattle.vf_pdu.specs.Fields.{context}
 use Rattle.vf_pdu.specs.Value.{message, value}
-use Rattle.vf_pdu.specs.Meaning.{is_context, octets_at, parts_at, name_in, name_at, ftam_3, if_octets, contents_in, contents_at, initialize_request, bare, select_request, two, create_from, create_request, request_of, meaning, IsBuilt}
+use Rattle.vf_pdu.specs.Meaning.{is_context, octets_at, parts_at, name_in, name_at, ftam_3, if_octets, contents_in, contents_at, initialize_request, bare, select_request, two, create_from, create_request, request_of, IsBuilt}
 use Rattle.vf_pdu.specs.Laws.{MeaningIsValue}
 
 -- this request, and its value has this number and these fields

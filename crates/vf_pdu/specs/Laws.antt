@@ -1,5 +1,5 @@
 -- What a value means and the value of a message have to do with each other.
-use Rattle.std.specs.Prelude.{◌≡◌, Option, Some}
+use Rattle.std.specs.Prelude.{◌≡◌, Some}
 use Rattle.vf_ber.specs.Tree.{Tree}
 use Rattle.vf_pdu.specs.declared.pdu.Pdu.{Pdu}
 use Rattle.vf_pdu.specs.Value.{value}
