@@ -1,4 +1,4 @@
--- One transition of the abstract filestore: a party hears a message (ISO 8571-4; profile).
+-- One transition of the abstract filestore: a party takes a message (ISO 8571-4; profile).
 use Rattle.std.specs.Prelude.{ℕ, ◌+◌, List, [], ◌∷◌, Option, None, Some, is_none, if◌then◌else◌}
 use Rattle.vf_base.specs.declared.diagnostic.Diagnostic.{Diagnostic}
 use Rattle.vf_pdu.specs.declared.pdu.Pdu.{Pdu}
@@ -35,8 +35,8 @@ effects (CreateRequest name contents) = PutFile (record { name = name; contents 
 effects _ = []
 
 -- the party with the message in its trace
-abbrev pub hears : Message → StandingParty → StandingParty
-hears message party = record party { trace = message ∷ party.trace }
+abbrev pub with_message : Message → StandingParty → StandingParty
+with_message message party = record party { trace = message ∷ party.trace }
 
 abbrev pub entry_of : State → ℕ → Pdu → Entry
 entry_of state moment request = record {
@@ -62,7 +62,7 @@ leaves said = record { said = said; changes = []; party = None }
 abbrev pub turn_by : Option Refusal → State → StandingParty → ℕ → Pdu → Turn
 turn_by (Some (AbortOf number)) state party moment request = leaves (answers.Abort number 0 ∷ [])
 turn_by (Some (DiagnosticOf diagnostic)) state party moment request =
-    record { said = response (Some diagnostic) request; changes = []; party = Some (hears (messages.Pdu request) party) }
+    record { said = response (Some diagnostic) request; changes = []; party = Some (with_message (messages.Pdu request) party) }
 turn_by None state party moment request =
     record { said = response None request; changes = effects request; party = concludes state moment request party }
 

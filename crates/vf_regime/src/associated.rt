@@ -5,7 +5,7 @@ ghost use Rattle.vf_regime.specs.Refusal.{is_built};
 ghost use Rattle.vf_regime.specs.Represents.{IsAssociated, IsSelected, IsStep};
 ghost use Rattle.vf_regime.specs.Transition.{effects, response};
 
-use crate::step::{refused, told};
+use crate::step::{one_said, refusal};
 use crate::{Change, Changes, File, Said, Selected, Step, StepError, Tables};
 use std::alloc::Global;
 use vf_base::{Contents, Moment, Name, NoMemory};
@@ -44,9 +44,9 @@ impl Associated {
             unreachable!()
         };
         if !tables.files.contains(&name) {
-            return Err((self, refused(NAME_UNKNOWN)));
+            return Err((self, refusal(NAME_UNKNOWN)));
         }
-        let Ok(said) = told(alloc, Said::Pdu(Pdu::SelectResponse { diagnostic: None })) else {
+        let Ok(said) = one_said(alloc, Said::Pdu(Pdu::SelectResponse { diagnostic: None })) else {
             return Err((self, StepError::NoMemory));
         };
         let state = Selected {
@@ -80,7 +80,7 @@ impl Associated {
             unreachable!()
         };
         if tables.files.contains(&name) {
-            return Err((self, refused(NAME_EXISTS)));
+            return Err((self, refusal(NAME_EXISTS)));
         }
         let Ok(made) = new_file(alloc, name, contents) else {
             return Err((self, StepError::NoMemory));
@@ -111,7 +111,7 @@ fn new_file(alloc: Global, name: Name, contents: Contents) -> Result<Creation, N
     ensures changes { IfOk result (λ made. made.changes ≡ effects (Pdu.CreateRequest name contents)) }
 {
     let kept = name.copy(alloc)?;
-    let said = told(alloc, Said::Pdu(Pdu::CreateResponse { diagnostic: None }))?;
+    let said = one_said(alloc, Said::Pdu(Pdu::CreateResponse { diagnostic: None }))?;
     let file = File {
         name,
         contents,

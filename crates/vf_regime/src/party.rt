@@ -2,10 +2,10 @@ ghost use Rattle.std.specs.Prelude.{◌≡◌};
 ghost use Rattle.vf_regime.specs.declared.message.Message.TheVariants as messages;
 ghost use Rattle.vf_regime.specs.History.{stage};
 ghost use Rattle.vf_regime.specs.State.{StandingParty, arrived};
-ghost use Rattle.vf_regime.specs.Represents.{IsTransition, Represents, stage_of};
+ghost use Rattle.vf_regime.specs.Represents.{IsTransition, Represents, link_of as link_number, stage_of};
 
 use crate::built::is_built;
-use crate::turns::{self, Setting};
+use crate::outcomes::{self, Setting};
 use crate::{Associated, Changes, Idle, Message, Said, Selected, Stage, Tables};
 use std::alloc::Global;
 use vf_base::{Moment, NoMemory};
@@ -52,7 +52,9 @@ impl Party {
     }
 
     /// The number of the party's link.
-    pub(crate) fn link(&self) -> u32 {
+    pub(crate) fn link(&self) -> u32
+        ensures { result ≡ link_number self.now }
+    {
         match self {
             Party::Idle(idle) => idle.link,
             Party::Associated(associated) => associated.link,
@@ -82,7 +84,7 @@ impl Party {
         };
         match message {
             Message::Pdu(request) => take_request(self, alloc, request, setting, tables),
-            Message::Break => Ok(turns::gone(alloc, self, Vec::new(alloc))),
+            Message::Break => Ok(outcomes::end_party(alloc, self, Vec::new(alloc))),
         }
     }
 }
@@ -97,13 +99,13 @@ fn take_request(
     ensures { IsTransition tables.now party setting.moment (messages.Pdu request) result }
 {
     if !is_built(party.stage(), &request) {
-        return turns::aborted(alloc, party, NOT_BUILT);
+        return outcomes::abort_party(alloc, party, NOT_BUILT);
     }
     match party {
-        Party::Idle(idle) => turns::initialize(idle, alloc, request, setting, tables),
-        Party::Associated(associated) => turns::associated(
+        Party::Idle(idle) => outcomes::initialize(idle, alloc, request, setting, tables),
+        Party::Associated(associated) => outcomes::associated(
             associated, alloc, request, setting, tables,
         ),
-        Party::Selected(selected) => turns::deselect(selected, alloc, request, setting, tables),
+        Party::Selected(selected) => outcomes::deselect(selected, alloc, request, setting, tables),
     }
 }
