@@ -14,7 +14,7 @@ use Rattle.vf_regime.specs.History.{Entry, agreed}
 use Rattle.vf_regime.specs.Refusal.{Refusal, AbortOf, DiagnosticOf, refusal}
 use Rattle.vf_regime.specs.State.{State, StandingParty, with_party}
 
--- what comes of a message: what its party is told, what changes, and the party after it, none where it is gone
+-- what comes of a message: what is said, what changes, and the party after it, none where it is gone
 pub record Turn : Type 0 where
   pub said : List Said
   pub changes : List Change
@@ -55,7 +55,7 @@ abbrev pub concludes : State → ℕ → Pdu → StandingParty → Option Standi
 concludes state moment TerminateRequest party = None
 concludes state moment request party = Some (with_entry (entry_of state moment request) party)
 
--- the turn of a party that is told this and is gone
+-- the turn in which this is said and the party is gone
 abbrev pub leaves : List Said → Turn
 leaves said = record { said = said; changes = []; party = None }
 

@@ -19,12 +19,15 @@ pub struct Associated {
     pub(crate) units: u16,
 }
 
+/// The diagnostic of a name that no file has.
 const NAME_UNKNOWN: u16 = 11;
 
+/// The diagnostic of a new file's name that a file has.
 const NAME_EXISTS: u16 = 12;
 
 impl Associated {
-    /// Takes a SelectRequest that no abort refuses; refused with 11 where no file has the name.
+    /// Takes a SelectRequest that no abort refuses; refused with 11 exactly where no file has the name. The state
+    /// is given back as it was with the diagnostic, or without memory.
     pub fn select(
         self,
         alloc: Global,
@@ -60,7 +63,8 @@ impl Associated {
         })
     }
 
-    /// Takes a CreateRequest that no abort refuses; refused with 12 where a file has the name.
+    /// Takes a CreateRequest that no abort refuses; refused with 12 exactly where a file has the name. The state
+    /// is given back as it was with the diagnostic, or without memory.
     pub fn create(
         self,
         alloc: Global,

@@ -28,6 +28,7 @@ impl Model for Files {
 }
 
 impl Files {
+    /// No files; the allocator is kept for those that are put.
     pub fn new(alloc: Global) -> Files
         ensures { result ≡ [] }
     {
@@ -42,7 +43,7 @@ impl Files {
         self.by_name.len()
     }
 
-    /// The file of this name.
+    /// The file of this name; `None` exactly where there is none.
     pub fn named(&self, name: &Name) -> Option<&File>
         ensures { option_copied result ≡ file_named name.now self.now }
     {
@@ -56,7 +57,7 @@ impl Files {
         self.named(name).is_some()
     }
 
-    /// Puts the file into the place of the one of its name, or behind all others.
+    /// Puts the file into the place of the one of its name, or behind all others. Without memory nothing changes.
     pub fn put(&mut self, alloc: Global, file: File) -> Result<(), NoMemory>
         ensures ok { OnOk result (self.new ≡ with_file file self.old) }
         ensures err { OnErr result (self.new ≡ self.old) }

@@ -19,7 +19,7 @@ pub struct Idle {
 const OFFERED: u16 = 15;
 
 impl Idle {
-    /// Takes an InitializeRequest that no abort refuses.
+    /// Takes an InitializeRequest that no abort refuses. Without memory the state is given back as it was.
     pub fn initialize(
         self,
         alloc: Global,

@@ -14,7 +14,7 @@ use std::alloc::Global;
 use vf_base::{Diagnostic, Moment, NoMemory};
 use vf_pdu::Pdu;
 
-/// When a message is heard, and what the layers below say of it.
+/// When a message comes, and what the session says of it.
 #[derive(Clone, Copy)]
 pub(crate) struct Setting {
     pub(crate) moment: Moment,

@@ -18,7 +18,7 @@ pub struct Selected {
 }
 
 impl Selected {
-    /// Takes a DeselectRequest that no abort refuses.
+    /// Takes a DeselectRequest that no abort refuses. Without memory the state is given back as it was.
     pub fn deselect(
         self,
         alloc: Global,
