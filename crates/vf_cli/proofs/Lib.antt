@@ -1,3 +1,11 @@
+mod TopLemmas
+mod LineLemmas
+mod PrintedLemmas
+mod TakenLemmas
+mod ContinuesLemmas
+mod ReceivedLemmas
+mod ReadingLemmas
+mod TurnLemmas
 pub mod HexLemmas
 pub mod LinesLemmas
 pub mod InputLemmas

@@ -3,13 +3,18 @@
 
 mod block;
 mod command;
+mod conversation;
+mod dialogue;
 mod hex;
 mod lines;
+mod message;
 mod printed;
+mod top;
 mod words;
 
 pub use command::{Command, Wanted};
 pub use hex::{decode, encode};
 pub use lines::{LineError, LineReader, NextLine};
 pub use printed::{append_bad_line, append_hex_line, usage_text};
+pub use top::ftam;
 pub use words::{WordsError, parse, wanted};

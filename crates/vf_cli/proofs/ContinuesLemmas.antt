@@ -1,0 +1,141 @@
+-- How what is still printed goes on, message by message.
+use Rattle.std.proofs.Common.{◌≡◌, ℕ, Bool, true, false, ◌||◌, List, [], ◌∷◌, ◌++◌, Option, None, Some, refl, ap, sym, ◌∙◌, append_assoc, append-nil, drop, nat_eq, option_to_list}
+use Rattle.std.specs.Prelude.{if◌then◌else◌}
+use Rattle.std.specs.List.{flat_map, list_any}
+use Rattle.std.proofs.lemmas.List.Folds.{list_any-append}
+use Rattle.std.proofs.lemmas.Grind.{flat_map-append}
+use Rattle.vf_ber.specs.Reading.{Read, Short, reading}
+use Rattle.vf_ber.specs.Tree.{Tree}
+use Rattle.vf_pdu.specs.Meaning.{meaning}
+use Rattle.vf_pdu.specs.declared.pdu.Pdu.{Pdu}
+use Rattle.vf_regime.specs.declared.message.Message.TheVariants as messages
+use Rattle.vf_regime.specs.declared.message.Said.{Said}
+use Rattle.vf_regime.specs.declared.message.Said.TheVariants as answers
+use Rattle.vf_regime.specs.Refusal.{not_built}
+use Rattle.vf_regime.specs.State.{State, StandingParty, party_of, with_party}
+use Rattle.vf_regime.specs.Transition.{Turn, after_turn, transition}
+use Rattle.vf_cli.specs.Conversation.{Aborts, Continues, IsQuiet, behind}
+use Rattle.vf_cli.specs.Dialogue.{Fault, Heard, Request, answer, answer_by, dialogue_from, heard, heard_first, is_abort, joined, link, behind_replies, message_of, prints_after, reply, said_to, turn_to}
+use Rattle.vf_cli.specs.Printed.{Printed}
+use Rattle.vf_cli.proofs.ReceivedLemmas.{heard-read, heard_front}
+
+-- a link where no party stands is told nothing
+pub said_to-gone : (state : State) (things : List Heard) → state.parties ≡ [] → said_to state things ≡ []
+said_to-gone state [] gone = refl
+said_to-gone state (thing ∷ things) gone =
+    let nobody : party_of link state.parties ≡ None = ap (party_of link) gone in
+    let answered : answer state thing ≡ record { said = []; state = state } = ap (answer_by state thing) nobody in
+    (λ i. (answered i).said ++ said_to (answered i).state things) ∙ said_to-gone state things gone
+
+-- a party that stands is told its turn, and what is said in the state after it
+pub said_to-one : (state : State) (party : StandingParty) (thing : Heard) (things : List Heard) → state.parties ≡ party ∷ [] → party.link ≡ link
+    → said_to state (thing ∷ things) ≡ (turn_to state party thing).said ++ said_to (after_turn state link (turn_to state party thing)) things
+said_to-one state party thing things one here =
+    let found : party_of link state.parties ≡ Some party =
+    ap (party_of link) one ∙ ap (λ (n : ℕ). if nat_eq n link then Some party else None) here in
+    ap (λ (o : Option StandingParty). (answer_by state thing o).said ++ said_to (answer_by state thing o).state things) found
+
+-- the parties after the turn of the one party
+pub after_one : (state : State) (party : StandingParty) (turn : Turn) → state.parties ≡ party ∷ [] → party.link ≡ link
+    → (after_turn state link turn).parties ≡ option_to_list turn.party ++ []
+after_one state party turn one here =
+    ap (with_party link turn.party) one
+    ∙ ap (λ (n : ℕ). if nat_eq n link then option_to_list turn.party ++ [] else party ∷ []) here
+
+abbrev pub last : Bool → Option ℕ → Printed
+last aborted bad = if aborted then record { octets = []; status = 7 } else behind_replies bad
+
+abbrev pub with_last : List ℕ → Printed → Printed
+with_last lines last = record { octets = lines ++ last.octets; status = last.status }
+
+-- what is said first is printed first, where no abort is among it
+pub prints_after-append : (said later : List Said) (bad : Option ℕ) → list_any is_abort said ≡ false
+    → prints_after (said ++ later) bad ≡ behind (flat_map reply said) (prints_after later bad)
+prints_after-append said later bad none =
+    let flag : list_any is_abort (said ++ later) ≡ list_any is_abort later =
+    list_any-append is_abort said later ∙ ap (λ b. b || list_any is_abort later) none in
+    let after = last (list_any is_abort later) bad in
+    let octets : flat_map reply (said ++ later) ++ after.octets ≡ flat_map reply said ++ (flat_map reply later ++ after.octets) =
+    ap (λ l. l ++ after.octets) (flat_map-append reply said later) ∙ append_assoc (flat_map reply said) (flat_map reply later) after.octets in
+    ap (λ b. with_last (flat_map reply (said ++ later)) (last b bad)) flag
+    ∙ (λ i. record { octets = octets i; status = after.status })
+
+-- an abort ends what is printed
+pub prints_after-abort : (said : List Said) (bad : Option ℕ) → list_any is_abort said ≡ true
+    → prints_after said bad ≡ record { octets = flat_map reply said; status = 7 }
+prints_after-abort said bad abort =
+    ap (λ b. with_last (flat_map reply said) (last b bad)) abort
+    ∙ (λ i. record { octets = append-nil (flat_map reply said) i; status = 7 })
+
+module _ (old new : State) (octets rest : List ℕ) where
+  -- what is said to octets first, whatever follows, and then what is said to the rest in the next state
+  abbrev pub Says : List Said → Type 0
+  Says said = (more : List ℕ) → said_to old (heard (octets ++ more)) ≡ said ++ said_to new (heard (rest ++ more))
+
+  pub continues : (said : List Said) → list_any is_abort said ≡ false → Says said → Continues old octets (flat_map reply said) new rest
+  continues said none says = record {
+    prints = λ input. ap (λ l. prints_after l input.bad) (says (joined input.pieces))
+        ∙ prints_after-append said (said_to new (heard (rest ++ joined input.pieces))) input.bad none;
+  }
+
+  pub aborts : (said : List Said) → list_any is_abort said ≡ true → new.parties ≡ [] → Says said → Aborts old octets (flat_map reply said)
+  aborts said abort gone says = record {
+    prints = λ input.
+        ap (λ l. prints_after l input.bad) (says (joined input.pieces)
+        ∙ ap (λ l. said ++ l) (said_to-gone new (heard (rest ++ joined input.pieces)) gone) ∙ append-nil said)
+        ∙ prints_after-abort said input.bad abort;
+  }
+
+-- a request in front is taken by the one party
+pub says_request : (state : State) (party : StandingParty) (octets : List ℕ) (tree : Tree) (n : ℕ) (pdu : Pdu)
+    → state.parties ≡ party ∷ [] → party.link ≡ link → reading octets ≡ Read tree n → meaning tree ≡ Some pdu
+    → Says state (after_turn state link (transition state party 0 (messages.Pdu pdu))) octets (drop n octets) (transition state party 0 (messages.Pdu pdu)).said
+says_request state party octets tree n pdu one here read means = λ more.
+    ap (said_to state) (heard-read octets more tree n read ∙ ap (λ o. message_of o ∷ heard (drop n octets ++ more)) means)
+    ∙ said_to-one state party (Request pdu) (heard (drop n octets ++ more)) one here
+
+-- octets that are no message end the one party
+pub aborts_fault : (state : State) (party : StandingParty) (octets : List ℕ) → state.parties ≡ party ∷ [] → party.link ≡ link
+    → ((more : List ℕ) → (later : List Heard) × (heard (octets ++ more) ≡ Fault ∷ later))
+    → Aborts state octets (reply (answers.Abort not_built 0))
+aborts_fault state party octets one here faulty = record {
+  prints = λ input.
+      let fault = faulty (joined input.pieces) in
+      let turn = turn_to state party Fault in
+      let said : List Said = answers.Abort not_built 0 ∷ [] in
+      let after = after_turn state link turn in
+      ap (λ l. prints_after l input.bad)
+      (ap (said_to state) fault.1 ∙ said_to-one state party Fault fault.0 one here
+      ∙ ap (λ l. said ++ l) (said_to-gone after fault.0 (after_one state party turn one here)))
+      ∙ prints_after-abort said input.bad refl
+      ∙ (λ i. record { octets = append-nil (reply (answers.Abort not_built 0)) i; status = 7 });
+}
+
+module _ (first second third : State) (octets between rest said later : List ℕ) where
+  pub continues-continues : Continues first octets said second between → Continues second between later third rest
+      → Continues first octets (said ++ later) third rest
+  continues-continues one two = record {
+    prints = λ input. one.prints input ∙ ap (behind said) (two.prints input)
+        ∙ (λ i. record { octets = sym (append_assoc said later (dialogue_from third rest input).octets) i; status = (dialogue_from third rest input).status });
+  }
+
+  pub continues-aborts : Continues first octets said second between → Aborts second between later → Aborts first octets (said ++ later)
+  continues-aborts one two = record { prints = λ input. one.prints input ∙ ap (behind said) (two.prints input) }
+
+-- nothing taken yet
+pub continues_none : (state : State) (octets : List ℕ) → Continues state octets [] state octets
+continues_none state octets = record { prints = λ input. refl }
+
+-- a party that is gone is told nothing, whatever is left of the octets
+pub continues_gone : (state : State) (octets rest : List ℕ) → state.parties ≡ [] → Continues state octets [] state rest
+continues_gone state octets rest gone = record {
+  prints = λ input.
+      ap (λ l. prints_after l input.bad) (said_to-gone state (heard (octets ++ joined input.pieces)) gone)
+      ∙ sym (ap (λ l. behind [] (prints_after l input.bad)) (said_to-gone state (heard (rest ++ joined input.pieces)) gone));
+}
+
+pub quiet_gone : (state : State) (pending : List ℕ) → state.parties ≡ [] → IsQuiet state pending
+quiet_gone state pending gone = said_to-gone state (heard pending) gone
+
+pub quiet_short : (state : State) (pending : List ℕ) → reading pending ≡ Short → IsQuiet state pending
+quiet_short state pending short = ap (said_to state) (heard_front pending ∙ ap (heard_first heard pending) short)

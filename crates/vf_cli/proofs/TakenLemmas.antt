@@ -1,0 +1,102 @@
+-- What the party takes from the front of octets, and what is still printed after it.
+use Rattle.std.proofs.Common.{◌≡◌, ℕ, ◌+◌, List, [], ◌∷◌, ◌++◌, drop, Option, Some, Ok, refl, ap, sym, subst, ◌∙◌, append_assoc, option_to_list}
+use Rattle.std.specs.List.{flat_map}
+use Rattle.std.proofs.lemmas.List.{drop-drop}
+use Rattle.vf_ber.specs.Tree.{Tree}
+use Rattle.vf_ber.specs.Reading.{Reading, Short, Bad, Read, reading}
+use Rattle.vf_pdu.specs.Meaning.{meaning}
+use Rattle.vf_pdu.specs.declared.pdu.Pdu.{Pdu}
+use Rattle.vf_regime.specs.declared.message.Message.TheVariants as messages
+use Rattle.vf_regime.specs.declared.message.Said.TheVariants as answers
+use Rattle.vf_regime.specs.declared.party.Party.{Party}
+use Rattle.vf_regime.specs.declared.tables.Tables.{Tables}
+use Rattle.vf_regime.specs.Files.{after_changes}
+use Rattle.vf_regime.specs.Refusal.{not_built}
+use Rattle.vf_regime.specs.Represents.{with_tables}
+use Rattle.vf_regime.specs.State.{State, StandingParty}
+use Rattle.vf_regime.specs.Transition.{Turn, after_turn, transition}
+use Rattle.vf_cli.specs.declared.conversation.After.{After}
+use Rattle.vf_cli.specs.declared.conversation.After.TheVariants as after
+use Rattle.vf_cli.specs.declared.message.Front.TheVariants as front
+use Rattle.vf_cli.specs.Conversation.{Aborts, Appends, Continues, Holds, IsAfter, IsFront, Makes, Took}
+use Rattle.vf_cli.specs.Dialogue.{Fault, Heard, heard, link, message_of, reply, said_to}
+use Rattle.vf_cli.proofs.ContinuesLemmas.{aborts, aborts_fault, after_one, continues, continues-aborts, continues-continues, says_request}
+use Rattle.vf_cli.proofs.ReceivedLemmas.{heard-bad, heard-read}
+use Rattle.vf_cli.proofs.TurnLemmas.{keeps_link}
+
+-- a state with the tables' files is the same with the tables
+with_tables-same : (tables : Tables) (state : State) → state.files ≡ tables.files → with_tables tables state ≡ state
+with_tables-same tables state same = λ i. record { users = state.users; files = sym same i; parties = state.parties; transitions = state.transitions }
+
+-- where a fault stands in front, it is heard first
+faulty : (rest more : List ℕ) → IsFront (reading rest) (Ok front.Fault) → (later : List Heard) × (heard (rest ++ more) ≡ Fault ∷ later)
+faulty rest more found = by (reading rest) refl found
+  where
+    by : (r : Reading) → reading rest ≡ r → IsFront r (Ok front.Fault) → (later : List Heard) × (heard (rest ++ more) ≡ Fault ∷ later)
+    by Short e found = absurd found
+    by Bad e found = ([], heard-bad rest more e)
+    by (Read tree n) e found =
+        (heard (drop n rest ++ more), heard-read rest more tree n e ∙ ap (λ o. message_of o ∷ heard (drop n rest ++ more)) found)
+
+-- a request in front was read
+read_request : (rest : List ℕ) (pdu : Pdu) (n : ℕ) → IsFront (reading rest) (Ok (front.Request pdu n))
+    → (tree : Tree) × (reading rest ≡ Read tree n) × (meaning tree ≡ Some pdu)
+read_request rest pdu n found = by (reading rest) refl found
+  where
+    by : (r : Reading) → reading rest ≡ r → IsFront r (Ok (front.Request pdu n)) → (tree : Tree) × (reading rest ≡ Read tree n) × (meaning tree ≡ Some pdu)
+    by Short e found = absurd found
+    by Bad e found = absurd found
+    by (Read tree m) e found = (tree, e ∙ ap (Read tree) found.1, found.0)
+
+module _ (first state next : State) (octets between rest said : List ℕ) (turn : Turn) (made : Tables) where
+  -- what comes of octets whose last message had this turn
+  took : (after : After) → Continues first octets said state between
+      → ((more : List ℕ) → said_to state (heard (between ++ more)) ≡ turn.said ++ said_to next (heard (rest ++ more)))
+      → next.parties ≡ option_to_list turn.party ++ [] → next.files ≡ made.files
+      → ((standing : StandingParty) → turn.party ≡ Some standing → standing.link ≡ link)
+      → IsAfter turn after → Took first octets (said ++ flat_map reply turn.said) made after rest
+  took (after.Goes party) before says parties files links goes =
+      let one = parties ∙ ap (λ (o : Option StandingParty). option_to_list o ++ []) goes.1 in (
+        next,
+        (goes.0, one, links goes.0 goes.1, goes.2, files),
+        continues-continues first state next octets between rest said (flat_map reply turn.said) before
+            (continues state next between rest turn.said goes.3 says),
+      )
+  took after.Gone before says parties files links goes = (
+    next,
+    parties ∙ ap (λ (o : Option StandingParty). option_to_list o ++ []) goes.0,
+    continues-continues first state next octets between rest said (flat_map reply turn.said) before
+        (continues state next between rest turn.said goes.1 says),
+  )
+  took after.Aborted before says parties files links goes =
+      continues-aborts first state next octets between rest said (flat_map reply turn.said) before
+      (aborts state next between rest turn.said goes.1 (parties ∙ ap (λ (o : Option StandingParty). option_to_list o ++ []) goes.0) says)
+
+module _ (first state : State) (party : Party) (tables : Tables) (octets said old : List ℕ) (at : ℕ)
+    (holds : Holds (Some party) tables state) (before : Continues first octets said state (drop at octets)) where
+  pub takes_fault : IsFront (reading (drop at octets)) (Ok front.Fault) → Aborts first octets (said ++ reply (answers.Abort not_built 0))
+  takes_fault found =
+      let rest = drop at octets in
+      continues-aborts first state state octets rest [] said (reply (answers.Abort not_built 0)) before
+      (aborts_fault state holds.0 rest holds.1 holds.2 (λ more. faulty rest more found))
+
+  -- what is printed goes on with the turn of a request in front
+  pub takes_request : (pdu : Pdu) (n : ℕ) (new replies : List ℕ) (made : Tables) (rest : After) → replies ≡ old ++ said
+      → IsFront (reading (drop at octets)) (Ok (front.Request pdu n))
+      → Makes (transition (with_tables tables state) holds.0 0 (messages.Pdu pdu)) replies new tables made rest
+      → Appends first octets old new made rest (drop (at + n) octets)
+  takes_request pdu n new replies made rest so_far found makes =
+      let turn = transition state holds.0 0 (messages.Pdu pdu) in
+      let same = subst (λ (s : State). Makes (transition s holds.0 0 (messages.Pdu pdu)) replies new tables made rest) (with_tables-same tables state holds.4) makes in
+      let read = read_request (drop at octets) pdu n found in
+      let next = after_turn state link turn in
+      let lines = flat_map reply turn.said in
+      let says : (more : List ℕ) → said_to state (heard (drop at octets ++ more)) ≡ turn.said ++ said_to next (heard (drop (at + n) octets ++ more)) =
+      λ more. says_request state holds.0 (drop at octets) read.0 n pdu holds.1 holds.2 read.1 read.2 more
+      ∙ ap (λ l. turn.said ++ said_to next (heard (l ++ more))) (drop-drop n at octets) in
+      let files = sym (same.changed ∙ ap (after_changes turn.changes) (sym holds.4)) in
+      let parties = after_one state holds.0 turn holds.1 holds.2 in
+      let written : new ≡ old ++ (said ++ lines) = same.said ∙ ap (λ l. l ++ lines) so_far ∙ append_assoc old said lines in
+      let links : (standing : StandingParty) → turn.party ≡ Some standing → standing.link ≡ link =
+      λ standing goes. keeps_link state holds.0 standing 0 pdu goes ∙ holds.2 in
+      (said ++ lines, written, took first state next octets (drop at octets) (drop (at + n) octets) said turn made rest before says parties files links same.goes)

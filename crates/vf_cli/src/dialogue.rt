@@ -1,0 +1,157 @@
+//! One party's messages over an empty filestore, from lines to lines.
+ghost use Rattle.std.specs.Prelude.{◌≡◌, [], IsErrOf, IfErr, OnErr, OnOk, IfOk, List, Option, Some, ℕ};
+ghost use Rattle.vf_base.specs.Faults.{HasRisen, NeverFalls};
+ghost use Rattle.vf_regime.specs.State.{State};
+ghost use Rattle.vf_cli.specs.declared.command.Command.TheVariants as commands;
+ghost use Rattle.vf_cli.specs.Conversation.{Goes, IsInterrupted, PrintsAll, PrintsFront, ReadsLine, Stands, TakesLine};
+ghost use Rattle.vf_cli.specs.Ftam.{EndsDialogue, MeetsCommand};
+ghost use Rattle.vf_cli.specs.Printed.{HasCauses, Wrote, WroteFront};
+ghost use Rattle.vf_cli.specs.Reader.{Progresses, will_say};
+
+use crate::conversation::Conversation;
+use crate::lines::{LineError, LineReader, NextLine};
+use crate::printed::append_bad_line;
+use std::alloc::Global;
+use vf_base::{NoMemory, Sink, Source};
+
+/// What kept a command from its end.
+#[derive(Clone, Copy, Debug, PartialEq, Eq)]
+pub(crate) enum Interruption {
+    /// The input failed.
+    Input,
+    /// The output failed.
+    Output,
+    /// Memory is wanting.
+    NoMemory,
+}
+
+impl From<NoMemory> for Interruption {
+    ghost use Rattle.std.specs.Prelude.{◌≡◌};
+    ghost use Rattle.vf_cli.specs.declared.dialogue.Interruption.TheVariants as interruptions;
+
+    ghost from_gives = { λ _ error. error ≡ interruptions.NoMemory };
+
+    fn from(_error: NoMemory) -> Interruption {
+        Interruption::NoMemory
+    }
+}
+
+/// The status where the input failed.
+const INPUT_FAULT: u8 = 3;
+
+/// The status where the output failed.
+pub(crate) const OUTPUT_FAULT: u8 = 4;
+
+/// The status where memory is wanting.
+pub(crate) const NO_MEMORY: u8 = 9;
+
+/// The status of an abort that was said.
+const ABORTED: u8 = 7;
+
+/// The status of a bad line.
+const BAD_LINE: u8 = 11;
+
+/// Writes lines, if there are any.
+pub(crate) fn write_lines<O: Sink>(out: &mut O, lines: &[u8]) -> Result<(), Interruption>
+    ensures ok { OnOk result (Wrote lines.now (O.taken out.old) (O.taken out.new)) }
+    ensures front { OnErr result (WroteFront lines.now (O.taken out.old) (O.taken out.new)) }
+    ensures falls { NeverFalls (O.fault_count out.old) (O.fault_count out.new) }
+    ensures failed { OnErr result (HasRisen (O.fault_count out.old) (O.fault_count out.new)) }
+    ensures cause { IfErr result (λ interruption. interruption ≡ Interruption.Output) }
+{
+    if lines.is_empty() {
+        return Ok(());
+    }
+    if out.write(lines).is_err() {
+        return Err(Interruption::Output);
+    }
+    Ok(())
+}
+
+/// The dialogue over the input: its replies are written line by line, before more of the input is read.
+pub(crate) fn dialogue<I: Source, O: Sink>(alloc: Global, input: &mut I, out: &mut O) -> u8
+    ensures causes { HasCauses result (I.fault_count input.old) (I.fault_count input.new) (O.fault_count out.old) (O.fault_count out.new) }
+    ensures prints { MeetsCommand (Some commands.Dialogue) result (I.left input.old) (O.taken out.old) (O.taken out.new) }
+{
+    match converse(alloc, input, out) {
+        Ok(status) => status,
+        Err(Interruption::Input) => INPUT_FAULT,
+        Err(Interruption::Output) => OUTPUT_FAULT,
+        Err(Interruption::NoMemory) => NO_MEMORY,
+    }
+}
+
+/// The dialogue over all lines of the input; answers its status.
+fn converse<I: Source, O: Sink>(
+    alloc: Global,
+    input: &mut I,
+    out: &mut O,
+) -> Result<u8, Interruption>
+    ensures ends { IfOk result (λ status. EndsDialogue status × PrintsAll (I.left input.old) status (O.taken out.old) (O.taken out.new)) }
+    ensures interrupted { OnErr result (PrintsFront (I.left input.old) (O.taken out.old) (O.taken out.new)) }
+    ensures input { IsErrOf result Interruption.Input → HasRisen (I.fault_count input.old) (I.fault_count input.new) }
+    ensures output { IsErrOf result Interruption.Output → HasRisen (O.fault_count out.old) (O.fault_count out.new) }
+{
+    let mut reader = LineReader::new(alloc)?;
+    let mut conversation = Conversation::new(alloc);
+    'lines: loop {
+        if let Some(status) = take_line(alloc, &mut reader, &mut conversation, input, out)? {
+            return Ok(status);
+        }
+    }
+}
+
+/// Takes the next line, and writes what is said to it; answers the status where the dialogue ends with it.
+fn take_line<I: Source, O: Sink>(
+    alloc: Global,
+    reader: &mut LineReader,
+    conversation: &mut Conversation,
+    input: &mut I,
+    out: &mut O,
+) -> Result<Option<u8>, Interruption>
+    requires { (state : State) × Stands conversation.old state }
+    ensures takes { IfOk result (λ line. (state : State) → Stands conversation.old state
+        → TakesLine state conversation.old.pending.items (will_say reader.old (I.left input.old)) (will_say reader.new (I.left input.new))
+        (O.taken out.old) (O.taken out.new) conversation.new line) }
+    ensures interrupted { OnErr result ((state : State) → Stands conversation.old state
+        → IsInterrupted state conversation.old.pending.items (will_say reader.old (I.left input.old)) (O.taken out.old) (O.taken out.new)) }
+    ensures progresses { IfOk result (Goes reader.old.count reader.new.count) }
+    ensures input_falls { NeverFalls (I.fault_count input.old) (I.fault_count input.new) }
+    ensures out_falls { NeverFalls (O.fault_count out.old) (O.fault_count out.new) }
+    ensures input { IsErrOf result Interruption.Input → HasRisen (I.fault_count input.old) (I.fault_count input.new) }
+    ensures output { IsErrOf result Interruption.Output → HasRisen (O.fault_count out.old) (O.fault_count out.new) }
+{
+    let mut piece = Vec::new(alloc);
+    let mut lines = Vec::new(alloc);
+    match next_line(reader, input, &mut piece)? {
+        NextLine::Piece => {
+            let aborted = conversation.take(alloc, piece.as_slice(), &mut lines)?;
+            write_lines(out, lines.as_slice())?;
+            Ok(if aborted { Some(ABORTED) } else { None })
+        }
+        NextLine::Bad(number) => {
+            append_bad_line(alloc, number, &mut lines)?;
+            write_lines(out, lines.as_slice())?;
+            Ok(Some(BAD_LINE))
+        }
+        NextLine::End => Ok(Some(0)),
+    }
+}
+
+fn next_line<I: Source>(
+    reader: &mut LineReader,
+    input: &mut I,
+    piece: &mut Vec<u8>,
+) -> Result<NextLine, Interruption>
+    ensures answers { ReadsLine (will_say reader.old (I.left input.old)) (will_say reader.new (I.left input.new)) piece.new.items result }
+    ensures progresses { IfOk result (Progresses reader.old.count reader.new.count) }
+    ensures falls { NeverFalls (I.fault_count input.old) (I.fault_count input.new) }
+    ensures failed { IsErrOf result Interruption.Input → HasRisen (I.fault_count input.old) (I.fault_count input.new) }
+    ensures cause { IsErrOf result Interruption.Output → ⊥ }
+{
+    match reader.next(input, piece) {
+        Ok(next) => Ok(next),
+        Err(LineError::Failed) => Err(Interruption::Input),
+        Err(LineError::NoMemory) => Err(Interruption::NoMemory),
+    }
+}
