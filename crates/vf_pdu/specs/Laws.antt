@@ -1,4 +1,4 @@
--- What a value means and the value of a message have to do with each other.
+-- How the values of messages and the messages that values mean agree.
 use Rattle.std.specs.Prelude.{◌≡◌, Some}
 use Rattle.vf_ber.specs.Limits.{IsTooLarge}
 use Rattle.vf_ber.specs.Tree.{Tree}

@@ -36,7 +36,7 @@ IsMessage (DeselectResponse d) = InRange d
 IsMessage (CreateResponse d) = InRange d
 IsMessage _ = Unit {0}
 
--- its names and object identifiers are such, which their types keep
+-- its names and object identifiers are within their limits, as their types keep them
 abbrev pub IsNamed : Pdu → Type 0
 IsNamed (SelectRequest name) = IsName name
 IsNamed (CreateRequest name contents) = IsName name × IsOid contents.kind

@@ -16,7 +16,7 @@ use std::alloc::Global;
 use vf_base::{Contents, Diagnostic, Name, NoMemory};
 use vf_ber::{Value, Values};
 
-/// The one value of the message, whose fields are in their ranges.
+/// The one value of the message, whose fields are in their ranges; it is within the limits of `vf_ber::write`.
 pub fn to_value(alloc: Global, pdu: &Pdu) -> Result<Value, NoMemory>
     requires { IsMessage pdu.now }
     ensures value { IfOk result (λ made. tree_of made ≡ value pdu.now) }
@@ -94,6 +94,7 @@ fn create_request(alloc: Global, name: &Name, contents: &Contents) -> Result<Val
     ensures value { IfOk result (λ made. tree_of made ≡ value (Pdu.CreateRequest name.now contents.now)) }
     ensures named { IfOk result (λ made. IsName name.now × IsOid contents.now.kind) }
 {
+    // Its type bounds the arcs, and so the length of the value.
     let _arcs = contents.kind.arcs();
     let mut fields = Values::new(alloc);
     put_text(alloc, &mut fields, 1, name)?;
