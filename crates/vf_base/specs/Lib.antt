@@ -1,4 +1,9 @@
+pub mod Calendar
+pub mod Dial
 pub mod Faults
+pub mod Links
+pub mod Memory
+pub mod Moment
 pub mod Name
 pub mod Oid
 pub mod Streams

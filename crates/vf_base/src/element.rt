@@ -1,29 +1,21 @@
 ghost use Rattle.std.specs.Prelude.{◌≡◌, IfOk};
 
-use crate::{copy_option, Duplicate, Name, NoMemory, Octets};
+use crate::{Duplicate, Name, NoMemory, Octets, copy_option};
 use std::alloc::Global;
 
 /// A data element of a transfer (ISO 8571-2, file model): the octets of a string, or structure around strings.
 #[derive(Drop)]
 pub enum Element {
     /// A FADU begins, with its name, and with a data unit where it is filled.
-    Descriptor {
-        name: Option<Name>,
-        filled: bool,
-    },
+    Descriptor { name: Option<Name>, filled: bool },
     /// The children of a FADU begin.
     Enter,
     /// The children of a FADU end.
     Exit,
     /// A character string of a universal class.
-    Text {
-        class: u8,
-        octets: Octets,
-    },
+    Text { class: u8, octets: Octets },
     /// An octet string.
-    Binary {
-        octets: Octets,
-    },
+    Binary { octets: Octets },
 }
 
 impl Element {

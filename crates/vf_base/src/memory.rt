@@ -1,45 +1,10 @@
 //! A source and a sink in memory, with planned failures.
 ghost use Rattle.std.specs.Prelude.{◌≡◌, [], Some};
-ghost use Rattle.vf_base.specs.Faults.{HasRisen};
 
-use crate::{Failed, Octets, Sink, Source};
+use crate::plan::Plan;
+use crate::{Failed, Sink, Source};
 use std::alloc::Global;
-
-/// The calls that are planned to fail, by their numbers from 1, and the counts of both.
-#[derive(Drop)]
-struct Plan {
-    failing: Vec<u64>,
-    calls: u64,
-    faults: u64,
-}
-
-impl Plan {
-    fn new(failing: Vec<u64>) -> Plan
-        ensures { result.faults ≡ 0 }
-    {
-        Plan {
-            failing,
-            calls: 0,
-            faults: 0,
-        }
-    }
-
-    /// Counts a call, and says whether it is to fail.
-    fn fails(&mut self) -> bool
-        ensures { self.new.faults ≡ self.old.faults }
-    {
-        self.calls = self.calls.saturating_add(1);
-        self.failing.contains(&self.calls)
-    }
-
-    /// Counts a fault.
-    fn fail(&mut self) -> Failed
-        ensures { HasRisen self.old.faults self.new.faults }
-    {
-        self.faults = self.faults.saturating_add(1);
-        Failed
-    }
-}
+use std::marker::Model;
 
 /// A source over octets in memory; the calls of the numbers in `failing`, from 1, fail.
 #[derive(Drop)]
@@ -48,10 +13,18 @@ pub struct SliceSource<'a> {
     plan: Plan,
 }
 
+impl<'a> Model for SliceSource<'a> {
+    ghost use Rattle.vf_base.specs.Memory.{Slice};
+
+    ghost Value = { Slice };
+
+    ghost view = { λ source. record { left = source.octets.now; faults = source.plan.faults } };
+}
+
 impl<'a> SliceSource<'a> {
     pub fn new(octets: &'a [u8], failing: Vec<u64>) -> SliceSource<'a>
-        ensures octets { result.octets.now ≡ octets.now }
-        ensures faults { result.plan.faults ≡ 0 }
+        ensures octets { result.left ≡ octets.now }
+        ensures faults { result.faults ≡ 0 }
     {
         SliceSource {
             octets,
@@ -61,9 +34,9 @@ impl<'a> SliceSource<'a> {
 }
 
 impl<'a> Source for SliceSource<'a> {
-    ghost left = { λ source. Some source.octets.now };
+    ghost left = { λ source. Some source.left };
 
-    ghost fault_count = { λ source. source.plan.faults };
+    ghost fault_count = { λ source. source.faults };
 
     fn read(&mut self, into: &mut [u8]) -> Result<usize, Failed> {
         if self.plan.fails() {
@@ -88,10 +61,18 @@ pub struct VecSink {
     plan: Plan,
 }
 
+impl Model for VecSink {
+    ghost use Rattle.vf_base.specs.Memory.{Taken};
+
+    ghost Value = { Taken };
+
+    ghost view = { λ sink. record { octets = sink.octets.items; faults = sink.plan.faults } };
+}
+
 impl VecSink {
     pub fn new(alloc: Global, failing: Vec<u64>) -> VecSink
-        ensures octets { result.octets.items ≡ [] }
-        ensures faults { result.plan.faults ≡ 0 }
+        ensures octets { result.octets ≡ [] }
+        ensures faults { result.faults ≡ 0 }
     {
         VecSink {
             octets: Vec::new(alloc),
@@ -101,16 +82,16 @@ impl VecSink {
 
     /// What was taken so far.
     pub fn octets(&self) -> &[u8]
-        ensures { result.now ≡ self.now.octets.items }
+        ensures { result.now ≡ self.now.octets }
     {
         self.octets.as_slice()
     }
 }
 
 impl Sink for VecSink {
-    ghost taken = { λ sink. Some sink.octets.items };
+    ghost taken = { λ sink. Some sink.octets };
 
-    ghost fault_count = { λ sink. sink.plan.faults };
+    ghost fault_count = { λ sink. sink.faults };
 
     fn write(&mut self, octets: &[u8]) -> Result<(), Failed> {
         if self.plan.fails() {

@@ -1,6 +1,13 @@
-ghost use Rattle.std.specs.Prelude.{◌≡◌, ◌↔◌, ◌<◌, ◌≤◌, IfOk, IsErrOf, IsOk};
+ghost use Rattle.std.specs.Prelude.{◌≡◌, ◌↔◌, ◌<◌, ◌≤◌, IfOk, IsErrOf, IsOk, pos, [], ◌∷◌, ◌++◌, ◌+◌, ◌/◌, ◌%◌};
+ghost use Rattle.jiff.specs.Words.{epoch_day};
+ghost use Rattle.std.specs.List.{flat_map};
+ghost use Rattle.vf_base.specs.Calendar.{civil_date};
+ghost use Rattle.vf_base.specs.Moment.{moment_text, time_text, two_digits};
 
-use crate::BaseError;
+use crate::{BaseError, NoMemory, Octets};
+use jiff::ToSpan;
+use jiff::civil::{Date, date};
+use std::alloc::Global;
 use std::marker::Model;
 
 /// Whole seconds since 1970-01-01T00:00:00Z, before the year 10000; seen as their number.
@@ -41,4 +48,82 @@ impl Moment {
     {
         self.seconds
     }
+
+    /// The date and time in UTC as `YYYYMMDDHHMMSSZ`.
+    pub fn text(&self, alloc: Global) -> Result<Octets, NoMemory>
+        ensures { IfOk result (λ text. text ≡ moment_text self.now) }
+    {
+        let (year, month, day) = civil((self.seconds / 86_400) as u32);
+        let second = (self.seconds % 86_400) as u32;
+        let date = [year as u32 / 100, year as u32, month as u32, day as u32];
+        let text = text_of(alloc, date, second)?;
+        Ok(text)
+    }
+}
+
+/// The date of a day, counted from 1970-01-01 as 0.
+fn date_of(days: u32) -> Date
+    requires { days ≤ 2932896 }
+    ensures { epoch_day result ≡ pos days }
+{
+    let Ok(date) = date(1970, 1, 1).checked_add((days as i64).days()) else {
+        unreachable!()
+    };
+    date
+}
+
+/// The year, month and day of a day, counted from 1970-01-01 as 0, to the end of the year 9999.
+fn civil(days: u32) -> (u16, u8, u8)
+    requires { days ≤ 2932896 }
+    ensures { record { year = result.0; month = result.1; day = result.2 } ≡ civil_date days }
+{
+    let date = date_of(days);
+    (
+        date.year().unsigned_abs(),
+        date.month().unsigned_abs(),
+        date.day().unsigned_abs(),
+    )
+}
+
+/// The pairs of digits of a date, and of the seconds into its day.
+fn text_of(alloc: Global, date: [u32; 4], second: u32) -> Result<Octets, NoMemory>
+    ensures { IfOk result (λ text. text ≡ flat_map two_digits date ++ time_text second ++ 90 ∷ []) }
+{
+    let [century, year, month, day] = date;
+    let hour = second / 3600;
+    let minute = second / 60 % 60;
+    let second = second % 60;
+    let digits = [
+        tens(century),
+        ones(century),
+        tens(year),
+        ones(year),
+        tens(month),
+        ones(month),
+        tens(day),
+        ones(day),
+        tens(hour),
+        ones(hour),
+        tens(minute),
+        ones(minute),
+        tens(second),
+        ones(second),
+        b'Z',
+    ];
+    let text = Octets::of(alloc, &digits)?;
+    Ok(text)
+}
+
+/// The second last digit of a number, in ASCII.
+fn tens(number: u32) -> u8
+    ensures { result ≡ 48 + number / 10 % 10 }
+{
+    b'0' + (number / 10 % 10) as u8
+}
+
+/// The last digit of a number, in ASCII.
+fn ones(number: u32) -> u8
+    ensures { result ≡ 48 + number % 10 }
+{
+    b'0' + (number % 10) as u8
 }

@@ -1,4 +1,4 @@
-ghost use Rattle.std.specs.Prelude.{◌≡◌, ℕ, List, Option, OnErr};
+ghost use Rattle.std.specs.Prelude.{◌≡◌, ℕ, List, Option, OnOk, OnErr};
 ghost use Rattle.vf_base.specs.Faults.{HasRisen, NeverFalls};
 ghost use Rattle.vf_base.specs.Streams.{Writes};
 
@@ -15,6 +15,7 @@ pub trait Sink {
     /// Takes all of the octets, or a front of them where it fails.
     fn write(&mut self, octets: &[u8]) -> Result<(), Failed>
         ensures octets { Writes (taken self.old) (taken self.new) octets.now result }
+        ensures ok { OnOk result (fault_count self.new ≡ fault_count self.old) }
         ensures falls { NeverFalls (fault_count self.old) (fault_count self.new) }
         ensures failed { OnErr result (HasRisen (fault_count self.old) (fault_count self.new)) };
 

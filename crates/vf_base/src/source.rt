@@ -1,4 +1,4 @@
-ghost use Rattle.std.specs.Prelude.{◌≡◌, ◌<◌, ◌≤◌, ℕ, List, Option, length, IfOk, OnErr};
+ghost use Rattle.std.specs.Prelude.{◌≡◌, ◌<◌, ◌≤◌, ℕ, List, Option, length, IfOk, OnOk, OnErr};
 ghost use Rattle.vf_base.specs.Faults.{HasRisen, NeverFalls};
 ghost use Rattle.vf_base.specs.Streams.{Reads};
 
@@ -17,6 +17,7 @@ pub trait Source {
         requires { 0 < length into.old }
         ensures within { IfOk result (λ count. count ≤ length into.new) }
         ensures octets { Reads (left self.old) (left self.new) into.new result }
+        ensures ok { OnOk result (fault_count self.new ≡ fault_count self.old) }
         ensures falls { NeverFalls (fault_count self.old) (fault_count self.new) }
         ensures failed { OnErr result (HasRisen (fault_count self.old) (fault_count self.new)) };
 

@@ -1,6 +1,6 @@
 ghost use Rattle.std.specs.Prelude.{◌≡◌, IfOk};
 
-use crate::{copy_option, Actions, Duplicate, Name, NoMemory, Octets};
+use crate::{Actions, Duplicate, Name, NoMemory, Octets, copy_option};
 use std::alloc::Global;
 
 /// A term of an access control list (ISO 8571-2, access control attribute): who may do what.

@@ -1,0 +1,37 @@
+-- What the objects in memory hold (profile).
+use Rattle.std.specs.Prelude.{◌≡◌, ℕ, Bool, false, List, ◌∷◌}
+use Rattle.vf_base.specs.Dial.{Call, Talk, Hears, OnNewest, says}
+use Rattle.vf_base.specs.Faults.{counted}
+
+-- a source: the octets that are left, and the number of calls that failed
+pub record Slice : Type 0 where
+  pub left : List ℕ
+  pub faults : ℕ
+
+-- a sink: the octets that were taken, and the number of calls that failed
+pub record Taken : Type 0 where
+  pub octets : List ℕ
+  pub faults : ℕ
+
+-- a dial: what it tells, whether a connection stands, the number of those that were lost or not had, and the
+-- number of calls that failed
+pub record Dialled : Type 0 where
+  pub talk : Talk
+  pub stands : Bool
+  pub lost : ℕ
+  pub faults : ℕ
+
+-- a dial behind a call that failed, or behind the end of a stream
+abbrev pub after_loss : ℕ → Dialled → Dialled
+after_loss faults dial = record dial { stands = false; lost = counted dial.lost; faults = faults }
+
+-- so many octets more were said on the connection that stands
+abbrev pub Said : Dialled → Dialled → List ℕ → Type 0
+Said old new octets =
+    OnNewest old.talk.calls (λ call calls. new ≡ record old { talk = record old.talk { calls = says octets call ∷ calls } })
+
+-- and so many heard
+abbrev pub Heard : Dialled → Dialled → List ℕ → ℕ → Type 0
+Heard old new into count =
+    OnNewest old.talk.calls (λ call calls.
+    (heard : Call) × (Hears call heard into count) × (new ≡ record old { talk = record old.talk { calls = heard ∷ calls } }))
