@@ -3,13 +3,13 @@ use Rattle.std.specs.Prelude.{ℕ, ◌+◌, ◌*◌, ◌/◌, ◌%◌, ℤ, Bool
 use Rattle.std.specs.List.{flat_map}
 use Rattle.std.specs.Int.{w64, to_be_bytes, cast_unsigned}
 
--- nine equal bits in front
+-- its first nine bits are equal, so that the first octet adds nothing
 abbrev pub is_redundant : List ℕ → Bool
 is_redundant [] = false
 is_redundant (a ∷ []) = false
 is_redundant (a ∷ b ∷ octets) = (nat_eq a 0 && nat_lt b 128) || (nat_eq a 255 && nat_le 128 b)
 
--- without the octets in front that say nothing
+-- without the first octets that add nothing
 abbrev pub shortened : List ℕ → List ℕ
 shortened [] = []
 shortened (octet ∷ octets) = if is_redundant (octet ∷ octets) then shortened octets else octet ∷ octets
@@ -27,7 +27,7 @@ arc_octets n =
     else if nat_lt n 268435456 then (128 + n / 2097152) ∷ (128 + n / 16384 % 128) ∷ (128 + n / 128 % 128) ∷ n % 128 ∷ []
     else (128 + n / 268435456) ∷ (128 + n / 2097152 % 128) ∷ (128 + n / 16384 % 128) ∷ (128 + n / 128 % 128) ∷ n % 128 ∷ []
 
--- the first two arcs stand together
+-- the first two arcs share one number (8.19.4); every object identifier has two
 abbrev pub oid_octets : List ℕ → List ℕ
 oid_octets [] = []
 oid_octets (first ∷ []) = []

@@ -1,4 +1,4 @@
--- What reading and spelling have to do with each other.
+-- How reading and spelling agree.
 use Rattle.std.specs.Prelude.{◌≡◌, ℕ, ◌≤◌, List, length, take}
 use Rattle.vf_ber.specs.Tree.{Tree}
 use Rattle.vf_ber.specs.Tags.{IsTree}

@@ -4,7 +4,8 @@ use Rattle.std.specs.Prelude.{ℕ, zero, suc, ◌+◌, ◌-◌, ◌*◌, ◌/◌
 use Rattle.std.specs.Option.{option_and_then, option_map}
 use Rattle.vf_ber.specs.Tree.{Tag, Tree, plain, built, Trees, none, more, alone}
 
--- octets are a proper front of a message, or begin none, or begin with a message of so many octets
+-- What octets are: a proper prefix of a message; no message, whatever follows them; or a message of so many
+-- octets with others behind it.
 pub data Cut : Type 0 where
   Begun : Cut
   Wrong : Cut
@@ -80,7 +81,8 @@ values_at zero [] = Some none
 values_at zero (octet ∷ octets) = None
 values_at (suc budget) octets = values_with (values_at budget) octets
 
--- a proper front of a message, octets that begin none, or a value and how many octets it took
+-- The octets are a proper prefix of a message; or no message, whatever follows them, or a whole message that is no
+-- canonical spelling; or they begin with the canonical spelling of a value, of so many octets.
 pub data Reading : Type 0 where
   Short : Reading
   Bad : Reading

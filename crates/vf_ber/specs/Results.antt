@@ -15,11 +15,11 @@ Answers (Err (ber.Deep at)) reading = ⊥
 Answers (Err (ber.Long at)) reading = ⊥
 Answers (Err ber.NoMemory) reading = Unit {0}
 
--- what was there stands in front
+-- what was there before is still there, at the start
 abbrev pub Keeps : List ℕ → List ℕ → Type 0
 Keeps old new = take (length old) new ≡ old
 
--- the cutting of a message answers this
+-- finding the end of a message answers this
 abbrev pub AnswersCut : Result ℕ BerError → Cut → Type 0
 AnswersCut (Ok n) cut = cut ≡ Whole n
 AnswersCut (Err ber.Short) cut = cut ≡ Begun

@@ -7,7 +7,7 @@ pub record Tag : Type 0 where
   pub number : ℕ
 
 mutual
-  -- a value is primitive, with octets, or constructed, with parts
+  -- a value is primitive, with octets, or constructed, with parts (8.1.2.5)
   pub data Tree : Type 0 where
     plain : Tag → List ℕ → Tree
     built : Tag → Trees → Tree

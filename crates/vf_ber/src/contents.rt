@@ -10,7 +10,7 @@ use std::alloc::Global;
 use vf_base::{NoMemory, Octets, Oid};
 
 impl Value {
-    /// The integer in its shortest form.
+    /// The integer in the shortest two's complement (ISO 8825, 8.3).
     pub fn of_integer(alloc: Global, tag: Tag, n: i64) -> Result<Value, NoMemory>
         ensures { IfOk result (λ value. tree_of value ≡ plain (tag_of tag) (integer_octets n)) }
     {
@@ -26,7 +26,7 @@ impl Value {
         Ok(Value::Plain { tag, octets })
     }
 
-    /// The object identifier.
+    /// The object identifier (ISO 8825, 8.19).
     pub fn of_oid(alloc: Global, tag: Tag, oid: &Oid) -> Result<Value, NoMemory>
         ensures { IfOk result (λ value. tree_of value ≡ plain (tag_of tag) (oid_octets oid.now)) }
     {
@@ -35,7 +35,7 @@ impl Value {
     }
 }
 
-/// Without the octets in front that say nothing in two's complement.
+/// Without the first octets that add nothing in two's complement.
 fn shortened(octets: &[u8]) -> &[u8]
     ensures { result.now ≡ shortest octets.now }
 {

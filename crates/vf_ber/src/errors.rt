@@ -1,15 +1,15 @@
 use vf_base::NoMemory;
 
-/// Why octets are no value. A place is the index of an octet.
+/// Why octets don't begin with a value. A place is the index of an octet, from 0 on.
 #[derive(Clone, Copy, Debug, PartialEq, Eq)]
 pub enum BerError {
-    /// The octets are a proper front of a value.
+    /// The octets are a proper prefix of a value's spelling.
     Short,
-    /// No value begins with the octets up to this one.
+    /// No spelling of a value begins with the octets up to and with this one.
     Bad { at: u32 },
-    /// No value of depth 32 or less begins with the octets up to this one.
+    /// No spelling of a value of depth 32 or less begins with the octets up to and with this one.
     Deep { at: u32 },
-    /// No value of 1,048,576 octets or less begins with the octets up to this one.
+    /// No spelling of 1,048,576 octets or less begins with the octets up to and with this one.
     Long { at: u32 },
     /// Memory is wanting.
     NoMemory,

@@ -12,8 +12,9 @@ use vf_base::{NoMemory, Octets};
 
 /// Reads the value that the octets begin with, and says how many octets it took.
 ///
-/// `Short` where they are a proper front of a message, and `Bad` at 0 where they begin none or a message that
-/// is no canonical spelling. `Deep` and `Long` don't come yet.
+/// `Short` exactly where they are a proper prefix of a message. `Bad` at 0 exactly where no message begins with
+/// them, and where they begin with a message that isn't the canonical spelling of a value. `Deep` and `Long`
+/// don't come yet.
 pub fn read(alloc: Global, octets: &[u8]) -> Result<(Value, usize), BerError>
     ensures { Answers result (reading octets.now) }
 {
@@ -28,7 +29,7 @@ pub fn read(alloc: Global, octets: &[u8]) -> Result<(Value, usize), BerError>
     Ok((value, n))
 }
 
-/// How many octets the message has that they begin with.
+/// The number of octets of the message that they begin with.
 fn message_len(octets: &[u8]) -> Result<usize, BerError>
     ensures cut { AnswersCut result (cut octets.now) }
     ensures within { IfOk result (λ n. n ≤ length octets.now) }
@@ -100,7 +101,7 @@ fn value_of(
     }
 }
 
-/// What stands in front of contents.
+/// The identifier and the length in front of contents.
 #[derive(Clone, Copy)]
 struct Front<'a> {
     tag: Tag,
@@ -110,7 +111,7 @@ struct Front<'a> {
     rest: &'a [u8],
 }
 
-/// What the octets begin with, where it is canonical with a length up to 127 that the octets reach.
+/// The identifier and length at their start, where these are canonical and the contents are there.
 #[tactic(auto, unfolding(crate::specs::Reading::head_at))]
 fn front_of(octets: &[u8]) -> Option<Front<'_>>
     ensures head { option_map (λ front. record { tag = tag_of front.tag; constructed = front.constructed; len = front.len; rest = front.rest.now }) result ≡ head_at octets.now }

@@ -121,7 +121,7 @@ impl Values {
         self.items.as_slice()
     }
 
-    /// The value of a list of one.
+    /// The value, where there is one alone.
     pub fn into_single(mut self) -> Option<Value>
         ensures { option_map tree_of result ≡ alone self }
     {

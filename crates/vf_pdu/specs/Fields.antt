@@ -11,7 +11,7 @@ use Rattle.vf_ber.specs.Tree.{Tag, Tree, plain, built, Trees, none, more, joined
 abbrev pub context : ℕ → Tag
 context number = record { class = 2; number = number }
 
--- fields, and one more where it is there
+-- fields, and one more behind them where it is present
 infixl 10 ◌▸◌
 abbrev pub ◌▸◌ : Trees → Option Tree → Trees
 fields ▸ None = fields
@@ -40,7 +40,8 @@ diagnostic_fields d = none ▸ integer 0 (pos d.number) ▸ integer_unless 1 (po
 abbrev pub diagnostic : ℕ → Option Diagnostic → Option Tree
 diagnostic number o = option_and_then (λ d. sequence number (diagnostic_fields d)) o
 
--- a contents type; strings of class 25 without a limit whose significance is variable where nothing is said (profile)
+-- a contents type; by default its strings are of universal class 25, without a limit, and of variable
+-- significance (profile)
 abbrev pub contents_fields : Contents → Trees
 contents_fields c =
     none ▸ object_identifier 0 c.kind ▸ integer_unless 1 (pos 25) (pos c.class) ▸ integer_unless 2 (pos 0) (pos c.longest)

@@ -1,8 +1,9 @@
--- What a value means and the value of a message have to do with each other.
+-- How the values of messages and the messages that values mean agree.
 use Rattle.std.specs.Prelude.{◌≡◌, Some}
+use Rattle.vf_ber.specs.Limits.{IsTooLarge}
 use Rattle.vf_ber.specs.Tree.{Tree}
 use Rattle.vf_pdu.specs.declared.pdu.Pdu.{Pdu}
-use Rattle.vf_pdu.specs.Value.{value}
+use Rattle.vf_pdu.specs.Value.{value, IsNamed}
 use Rattle.vf_pdu.specs.Meaning.{meaning, IsBuilt}
 
 -- the value of a request means this request
@@ -12,3 +13,7 @@ ValueMeans = (message : Pdu) → IsBuilt message → meaning (value message) ≡
 -- and no other value means it
 abbrev pub MeaningIsValue : Type 0
 MeaningIsValue = (tree : Tree) (message : Pdu) → meaning tree ≡ Some message → (tree ≡ value message) × IsBuilt message
+
+-- the value of a message is within the limits of values
+abbrev pub IsWithin : Type 0
+IsWithin = (message : Pdu) → IsNamed message → IsTooLarge (value message) → ⊥

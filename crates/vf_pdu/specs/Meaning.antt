@@ -1,4 +1,5 @@
--- Which message a value is, of the requests that are built so far: those whose value it is.
+-- The request that a value means, of those that are built so far (profile). Only the one value of a request
+-- means it: a default that is written out isn't built.
 use Rattle.std.specs.Prelude.{◌≡◌, ℕ, Bool, ◌&&◌, nat_eq, List, [], ◌∷◌, Option, None, Some, if◌then◌else◌}
 use Rattle.std.specs.Option.{option_and_then, option_map}
 use Rattle.std.specs.Str.{bytes_eq}
@@ -27,11 +28,11 @@ name_in octets = if is_name octets then Some octets else None
 abbrev pub name_at : ℕ → Tree → Option (List ℕ)
 name_at number field = option_and_then name_in (octets_at number field)
 
--- the document type FTAM-3 (ISO 8571-2) with the parameters that it has where none are written
+-- the document type FTAM-3 (ISO 8571-2) with its default parameters
 abbrev pub ftam_3 : Contents
 ftam_3 = record { kind = 1 ∷ 0 ∷ 8571 ∷ 5 ∷ 3 ∷ []; class = 25; longest = 0; significance = 0 }
 
--- what these octets stand for
+-- this meaning, where the octets are those wanted
 abbrev pub if_octets : {A : Type 0} → List ℕ → A → List ℕ → Option A
 if_octets wanted meant octets = if bytes_eq octets wanted then Some meant else None
 

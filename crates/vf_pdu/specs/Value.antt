@@ -1,6 +1,8 @@
 -- The one value of each message (ISO 8571-4; the fields are this profile's), with the defaults left out.
 use Rattle.std.specs.Prelude.{ℕ, ◌≤◌, ◌<◌, ◌^◌, pos, Option, IfSome}
 use Rattle.vf_base.specs.declared.diagnostic.Diagnostic.{Diagnostic}
+use Rattle.vf_base.specs.Name.{IsName}
+use Rattle.vf_base.specs.Oid.{IsOid}
 use Rattle.vf_ber.specs.Tree.{Tree, built, Trees, none}
 use Rattle.vf_pdu.specs.declared.pdu.Pdu.{Pdu}
 use Rattle.vf_pdu.specs.declared.pdu.Pdu.TheVariants.{InitializeRequest, InitializeResponse, TerminateRequest, TerminateResponse, ProviderAbort, SelectRequest, SelectResponse, DeselectRequest, DeselectResponse, CreateRequest, CreateResponse}
@@ -33,3 +35,9 @@ IsMessage (SelectResponse d) = InRange d
 IsMessage (DeselectResponse d) = InRange d
 IsMessage (CreateResponse d) = InRange d
 IsMessage _ = Unit {0}
+
+-- its names and object identifiers are within their limits, as their types keep them
+abbrev pub IsNamed : Pdu → Type 0
+IsNamed (SelectRequest name) = IsName name
+IsNamed (CreateRequest name contents) = IsName name × IsOid contents.kind
+IsNamed _ = Unit {0}

@@ -1,4 +1,4 @@
-/// Why a value is no message.
+/// Why a value means no message.
 #[derive(Clone, Copy, Debug, PartialEq, Eq)]
 pub enum PduError {
     /// It is none of the requests that are built so far.

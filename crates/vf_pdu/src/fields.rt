@@ -1,5 +1,6 @@
 //! Writing the fields of messages, each behind those before it.
 ghost use Rattle.std.specs.Prelude.{◌≡◌, ◌≤◌, ◌^◌, OnOk};
+ghost use Rattle.vf_base.specs.Name.{IsName};
 ghost use Rattle.vf_pdu.specs.Fields.{◌▸◌, contents_fields, contents_type, diagnostic, diagnostic_fields, integer, integer_unless, object_identifier, sequence, text};
 ghost use Rattle.std.specs.Prelude.{IfOk};
 
@@ -55,7 +56,8 @@ pub(crate) fn put_text(
     name: &Name,
 ) -> Result<(), NoMemory>
     requires { number ≤ 16383 }
-    ensures { OnOk result (fields.new ≡ fields.old ▸ text number name.now) }
+    ensures fields { OnOk result (fields.new ≡ fields.old ▸ text number name.now) }
+    ensures named { IsName name.now }
 {
     let field = Value::of_octets(alloc, context(number), name.as_slice())?;
     fields.push(field)?;

@@ -9,7 +9,7 @@ mod pdu;
 mod value;
 
 pub use errors::PduError;
-pub use laws::{meaning_is_value, value_means};
+pub use laws::{meaning_is_value, value_is_within, value_means};
 pub use meaning::of_value;
 pub use pdu::Pdu;
 pub use value::to_value;

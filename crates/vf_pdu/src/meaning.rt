@@ -11,7 +11,7 @@ use std::alloc::Global;
 use vf_base::{BaseError, Contents, Name, Octets, Oid};
 use vf_ber::{Value, Values};
 
-/// The message whose value this is, of those that are built so far.
+/// The request whose value this is, of those that are built so far; `NotBuilt` exactly where it is none of them.
 pub fn of_value(alloc: Global, value: &Value) -> Result<Pdu, PduError>
     ensures { Answers result (meaning (tree_of value.now)) }
 {

@@ -1,9 +1,12 @@
 //! Messages as values.
 ghost use Rattle.std.specs.Prelude.{◌≡◌, ◌≤◌, ◌^◌, IfOk};
+ghost use Rattle.vf_base.specs.Name.{IsName};
+ghost use Rattle.vf_base.specs.Oid.{IsOid};
+ghost use Rattle.vf_ber.specs.Limits.{IsTooLarge};
 ghost use Rattle.vf_ber.specs.Views.{tree_of};
 ghost use Rattle.vf_ber.specs.Tree.{none};
 ghost use Rattle.vf_pdu.specs.Fields.{◌▸◌, diagnostic as diagnostic_field};
-ghost use Rattle.vf_pdu.specs.Value.{IsMessage, message as message_tree, value};
+ghost use Rattle.vf_pdu.specs.Value.{IsMessage, IsNamed, message as message_tree, value};
 
 use crate::Pdu;
 use crate::fields::{
@@ -13,10 +16,12 @@ use std::alloc::Global;
 use vf_base::{Contents, Diagnostic, Name, NoMemory};
 use vf_ber::{Value, Values};
 
-/// The one value of the message, whose fields are in their ranges.
+/// The one value of the message, whose fields are in their ranges; it is within the limits of `vf_ber::write`.
 pub fn to_value(alloc: Global, pdu: &Pdu) -> Result<Value, NoMemory>
     requires { IsMessage pdu.now }
-    ensures { IfOk result (λ made. tree_of made ≡ value pdu.now) }
+    ensures value { IfOk result (λ made. tree_of made ≡ value pdu.now) }
+    ensures named { IfOk result (λ made. IsNamed pdu.now) }
+    ensures within { IfOk result (λ made. IsTooLarge (tree_of made) → ⊥) }
 {
     match pdu {
         Pdu::InitializeRequest { units } => initialize_request(alloc, *units),
@@ -77,7 +82,8 @@ fn provider_abort(alloc: Global, number: u16, place: u64) -> Result<Value, NoMem
 }
 
 fn select_request(alloc: Global, name: &Name) -> Result<Value, NoMemory>
-    ensures { IfOk result (λ made. tree_of made ≡ value (Pdu.SelectRequest name.now)) }
+    ensures value { IfOk result (λ made. tree_of made ≡ value (Pdu.SelectRequest name.now)) }
+    ensures named { IfOk result (λ made. IsName name.now) }
 {
     let mut fields = Values::new(alloc);
     put_text(alloc, &mut fields, 0, name)?;
@@ -85,8 +91,11 @@ fn select_request(alloc: Global, name: &Name) -> Result<Value, NoMemory>
 }
 
 fn create_request(alloc: Global, name: &Name, contents: &Contents) -> Result<Value, NoMemory>
-    ensures { IfOk result (λ made. tree_of made ≡ value (Pdu.CreateRequest name.now contents.now)) }
+    ensures value { IfOk result (λ made. tree_of made ≡ value (Pdu.CreateRequest name.now contents.now)) }
+    ensures named { IfOk result (λ made. IsName name.now × IsOid contents.now.kind) }
 {
+    // Its type bounds the arcs, and so the length of the value.
+    let _arcs = contents.kind.arcs();
     let mut fields = Values::new(alloc);
     put_text(alloc, &mut fields, 1, name)?;
     put_contents(alloc, &mut fields, 2, contents)?;

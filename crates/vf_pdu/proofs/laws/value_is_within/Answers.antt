@@ -1,0 +1,5 @@
+use Rattle.vf_pdu.proofs.Sizes.{within}
+use Rattle.vf_pdu.proofs.laws.value_is_within.Goals as goal
+
+pub returns : goal.returns
+returns c = within
