@@ -3,7 +3,7 @@ use Rattle.std.proofs.Common.{◌≡◌, ℕ, zero, suc, ◌-◌, ◌<◌, List,
 use Rattle.std.specs.Prelude.{Option, Some, None}
 use Rattle.std.specs.Option.{option_map, option_and_then}
 use Rattle.vf_ber.specs.Tree.{Tree, Trees, none, more, joined}
-use Rattle.vf_ber.specs.Reading.{Head, head_at, value_at, values_at, values_behind, values_with}
+use Rattle.vf_ber.specs.Reading.{Head, head_at, value_at, values_at, values_behind}
 
 -- what was read before, and what is still read
 abbrev pub onto : Trees → Option Trees → Option Trees

@@ -1,11 +1,11 @@
 -- Lists of values as lists of trees.
-use Rattle.std.proofs.Common.{◌≡◌, ℕ, zero, suc, ◌+◌, List, [], ◌∷◌, ◌++◌, length, refl, ap, arith, drop, take, get_or, ◌<◌, ◌≤◌, add-one, length-append, append_assoc, sym, ◌∙◌}
+use Rattle.std.proofs.Common.{◌≡◌, ℕ, zero, suc, ◌+◌, List, [], ◌∷◌, ◌++◌, length, refl, ap, arith, take, get_or, ◌<◌, ◌≤◌, add-one, length-append, append_assoc, sym, ◌∙◌}
 use Rattle.std.proofs.Math.Seq.{take-suc}
 use Rattle.std.proofs.lemmas.List.{take_all}
-use Rattle.std.specs.Prelude.{Option, Some, None, slice_get}
+use Rattle.std.specs.Prelude.{slice_get}
 use Rattle.std.specs.Option.{option_map}
 use Rattle.vf_ber.specs.declared.value.Value.{Value}
-use Rattle.vf_ber.specs.Tree.{Tree, Trees, none, more, joined, count, part_at, nodes, nodes_in, depth, depth_in}
+use Rattle.vf_ber.specs.Tree.{Trees, none, more, joined, count, part_at, nodes, nodes_in, depth, depth_in}
 use Rattle.vf_ber.specs.Spelling.{spell, spells}
 use Rattle.vf_ber.specs.Views.{tree_of, trees_in}
 

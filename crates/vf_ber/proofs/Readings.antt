@@ -6,9 +6,9 @@ use Rattle.std.proofs.lemmas.Option.{option_and_then_some}
 use Rattle.std.proofs.lemmas.Bool.{ltb-false}
 use Rattle.std.proofs.lemmas.List.{append-nil, take-append-drop, take_at, drop_at, length-take}
 use Rattle.vf_ber.specs.Tree.{Tag, Tree, plain, built, Trees, none, more, alone}
-use Rattle.vf_ber.specs.Tags.{IsTag, IsTree, AreTrees}
+use Rattle.vf_ber.specs.Tags.{IsTag, AreTrees}
 use Rattle.vf_ber.specs.Spelling.{header, spell, spells}
-use Rattle.vf_ber.specs.Reading.{Head, head_at, value_at, values_at, values_behind, values_with, Reading, Short, Bad, Read, Cut, Begun, Wrong, Whole, whole, cut, cut_length, is_start, reading, reading_of}
+use Rattle.vf_ber.specs.Reading.{Head, head_at, value_at, values_at, values_behind, values_with, Read, Cut, Begun, Wrong, Whole, whole, cut, cut_length, is_start, reading_of}
 use Rattle.vf_ber.specs.Laws.{BeginsWith, IsSound, IsComplete}
 use Rattle.vf_ber.proofs.Heads.{head_sound, head_complete, header_some}
 use Rattle.vf_ber.proofs.InTurn.{one_read}

@@ -1,6 +1,5 @@
 -- Trees told apart by a code, which the model of a list of values wants.
 use Rattle.std.specs.Prelude.{◌≡◌, ℕ, List, refl}
-use Rattle.std.proofs.Common.{ap}
 use Rattle.std.specs.Coded.{Coded, code_by, coded×, coded_ℕ, coded_list}
 use base.Stored.{Gv, gnil, gcons}
 use Rattle.vf_ber.specs.Tree.{Tag, Tree, plain, built, Trees, none, more}

@@ -1,5 +1,5 @@
 -- No value is deeper than its tree has nodes, which the model of a list of values wants.
-use Rattle.std.specs.Prelude.{ℕ, ◌+◌, ◌≤◌, max, List, [], ◌∷◌}
+use Rattle.std.specs.Prelude.{◌≤◌, max, List, [], ◌∷◌}
 use Rattle.std.proofs.Common.{arith}
 use denote.Param.Weighed.{most}
 use Rattle.vf_ber.specs.declared.value.Value.{Value}

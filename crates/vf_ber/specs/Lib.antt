@@ -1,4 +1,5 @@
 pub mod Code
+pub mod Contents
 pub mod Falls
 pub mod Laws
 pub mod Limits

@@ -1,6 +1,6 @@
 -- How deep and how long a value may be (profile).
-use Rattle.std.specs.Prelude.{ℕ, ◌<◌, ◌+◌, ◌&&◌, nat_le, ◌⊎◌, length, Option, Some, None, if◌then◌else◌}
-use Rattle.vf_ber.specs.Tree.{Tag, Tree, Trees, depth, depth_in}
+use Rattle.std.specs.Prelude.{ℕ, ◌<◌, ◌&&◌, nat_le, ◌⊎◌, length, Option, Some, None, if◌then◌else◌}
+use Rattle.vf_ber.specs.Tree.{Tree, Trees, depth, depth_in}
 use Rattle.vf_ber.specs.Spelling.{spell, spells}
 
 -- its canonical spelling passes a limit

@@ -1,6 +1,6 @@
 -- Tags (ISO 8825, 8.1.2): a class of 0 to 3 and a number, at most 16,383 in this profile. Universal 0 is the
 -- end of contents, and no value has it.
-use Rattle.std.specs.Prelude.{ℕ, ◌+◌, ◌≤◌, ◌<◌, List}
+use Rattle.std.specs.Prelude.{◌+◌, ◌≤◌, ◌<◌}
 use Rattle.vf_ber.specs.Tree.{Tag, Tree, plain, built, Trees, none, more}
 
 pub record IsTag (tag : Tag) : Type 0 where

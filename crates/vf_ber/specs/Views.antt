@@ -1,5 +1,5 @@
 -- Values of the code as trees.
-use Rattle.std.specs.Prelude.{ℕ, List, [], ◌∷◌}
+use Rattle.std.specs.Prelude.{List, [], ◌∷◌}
 use Rattle.vf_ber.specs.declared.tag.Tag.{Tag}
 use Rattle.vf_ber.specs.declared.value.Value.{Value}
 use Rattle.vf_ber.specs.declared.value.Value.TheVariants.{Plain, Built}

@@ -1,6 +1,7 @@
 //! Values in the basic encoding rules (ISO 8825).
 #![tactic(auto)]
 
+mod contents;
 mod errors;
 mod laws;
 mod measure;

@@ -1,9 +1,8 @@
-use Rattle.std.proofs.Common.{rules, ◌≡◌, ◌<◌, length, refl, ap, sym, ◌∙◌, arith, drop}
-use Rattle.std.specs.Prelude.{Option, Some, None}
+use Rattle.std.proofs.Common.{rules, ◌≡◌, ◌<◌, length, ap, sym, ◌∙◌, arith}
+use Rattle.std.specs.Prelude.{Some}
 use Rattle.std.specs.Option.{option_map}
-use Rattle.vf_ber.specs.Reading.{head_at, value_at, values_at}
-use Rattle.vf_ber.specs.Views.{tag_of, tree_of}
-use Rattle.vf_ber.proofs.InTurn.{onto, spent, at_end, no_head, one_read, joined-none, not_read, next}
+use Rattle.vf_ber.specs.Views.{tree_of}
+use Rattle.vf_ber.proofs.InTurn.{onto, spent, at_end, no_head, joined-none, not_read, next}
 use Rattle.vf_ber.proofs.reading.+read.Goals as goal
 
 pub values_of-returns-then-left-eq0 : goal.values_of-returns-then-left-eq0

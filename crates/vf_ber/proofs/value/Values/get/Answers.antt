@@ -1,11 +1,11 @@
-use Rattle.std.proofs.Common.{◌≡◌, ◌∙◌, sym, ap, subst, List, ℕ, ◌<◌, ◌≤◌, length, get_or, Bor, refl}
+use Rattle.std.proofs.Common.{◌≡◌, ◌∙◌, sym, ap, List, ℕ, ◌<◌, ◌≤◌, length, get_or, Bor, refl}
 use Rattle.std.specs.Prelude.{Option, Some, None, IfSome, MatchOption, slice_get}
 use Rattle.std.specs.Option.{option_copied, option_map}
 use Rattle.std.specs.List.{HoldsAt}
 use Rattle.std.proofs.lemmas.Option.{slice_get_past, slice_get_read}
 use Rattle.vf_ber.specs.declared.value.Value.{Value}
 use Rattle.vf_ber.specs.Tree.{part_at}
-use Rattle.vf_ber.specs.Views.{tree_of, trees_in}
+use Rattle.vf_ber.specs.Views.{tree_of}
 use Rattle.vf_ber.proofs.Lists.{part_at-trees_in}
 use Rattle.vf_ber.proofs.value.Values.get.Goals as goal
 
