@@ -27,7 +27,8 @@ IsIdle idle party = (party.link ≡ idle.link) × (association party.history ≡
 
 abbrev pub IsAssociated : Associated → StandingParty → Type 0
 IsAssociated associated party =
-    (party.link ≡ associated.link) × (association party.history ≡ Some associated.units) × (selection party.history ≡ None)
+    (party.link ≡ associated.link) × (association party.history ≡ Some associated.units)
+    × (selection party.history ≡ None)
 
 abbrev pub IsSelected : Selected → StandingParty → Type 0
 IsSelected selected party =
@@ -82,7 +83,8 @@ Meets link turn outcome =
 -- this was said, nothing changed, and the party is gone
 abbrev pub IsGone : Party → List Said → Outcome → Type 0
 IsGone party said outcome =
-    (outcome.said.items ≡ said) × (outcome.changes ≡ []) × (outcome.party ≡ parties.Idle (record { link = link_of party }))
+    (outcome.said.items ≡ said) × (outcome.changes ≡ [])
+    × (outcome.party ≡ parties.Idle (record { link = link_of party }))
 
 -- this was said, nothing changed, and the party stays
 abbrev pub IsAnswered : Party → List Said → Outcome → Type 0

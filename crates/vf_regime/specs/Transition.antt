@@ -22,7 +22,8 @@ pub record Turn : Type 0 where
 
 -- the response to a request, with the diagnostic where it is refused; a refused initialize agrees no units
 abbrev pub response : Option Diagnostic → Pdu → List Said
-response diagnostic (InitializeRequest units) = answers.Pdu (InitializeResponse diagnostic (if is_none diagnostic then agreed units else 0)) ∷ []
+response diagnostic (InitializeRequest units) =
+    answers.Pdu (InitializeResponse diagnostic (if is_none diagnostic then agreed units else 0)) ∷ []
 response diagnostic TerminateRequest = answers.Pdu TerminateResponse ∷ []
 response diagnostic (SelectRequest name) = answers.Pdu (SelectResponse diagnostic) ∷ []
 response diagnostic DeselectRequest = answers.Pdu (DeselectResponse diagnostic) ∷ []
@@ -48,7 +49,8 @@ entry_of state moment request = record {
 
 -- the party with a concluded message in its trace and its history
 abbrev pub with_entry : Entry → StandingParty → StandingParty
-with_entry entry party = record { link = party.link; trace = entry.message ∷ party.trace; history = entry ∷ party.history }
+with_entry entry party =
+    record { link = party.link; trace = entry.message ∷ party.trace; history = entry ∷ party.history }
 
 -- the party after a concluded message; after a terminate it is gone
 abbrev pub concludes : State → ℕ → Pdu → StandingParty → Option StandingParty
@@ -62,7 +64,8 @@ leaves said = record { said = said; changes = []; party = None }
 abbrev pub turn_by : Option Refusal → State → StandingParty → ℕ → Pdu → Turn
 turn_by (Some (AbortOf number)) state party moment request = leaves (answers.Abort number 0 ∷ [])
 turn_by (Some (DiagnosticOf diagnostic)) state party moment request =
-    record { said = response (Some diagnostic) request; changes = []; party = Some (with_message (messages.Pdu request) party) }
+    let next = with_message (messages.Pdu request) party in
+    record { said = response (Some diagnostic) request; changes = []; party = Some next }
 turn_by None state party moment request =
     record { said = response None request; changes = effects request; party = concludes state moment request party }
 

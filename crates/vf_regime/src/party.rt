@@ -134,7 +134,7 @@ mod tests {
         let alloc = rt.alloc();
         let mut tables = Tables::new(alloc);
         let mut party = Party::idle(1);
-        for (row, (sent, said, number, stage, files)) in [
+        let rows = [
             (Sent::Select(b'a'), "abort", 199, Stage::Idle, 0),
             (Sent::Initialize(7), "abort", 199, Stage::Idle, 0),
             (Sent::Initialize(15), "initialize", 15, Stage::Associated, 0),
@@ -152,26 +152,42 @@ mod tests {
             (Sent::Terminate, "terminate", 0, Stage::Idle, 2),
             (Sent::Initialize(15), "initialize", 15, Stage::Associated, 2),
             (Sent::Break, "", 0, Stage::Idle, 2),
-        ]
-        .into_iter()
-        .enumerate()
-        {
-            let message = message(alloc, sent)?;
-            let moment = Moment::of(0)?;
-            let Ok(outcome) = party.take(alloc, message, moment, 1, false, false, &tables) else {
-                return Err(BaseError::NoMemory);
-            };
-            tables.apply(alloc, outcome.changes)?;
-            party = outcome.party;
-            assert_eq!(rt;
-                name_and_number(outcome.said.as_slice()),
-                (said, number),
-                "at {row}"
+        ];
+        for (row, &(sent, said, number, stage, files)) in rows.iter().enumerate() {
+            let (next, answer, answer_number) = answer(alloc, party, &mut tables, sent)?;
+            party = next;
+            assert!(rt;
+                answer == said && answer_number == number,
+                "what is said at {row}"
             );
-            assert_eq!(rt; party.stage(), stage, "at {row}");
-            assert_eq!(rt; tables.files.len(), files, "at {row}");
+            assert!(rt;
+                party.stage() == stage && tables.files.len() == files,
+                "what stands at {row}"
+            );
         }
         Ok(())
+    }
+
+    /// Takes the message and makes its changes; the party after it, and what was said.
+    fn answer(
+        alloc: Global,
+        party: Party,
+        tables: &mut Tables,
+        sent: Sent,
+    ) -> Result<(Party, &'static str, u16), BaseError> {
+        let message = message(alloc, sent)?;
+        let moment = Moment::of(0)?;
+        let Ok(outcome) = party.take(alloc, message, moment, 1, false, false, tables) else {
+            return Err(BaseError::NoMemory);
+        };
+        let Outcome {
+            party,
+            said,
+            changes,
+        } = outcome;
+        tables.apply(alloc, changes)?;
+        let (answer, number) = name_and_number(said.as_slice());
+        Ok((party, answer, number))
     }
 
     fn message(alloc: Global, sent: Sent) -> Result<Message, BaseError> {
