@@ -6,7 +6,11 @@ use crate::{ReadFault, Source};
 use std::alloc::Global;
 
 /// Reads a source to its end, or until more than `limit` octets have come.
-pub fn read_up_to<S: Source>(alloc: Global, source: &mut S, limit: usize) -> Result<Vec<u8>, ReadFault>
+pub fn read_up_to<S: Source>(
+    alloc: Global,
+    source: &mut S,
+    limit: usize,
+) -> Result<Vec<u8>, ReadFault>
     ensures octets { IfOk result (λ octets. HasRead (S.left source.old) (S.left source.new) octets.items) }
     ensures end { IfOk result (λ octets. length octets.items ≤ limit → IsAtEnd (S.left source.new)) }
     ensures lost { OnErr result ((front : List ℕ) × HasRead (S.left source.old) (S.left source.new) front) }

@@ -27,6 +27,8 @@ mod source;
 mod spdu_kind;
 mod streams;
 mod term;
+#[cfg(test)]
+mod tests;
 
 pub use access::{Constraint, Context, FaduId};
 pub use action::{Action, Actions, Control, Controls};
