@@ -1,6 +1,6 @@
 -- Reading call by call.
 use Rattle.std.proofs.Common.{◌≡◌, ◌∙◌, ap, sym, refl, ℕ, List, [], ◌++◌, take, append_assoc, Option, None, Some, Ok}
-use Rattle.vf_base.specs.Streams.{Reads, HasRead, IsAtEnd}
+use Rattle.vf_base.specs.Streams.{Reads, HasRead}
 
 pub read_none : (left : Option (List ℕ)) → HasRead left left []
 read_none None = refl

@@ -1,6 +1,6 @@
 -- What a source has left and what a sink has taken (profile). An object in memory tells it, and one over the
 -- real world tells nothing, so that clauses on content are empty there.
-use Rattle.std.specs.Prelude.{◌≡◌, ℕ, ◌≤◌, length, List, [], ◌++◌, take, Option, None, Some, Result, Ok, Err}
+use Rattle.std.specs.Prelude.{◌≡◌, ℕ, List, [], ◌++◌, take, Option, None, Some, Result, Ok, Err}
 use Rattle.vf_base.specs.declared.errors.Failed.{Failed}
 
 -- A read gave the next octets, none of them only at the end. One that failed gave none.

@@ -74,11 +74,15 @@ fn arcs_end_at_their_limits(rt: HostRuntime) -> Result<(), Fail> {
 fn sources_are_read_to_their_end(rt: HostRuntime) -> Result<(), Fail> {
     let alloc = rt.alloc();
     let mut source = SliceSource::new(b"abcdef", [3].to_vec(alloc)?);
-    assert!(rt; read_up_to(alloc, &mut source, 6).is_ok_and(|all| all.as_slice() == b"abcdef".as_slice()));
+    assert!(rt;
+        read_up_to(alloc, &mut source, 6).is_ok_and(|all| all.as_slice() == b"abcdef".as_slice())
+    );
     assert!(rt; read_up_to(alloc, &mut source, 6).is_err());
     assert!(rt; source.faults() == 1);
     let mut source = ReadSource::new(b"abcdef".as_slice());
-    assert!(rt; read_up_to(alloc, &mut source, 5).is_ok_and(|all| all.as_slice() == b"abcdef".as_slice()));
+    assert!(rt;
+        read_up_to(alloc, &mut source, 5).is_ok_and(|all| all.as_slice() == b"abcdef".as_slice())
+    );
     Ok(())
 }
 

@@ -1,6 +1,5 @@
 use Rattle.std.proofs.Common.{◌≡◌, ◌-◌, ◌+◌, length}
 use Rattle.vf_base.specs.Streams.{HasRead}
-use Rattle.vf_base.proofs.StreamLemmas.{read_none}
 use Rattle.vf_base.proofs.input.read_up_to.Given as goal
 
 -- the octets so far were read without a fault

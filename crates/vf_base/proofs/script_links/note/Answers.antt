@@ -1,4 +1,4 @@
-use Rattle.std.proofs.Common.{◌≡◌, ◌≤◌, sym, ◌∙◌, ap, arith, rules, length, true, false}
+use Rattle.std.proofs.Common.{◌≡◌, sym, ◌∙◌, ap, arith, rules, length, true, false}
 use Rattle.vf_base.specs.Links.{has_arrived, has_note}
 use Rattle.vf_base.proofs.LinkLemmas.{once_noted, room_for}
 use Rattle.vf_base.proofs.script_links.note.Goals as goal

@@ -1,6 +1,5 @@
-use Rattle.std.proofs.Common.{refl, ◌≡◌, ◌∙◌, ap, sym, ◌++◌, rules, slice_get, option_map, option_copied, option_to_list, None, Some}
+use Rattle.std.proofs.Common.{refl, ◌≡◌, ◌∙◌, ap, ◌++◌, rules, slice_get, option_to_list, None, Some}
 use Rattle.vf_base.specs.Dial.{Call}
-use Rattle.vf_base.specs.Memory.{said}
 use Rattle.vf_base.proofs.ListLemmas.{said_at}
 use Rattle.vf_base.proofs.script_dial.ScriptDial.said.Goals as goal
 

@@ -1,4 +1,4 @@
-use Rattle.std.proofs.Common.{◌≡◌, ap, ◌∙◌, rules, [], ◌++◌}
+use Rattle.std.proofs.Common.{◌≡◌, ap, ◌∙◌, rules}
 use Rattle.vf_base.specs.Script.{octets_of}
 use Rattle.vf_base.specs.declared.events.ScriptEvent.TheVariants as script
 use Rattle.vf_base.proofs.LinkLemmas.{hands_out}
