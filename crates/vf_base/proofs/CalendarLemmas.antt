@@ -1,13 +1,13 @@
 -- Counting off years and months comes to the date that jiff has.
 use Rattle.std.proofs.lemmas.Int.{by_lt_z}
 use Rattle.std.proofs.lemmas.Bool.{cases_order, lt-ltb, le-ltb}
-use Rattle.std.proofs.Common.{◌≡◌, ℕ, zero, suc, ◌+◌, ◌-◌, ◌<◌, ◌≤◌, ◌⊎◌, inl, inr, nat_lt, true, false, refl, sym, ap, subst, ◌∙◌, arith, rules, ℤ, pos, negsuc, ◌+ℤ◌, ◌<ℤ◌, ◌≤ℤ◌, unsigned_abs, if◌then◌else◌}
+use Rattle.std.proofs.Common.{◌≡◌, ℕ, zero, suc, ◌+◌, ◌-◌, ◌<◌, ◌≤◌, inl, inr, refl, sym, arith, ℤ, pos, negsuc, ◌≤ℤ◌, unsigned_abs}
 use Rattle.jiff_core.specs.declared.civil.date.Date.{Date}
 use Rattle.jiff_core.specs.Calendar.{day_count, days_of_months, day_of_year, IsCivilDate, days_from_civil}
 use Rattle.jiff_core.specs.Date.{epoch_day}
 use Rattle.jiff_core.proofs.CalendarLemmas.{day_count-later_year, day_count-next_year, days_of_months_more, days_of_months_mono, day_of_year_bound, day_count-day_of_year, days_from_civil-day_count, day_count-lt_year, day_count-epoch, days_of_months-zero}
 use Rattle.jiff_core.proofs.SignedLemmas.{signed_arith}
-use Rattle.vf_base.specs.Calendar.{year_length, month_length, year_of, month_of, Civil, civil_date}
+use Rattle.vf_base.specs.Calendar.{year_length, month_length, year_of, month_of, civil_date}
 
 -- a year is counted off to the one in which the day falls
 year_of-is : (turns year days goal rest : ℕ) → rest < year_length goal → year ≤ goal → goal < year + turns → day_count (pos year) 1 1 + days ≡ day_count (pos goal) 1 1 + rest → year_of turns year days ≡ (goal, rest)

@@ -1,2 +1,4 @@
 pub mod CalendarLemmas
+pub mod LinkLemmas
 pub mod ListLemmas
+pub mod StreamLemmas

@@ -1,5 +1,5 @@
 -- The Gregorian calendar in UTC, from 1970 on (ISO 8601): years and months are counted off day by day.
-use Rattle.std.specs.Prelude.{ℕ, zero, suc, ◌+◌, ◌-◌, ◌%◌, ◌/◌, Bool, not, ◌&&◌, ◌||◌, ◌==◌, nat_lt, if◌then◌else◌}
+use Rattle.std.specs.Prelude.{ℕ, zero, suc, ◌+◌, ◌-◌, ◌%◌, Bool, not, ◌&&◌, ◌||◌, ◌==◌, nat_lt, if◌then◌else◌}
 
 -- every fourth year, but of the full centuries only every fourth
 abbrev pub is_leap : ℕ → Bool

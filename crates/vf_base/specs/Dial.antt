@@ -1,5 +1,5 @@
 -- A dial (profile): one connection after another to one peer. It may tell what was said and heard on each.
-use Rattle.std.specs.Prelude.{◌≡◌, ℕ, Bool, true, false, not, nat_eq, List, [], ◌∷◌, ◌++◌, take, drop, Option, None, Some, Result, Ok, Err}
+use Rattle.std.specs.Prelude.{◌≡◌, ℕ, Bool, false, not, nat_eq, List, [], ◌∷◌, ◌++◌, take, drop, Option, None, Some, Result, Ok, Err}
 use Rattle.vf_base.specs.declared.errors.Failed.{Failed}
 
 -- A connection: the octets that its peer took and gave, and those that the peer gives yet before it ends the

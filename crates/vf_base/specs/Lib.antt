@@ -6,4 +6,5 @@ pub mod Memory
 pub mod Moment
 pub mod Name
 pub mod Oid
+pub mod Script
 pub mod Streams

@@ -12,26 +12,31 @@ use Rattle.vf_base.specs.declared.events.LinkFault.TheVariants as fault
 use Rattle.vf_base.specs.declared.events.ScriptEvent.{ScriptEvent}
 use Rattle.vf_base.specs.declared.events.ScriptEvent.TheVariants as script
 
--- What is told. `left` are the events that are still to be handed out. In `failed` each link that has arrived and
--- a send of which has failed stands once, in the order of the first such sends, with the number of events that
--- were handed out before it.
-pub record Story : Type 0 where
-  pub events : List ScriptEvent
-  pub left : List ScriptEvent
-  pub taken : ℕ → List ℕ
-  pub shut : List ℕ
-  pub failed : List (ℕ × ℕ)
-
 abbrev pub arrives : ℕ → ScriptEvent → Bool
-arrives link (script.Arrived number) = nat_eq number link
+arrives link (script.Arrived number) = nat_eq link number
 arrives link (script.Octets number moment octets) = false
 arrives link (script.Ended number) = false
 
 abbrev pub has_arrived : ℕ → List ScriptEvent → Bool
 has_arrived link events = list_any (arrives link) events
 
-abbrev pub has_failed : ℕ → List (ℕ × ℕ) → Bool
-has_failed link failed = list_any (λ entry. nat_eq entry.0 link) failed
+-- Notes on links: each with the number of events that were handed out before it.
+abbrev pub has_note : ℕ → List (ℕ × ℕ) → Bool
+has_note link notes = list_any (λ note. nat_eq link note.0) notes
+
+-- a link that has arrived is noted at its first time alone
+abbrev pub noted : ℕ → List ScriptEvent → List (ℕ × ℕ) → List (ℕ × ℕ)
+noted link events notes =
+    if has_arrived link events && not (has_note link notes) then notes ++ (link, length events) ∷ [] else notes
+
+-- What is told: the events that were handed out, oldest first, and those that are left; the octets taken on each
+-- link; the links that were shut; and those a send of which has failed, in the order of the first such sends.
+pub record Story : Type 0 where
+  pub events : List ScriptEvent
+  pub left : List ScriptEvent
+  pub taken : ℕ → List ℕ
+  pub shut : List (ℕ × ℕ)
+  pub failed : List (ℕ × ℕ)
 
 -- the event of an answer, with the octets that came
 abbrev pub event_of : LinkEvent → List ℕ → Option ScriptEvent
@@ -97,8 +102,7 @@ after_octets link octets story =
     record story { taken = λ number. if nat_eq number link then story.taken number ++ octets else story.taken number }
 
 abbrev pub after_fault : ℕ → Story → Story
-after_fault link story =
-    record story { failed = if has_arrived link story.events && not (has_failed link story.failed) then story.failed ++ (link, length story.events) ∷ [] else story.failed }
+after_fault link story = record story { failed = noted link story.events story.failed }
 
 -- A send that fails has taken a front of its octets.
 abbrev pub Sends : Option Story → Option Story → ℕ → List ℕ → Result (Unit {0}) Failed → Type 0
@@ -107,10 +111,8 @@ Sends (Some old) new link octets (Ok done) = new ≡ Some (after_octets link oct
 Sends (Some old) new link octets (Err failed) =
     (front rest : List ℕ) × (octets ≡ front ++ rest) × (new ≡ Some (after_fault link (after_octets link front old)))
 
--- a link that has arrived is shut at most once
 abbrev pub after_shut : ℕ → Story → Story
-after_shut link story =
-    record story { shut = if has_arrived link story.events && not (list_any (nat_eq link) story.shut) then story.shut ++ link ∷ [] else story.shut }
+after_shut link story = record story { shut = noted link story.events story.shut }
 
 abbrev pub Shuts : Option Story → Option Story → ℕ → Type 0
 Shuts None new link = new ≡ None

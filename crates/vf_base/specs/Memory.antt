@@ -1,5 +1,5 @@
 -- What the objects in memory hold (profile).
-use Rattle.std.specs.Prelude.{◌≡◌, ℕ, Bool, false, List, ◌∷◌}
+use Rattle.std.specs.Prelude.{◌≡◌, ℕ, Bool, false, List, ◌∷◌, map, reverse}
 use Rattle.vf_base.specs.Dial.{Call, Talk, Hears, OnNewest, says}
 use Rattle.vf_base.specs.Faults.{counted}
 
@@ -35,3 +35,7 @@ abbrev pub Heard : Dialled → Dialled → List ℕ → ℕ → Type 0
 Heard old new into count =
     OnNewest old.talk.calls (λ call calls.
     (heard : Call) × (Hears call heard into count) × (new ≡ record old { talk = record old.talk { calls = heard ∷ calls } }))
+
+-- what was said on each connection, oldest first
+abbrev pub said : Dialled → List (List ℕ)
+said dial = map (λ call. call.said) (reverse dial.talk.calls)

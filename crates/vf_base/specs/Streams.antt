@@ -16,3 +16,13 @@ Writes None new octets result = new ≡ None
 Writes (Some old) new octets (Ok done) = new ≡ Some (old ++ octets)
 Writes (Some old) new octets (Err failed) =
     (front rest : List ℕ) × (octets ≡ front ++ rest) × (new ≡ Some (old ++ front))
+
+-- these octets were read, by any number of calls
+abbrev pub HasRead : Option (List ℕ) → Option (List ℕ) → List ℕ → Type 0
+HasRead None new octets = new ≡ None
+HasRead (Some old) new octets = (rest : List ℕ) × (old ≡ octets ++ rest) × (new ≡ Some rest)
+
+-- nothing is left, where the source tells it
+abbrev pub IsAtEnd : Option (List ℕ) → Type 0
+IsAtEnd None = Unit {0}
+IsAtEnd (Some octets) = octets ≡ []

@@ -20,6 +20,15 @@ impl<T: Drop> From<AllocFailed<T>> for NoMemory {
 #[derive(Clone, Copy, Debug, PartialEq, Eq)]
 pub struct Failed;
 
+/// Why a source could not be read.
+#[derive(Clone, Copy, Debug, PartialEq, Eq)]
+pub enum ReadFault {
+    /// The source failed, and its count rose in this call.
+    Failed,
+    /// Memory is wanting.
+    NoMemory,
+}
+
 /// Why octets, arcs or seconds could not be made a plain value.
 #[derive(Clone, Copy, Debug, PartialEq, Eq)]
 pub enum BaseError {

@@ -1,4 +1,7 @@
-use crate::{Moment, Octets};
+ghost use Rattle.std.specs.Prelude.{◌≡◌, IfOk};
+
+use crate::{Moment, NoMemory, Octets};
+use std::alloc::Global;
 
 /// What comes next on the links; the octets of an event stand beside it.
 #[derive(Clone, Copy, Debug, PartialEq, Eq)]
@@ -37,4 +40,48 @@ pub enum ScriptEvent {
     Ended {
         link: u32,
     },
+}
+
+impl ScriptEvent {
+    /// The same event; its octets are shared.
+    pub fn copy(&self, alloc: Global) -> Result<ScriptEvent, NoMemory>
+        ensures { IfOk result (λ made. made ≡ self.now) }
+    {
+        match self {
+            ScriptEvent::Arrived { link } => Ok(ScriptEvent::Arrived { link: *link }),
+            ScriptEvent::Octets {
+                link,
+                moment,
+                octets,
+            } => {
+                let octets = octets.copy(alloc)?;
+                Ok(ScriptEvent::Octets {
+                    link: *link,
+                    moment: *moment,
+                    octets,
+                })
+            }
+            ScriptEvent::Ended { link } => Ok(ScriptEvent::Ended { link: *link }),
+        }
+    }
+}
+
+/// Octets that were taken on a link.
+#[derive(Drop)]
+pub struct Piece {
+    pub link: u32,
+    pub octets: Octets,
+}
+
+impl Piece {
+    /// The same piece; its octets are shared.
+    pub fn copy(&self, alloc: Global) -> Result<Piece, NoMemory>
+        ensures { IfOk result (λ made. made ≡ self.now) }
+    {
+        let octets = self.octets.copy(alloc)?;
+        Ok(Piece {
+            link: self.link,
+            octets,
+        })
+    }
 }

@@ -1,6 +1,6 @@
-ghost use Rattle.std.specs.Prelude.{◌≡◌, ◌<◌, ◌≤◌, ◌++◌, [], ◌∷◌, List, ℕ, Some, vec_len, vec_capacity, true, false, length, take, drop, reverse, option_to_list, None, IfOk, OnOk, OnErr};
+ghost use Rattle.std.specs.Prelude.{◌≡◌, ◌<◌, ◌≤◌, ◌++◌, [], ◌∷◌, List, ℕ, Some, vec_len, vec_capacity, true, false, length, take, drop, reverse, option_to_list, option_copied, slice_get, None, IfOk, OnOk, OnErr};
 ghost use Rattle.vf_base.specs.Dial.{Hears, says, after_connect, next_of};
-ghost use Rattle.vf_base.specs.Memory.{Said, Heard, after_loss};
+ghost use Rattle.vf_base.specs.Memory.{Said, Heard, after_loss, said};
 ghost use Rattle.vf_base.specs.Faults.{HasRisen, counted};
 
 use crate::plan::Plan;
@@ -122,6 +122,16 @@ impl ScriptDial {
             lost: 0,
             plan: Plan::new(failing),
         })
+    }
+
+    /// What was said on a connection, the first one being 0; absent exactly where there is none.
+    pub fn said(&self, connection: usize) -> Option<&[u8]>
+        ensures { option_copied result ≡ slice_get (said self.now) connection }
+    {
+        match line_at(self.earlier.as_slice(), &self.last, connection) {
+            Some(line) => Some(line.said.as_slice()),
+            None => None,
+        }
     }
 
     /// Begins a connection.
@@ -254,4 +264,17 @@ fn set_by(earlier: &mut Vec<Line>, last: &mut Option<Line>)
     if let Some(line) = last.take() {
         earlier.push_reserved(line);
     }
+}
+
+/// The line at a place, the last one standing behind the earlier ones.
+fn line_at<'a>(earlier: &'a [Line], last: &'a Option<Line>, place: usize) -> Option<&'a Line>
+    ensures { option_copied result ≡ slice_get (earlier.now ++ option_to_list last.now) place }
+{
+    if place < earlier.len() {
+        return Some(&earlier[place]);
+    }
+    if place > earlier.len() {
+        return None;
+    }
+    last.as_ref()
 }

@@ -1,4 +1,4 @@
-use Rattle.std.proofs.Common.{◌≡◌, ℤ, FitsSigned, w8, w16, arith}
+use Rattle.std.proofs.Common.{FitsSigned, w8, w16, arith}
 use Rattle.jiff.proofs.SpanFacts.{signed_arith}
 use Rattle.std.proofs.lemmas.Int.{to_z-of_z}
 use Rattle.jiff_core.proofs.CalendarLemmas.{days_in_month_bounds}

@@ -1,4 +1,4 @@
-use Rattle.std.proofs.Common.{◌≡◌, ◌∙◌, pos, ◌+ℤ◌, arith, rules, w64}
+use Rattle.std.proofs.Common.{◌∙◌, pos, arith, rules, w64}
 use Rattle.std.proofs.lemmas.Int.{to_z_pos}
 use Rattle.jiff.proofs.SpanFacts.{signed_arith, date_add-days, can_add-days}
 use Rattle.vf_base.proofs.CalendarLemmas.{epoch}
