@@ -20,7 +20,7 @@ use Rattle.vf_regime.specs.History.{History, association, selection, stage}
 use Rattle.vf_regime.specs.Refusal.{Refusal, AbortOf, DiagnosticOf, first_row, is_built, not_built, rows}
 use Rattle.vf_regime.specs.Represents.{IsAnswered, IsNext, IsStep, IsTransition, MeetsStep, Represents, with_tables}
 use Rattle.vf_regime.specs.State.{State, StandingParty}
-use Rattle.vf_regime.specs.Transition.{Turn, concludes, effects, hears, leaves, response, transition, turn_by}
+use Rattle.vf_regime.specs.Transition.{Turn, concludes, effects, with_message, leaves, response, transition, turn_by}
 
 stage_by : Option (List ℕ) → Option ℕ → Stage
 stage_by selection association = if is_some selection then stages.Selected else if is_some association then stages.Associated else stages.Idle
@@ -52,7 +52,7 @@ module _ (state : State) (party : StandingParty) (moment : ℕ) (request : Pdu) 
   pub refused_turn : (diagnostic : Diagnostic) → is_built (stage party.history) request ≡ true
       → first_row (rows state.files request) ≡ Some (DiagnosticOf diagnostic)
       → transition state party moment (messages.Pdu request)
-      ≡ record { said = response (Some diagnostic) request; changes = []; party = Some (hears (messages.Pdu request) party) }
+      ≡ record { said = response (Some diagnostic) request; changes = []; party = Some (with_message (messages.Pdu request) party) }
   unfolding decided
   refused_turn diagnostic built row = λ i. decided (built i) (row i)
 
@@ -77,29 +77,29 @@ module _ {Old New : Type 0} (before : Old → StandingParty → Type 0) (after :
   -- a step that gives its state back with the diagnostic of the row that refuses
   pub refused_step : (diagnostic : Diagnostic) → is_built (stage party.history) request ≡ true
       → first_row (rows state.files request) ≡ Some (DiagnosticOf diagnostic)
-      → before old (hears (messages.Pdu request) party)
+      → before old (with_message (messages.Pdu request) party)
       → MeetsStep before after (transition state party moment (messages.Pdu request)) old request (Err (old, errors.Refused diagnostic))
   refused_step diagnostic built row represents =
       let turn = refused_turn state party moment request diagnostic built row in
-      (ap (λ (t : Turn). t.said) turn, ap (λ (t : Turn). t.changes) turn, (hears (messages.Pdu request) party, ap (λ (t : Turn). t.party) turn, represents))
+      (ap (λ (t : Turn). t.said) turn, ap (λ (t : Turn). t.changes) turn, (with_message (messages.Pdu request) party, ap (λ (t : Turn). t.party) turn, represents))
 
 -- an answer that leaves the party as it is meets a turn that says the same, changes nothing and goes on with it
 pub answered_turn : (tables : Tables) (party : Party) (moment : ℕ) (message : Message) (said : List Said) (result : Result Outcome (Party × NoMemory))
     → MatchResult result (IsAnswered party said) (λ back. back.0 ≡ party)
     → ((state : State) (standing : StandingParty) → Represents party standing
     → ((transition (with_tables tables state) standing moment message).said ≡ said) × ((transition (with_tables tables state) standing moment message).changes ≡ [])
-    × IsNext (transition (with_tables tables state) standing moment message).party party)
+    × IsNext standing.link (transition (with_tables tables state) standing moment message).party party)
     → IsTransition tables party moment message result
 answered_turn tables party moment message said (Ok outcome) answered goes = λ state standing represents.
     let turn = transition (with_tables tables state) standing moment message in
     let gone = goes state standing represents in
-    (answered.0 ∙ sym gone.0, answered.1 ∙ sym gone.1, subst (IsNext turn.party) (sym answered.2) gone.2)
+    (answered.0 ∙ sym gone.0, answered.1 ∙ sym gone.1, subst (IsNext standing.link turn.party) (sym answered.2) gone.2)
 answered_turn tables party moment message said (Err back) answered goes = answered
 
 -- a step that gives its state back with a diagnostic, and an answer that says the response with it
 pub refused_answer : {Old New : Type 0} (before : Old → StandingParty → Type 0) (after : New → StandingParty → Type 0) (wrap : Old → Party)
     → ((old : Old) (standing : StandingParty) → Represents (wrap old) standing → before old standing)
-    → ((old : Old) (next : StandingParty) → before old next → IsNext (Some next) (wrap old))
+    → ((link : ℕ) (old : Old) (next : StandingParty) → before old next → IsNext link (Some next) (wrap old))
     → (tables : Tables) (old back : Old) (request : Pdu) (moment : ℕ) (error : StepError) (diagnostic : Diagnostic) (said : List Said)
     (result : Result Outcome (Party × NoMemory))
     → IsStep before after tables old request moment (Err (back, error)) → back ≡ old → error ≡ errors.Refused diagnostic
@@ -113,5 +113,5 @@ refused_answer {Old} before after wrap into out tables old back request moment e
     let meets = subst (λ (e : StepError). MeetsStep before after turn old request (Err (back, e))) refused (step state standing (into old standing represents)) in (
       meets.0 ∙ sym says,
       meets.1,
-      subst (λ (next : Option StandingParty). IsNext next (wrap old)) (sym (meets.2).1) (out old (meets.2).0 (meets.2).2),
+      subst (λ (next : Option StandingParty). IsNext standing.link next (wrap old)) (sym (meets.2).1) (out standing.link old (meets.2).0 (meets.2).2),
     ))

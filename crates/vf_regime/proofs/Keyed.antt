@@ -3,9 +3,11 @@ use Rattle.std.proofs.Common.{◌≡◌, ℕ, Bool, true, false, cond, List, [],
 use Rattle.std.specs.Cmp.Lexicographic.{pointwise}
 use Rattle.std.specs.Map.{keys_of, values_of, lookup}
 use Rattle.std.proofs.lemmas.Slice.Eq.{bytes_eq-Decides}
-use Rattle.indexmap.specs.IndexMap.{insert_entry}
+use Rattle.indexmap.specs.IndexMap.{insert_all as entries_with, insert_entry}
+use Rattle.vf_regime.specs.declared.changes.Change.{Change}
+use Rattle.vf_regime.specs.declared.changes.Change.TheVariants.{PutFile}
 use Rattle.vf_regime.specs.declared.file.File.{File}
-use Rattle.vf_regime.specs.Files.{file_named, with_file}
+use Rattle.vf_regime.specs.Files.{after_changes, file_named, named_file, with_file}
 
 abbrev pub name_of : File → List ℕ
 name_of file = file.name
@@ -67,3 +69,17 @@ values-insert_entry file es keyed = (puts file es keyed).values
 pub keyed-insert_entry : (file : File) (es : List (List ℕ × File)) → IsKeyed es
     → IsKeyed (insert_entry (pointwise nat_eq) es file.name file)
 keyed-insert_entry file es keyed = (puts file es keyed).keyed
+
+-- the values once the file of each change is inserted in turn
+pub values-entries_with : (changes : List Change) (es : List (List ℕ × File)) → IsKeyed es
+    → values_of (entries_with (pointwise nat_eq) es (map named_file changes)) ≡ after_changes changes (values_of es)
+values-entries_with [] es keyed = refl
+values-entries_with (PutFile file ∷ changes) es keyed =
+    values-entries_with changes (insert_entry (pointwise nat_eq) es file.name file) (keyed-insert_entry file es keyed)
+    ∙ ap (after_changes changes) (values-insert_entry file es keyed)
+
+pub keyed-entries_with : (changes : List Change) (es : List (List ℕ × File)) → IsKeyed es
+    → IsKeyed (entries_with (pointwise nat_eq) es (map named_file changes))
+keyed-entries_with [] es keyed = keyed
+keyed-entries_with (PutFile file ∷ changes) es keyed =
+    keyed-entries_with changes (insert_entry (pointwise nat_eq) es file.name file) (keyed-insert_entry file es keyed)

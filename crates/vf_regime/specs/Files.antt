@@ -22,3 +22,7 @@ changed files (changes.PutFile file) = with_file file files
 abbrev pub after_changes : List Change → List File → List File
 after_changes [] files = files
 after_changes (change ∷ later) files = after_changes later (changed files change)
+
+-- the file that a change puts, behind its name
+abbrev pub named_file : Change → List ℕ × File
+named_file (changes.PutFile file) = (file.name, file)

@@ -9,7 +9,7 @@ use Rattle.vf_regime.specs.declared.message.Said.{Said}
 use Rattle.vf_regime.specs.declared.stage.Stage.{Stage}
 use Rattle.vf_regime.specs.declared.stage.Stage.TheVariants.{Idle, Associated, Selected}
 
--- a concluded message: which transition of the run it was, when, what was heard and what was answered
+-- a concluded message: which transition of the run it was, when, the message, and what was answered
 pub record Entry : Type 0 where
   pub ordinal : ℕ
   pub moment : ℕ

@@ -12,7 +12,7 @@ use Rattle.vf_regime.specs.Files.{file_named}
 use Rattle.vf_regime.specs.History.{stage}
 use Rattle.vf_regime.specs.State.{State, StandingParty}
 
--- an abort ends the party; a diagnostic is told to it and changes nothing
+-- an abort ends the party; a diagnostic is answered and nothing changes
 pub data Refusal : Type 0 where
   AbortOf : (number : ℕ) → Refusal
   DiagnosticOf : (diagnostic : Diagnostic) → Refusal

@@ -62,21 +62,29 @@ IsStep before after tables old request moment result =
     (state : State) (party : StandingParty) → before old party
     → MeetsStep before after (transition (with_tables tables state) party moment (messages.Pdu request)) old request result
 
--- the party after a turn: an idle one where it is gone, and else one that represents it and isn't idle
-abbrev pub IsNext : Option StandingParty → Party → Type 0
-IsNext None party = (idle : Idle) × (party ≡ parties.Idle idle)
-IsNext (Some next) (parties.Idle idle) = ⊥
-IsNext (Some next) party = Represents party next
+-- the number of a party's link
+abbrev pub link_of : Party → ℕ
+link_of (parties.Idle idle) = idle.link
+link_of (parties.Associated associated) = associated.link
+link_of (parties.Selected selected) = selected.associated.link
 
-abbrev pub Meets : Turn → Outcome → Type 0
-Meets turn outcome = (outcome.said.items ≡ turn.said) × (outcome.changes ≡ turn.changes) × IsNext turn.party outcome.party
+-- the party of a link after a turn: the idle one where it is gone, and else one that represents it and isn't idle
+abbrev pub IsNext : ℕ → Option StandingParty → Party → Type 0
+IsNext link None party = party ≡ parties.Idle (record { link = link })
+IsNext link (Some next) (parties.Idle idle) = ⊥
+IsNext link (Some next) party = Represents party next
 
--- the party was told this, changed nothing and is gone
-abbrev pub IsGone : List Said → Outcome → Type 0
-IsGone said outcome =
-    (outcome.said.items ≡ said) × (outcome.changes ≡ []) × ((idle : Idle) × (outcome.party ≡ parties.Idle idle))
+-- what came of a message on a link is the turn
+abbrev pub Meets : ℕ → Turn → Outcome → Type 0
+Meets link turn outcome =
+    (outcome.said.items ≡ turn.said) × (outcome.changes ≡ turn.changes) × IsNext link turn.party outcome.party
 
--- the party was told this, changed nothing and stays
+-- this was said, nothing changed, and the party is gone
+abbrev pub IsGone : Party → List Said → Outcome → Type 0
+IsGone party said outcome =
+    (outcome.said.items ≡ said) × (outcome.changes ≡ []) × (outcome.party ≡ parties.Idle (record { link = link_of party }))
+
+-- this was said, nothing changed, and the party stays
 abbrev pub IsAnswered : Party → List Said → Outcome → Type 0
 IsAnswered party said outcome = (outcome.said.items ≡ said) × (outcome.changes ≡ []) × (outcome.party ≡ party)
 
@@ -89,5 +97,5 @@ stage_of (parties.Selected selected) = stages.Selected
 abbrev pub IsTransition : Tables → Party → ℕ → Message → Result Outcome (Party × NoMemory) → Type 0
 IsTransition tables party moment message (Ok outcome) =
     (state : State) (standing : StandingParty) → Represents party standing
-    → Meets (transition (with_tables tables state) standing moment message) outcome
+    → Meets standing.link (transition (with_tables tables state) standing moment message) outcome
 IsTransition tables party moment message (Err back) = back.0 ≡ party

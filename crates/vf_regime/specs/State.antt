@@ -9,7 +9,7 @@ pub record User : Type 0 where
   pub identity : List ℕ
   pub password : Option (List ℕ)
 
--- a party that stands: its link, all that it has heard and what was concluded, both the newest first
+-- a party that stands: its link, all messages that came on it, and those that were concluded, both the newest first
 pub record StandingParty : Type 0 where
   pub link : ℕ
   pub trace : List Message

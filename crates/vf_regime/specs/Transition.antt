@@ -1,4 +1,4 @@
--- One transition of the abstract filestore: a party hears a message (ISO 8571-4; profile).
+-- One transition of the abstract filestore: a party takes a message (ISO 8571-4; profile).
 use Rattle.std.specs.Prelude.{ℕ, ◌+◌, List, [], ◌∷◌, Option, None, Some, is_none, if◌then◌else◌}
 use Rattle.vf_base.specs.declared.diagnostic.Diagnostic.{Diagnostic}
 use Rattle.vf_pdu.specs.declared.pdu.Pdu.{Pdu}
@@ -14,7 +14,7 @@ use Rattle.vf_regime.specs.History.{Entry, agreed}
 use Rattle.vf_regime.specs.Refusal.{Refusal, AbortOf, DiagnosticOf, refusal}
 use Rattle.vf_regime.specs.State.{State, StandingParty, with_party}
 
--- what comes of a message: what its party is told, what changes, and the party after it, none where it is gone
+-- what comes of a message: what is said, what changes, and the party after it, none where it is gone
 pub record Turn : Type 0 where
   pub said : List Said
   pub changes : List Change
@@ -35,8 +35,8 @@ effects (CreateRequest name contents) = PutFile (record { name = name; contents 
 effects _ = []
 
 -- the party with the message in its trace
-abbrev pub hears : Message → StandingParty → StandingParty
-hears message party = record party { trace = message ∷ party.trace }
+abbrev pub with_message : Message → StandingParty → StandingParty
+with_message message party = record party { trace = message ∷ party.trace }
 
 abbrev pub entry_of : State → ℕ → Pdu → Entry
 entry_of state moment request = record {
@@ -55,14 +55,14 @@ abbrev pub concludes : State → ℕ → Pdu → StandingParty → Option Standi
 concludes state moment TerminateRequest party = None
 concludes state moment request party = Some (with_entry (entry_of state moment request) party)
 
--- the turn of a party that is told this and is gone
+-- the turn in which this is said and the party is gone
 abbrev pub leaves : List Said → Turn
 leaves said = record { said = said; changes = []; party = None }
 
 abbrev pub turn_by : Option Refusal → State → StandingParty → ℕ → Pdu → Turn
 turn_by (Some (AbortOf number)) state party moment request = leaves (answers.Abort number 0 ∷ [])
 turn_by (Some (DiagnosticOf diagnostic)) state party moment request =
-    record { said = response (Some diagnostic) request; changes = []; party = Some (hears (messages.Pdu request) party) }
+    record { said = response (Some diagnostic) request; changes = []; party = Some (with_message (messages.Pdu request) party) }
 turn_by None state party moment request =
     record { said = response None request; changes = effects request; party = concludes state moment request party }
 

@@ -5,7 +5,7 @@ ghost use Rattle.vf_regime.specs.Refusal.{is_built};
 ghost use Rattle.vf_regime.specs.Represents.{IsAssociated, IsSelected, IsStep};
 ghost use Rattle.vf_regime.specs.Transition.{effects, response};
 
-use crate::step::{refused, told};
+use crate::step::{one_said, refusal};
 use crate::{Change, Changes, File, Said, Selected, Step, StepError, Tables};
 use std::alloc::Global;
 use vf_base::{Contents, Moment, Name, NoMemory};
@@ -19,12 +19,15 @@ pub struct Associated {
     pub(crate) units: u16,
 }
 
+/// The diagnostic of a name that no file has.
 const NAME_UNKNOWN: u16 = 11;
 
+/// The diagnostic of a new file's name that a file has.
 const NAME_EXISTS: u16 = 12;
 
 impl Associated {
-    /// Takes a SelectRequest that no abort refuses; refused with 11 where no file has the name.
+    /// Takes a SelectRequest that no abort refuses; refused with 11 exactly where no file has the name. The state
+    /// is given back as it was with the diagnostic, or without memory.
     pub fn select(
         self,
         alloc: Global,
@@ -44,9 +47,9 @@ impl Associated {
             unreachable!()
         };
         if !tables.files.contains(&name) {
-            return Err((self, refused(NAME_UNKNOWN)));
+            return Err((self, refusal(NAME_UNKNOWN)));
         }
-        let Ok(said) = told(alloc, Said::Pdu(Pdu::SelectResponse { diagnostic: None })) else {
+        let Ok(said) = one_said(alloc, Said::Pdu(Pdu::SelectResponse { diagnostic: None })) else {
             return Err((self, StepError::NoMemory));
         };
         let state = Selected {
@@ -60,7 +63,8 @@ impl Associated {
         })
     }
 
-    /// Takes a CreateRequest that no abort refuses; refused with 12 where a file has the name.
+    /// Takes a CreateRequest that no abort refuses; refused with 12 exactly where a file has the name. The state
+    /// is given back as it was with the diagnostic, or without memory.
     pub fn create(
         self,
         alloc: Global,
@@ -80,7 +84,7 @@ impl Associated {
             unreachable!()
         };
         if tables.files.contains(&name) {
-            return Err((self, refused(NAME_EXISTS)));
+            return Err((self, refusal(NAME_EXISTS)));
         }
         let Ok(made) = new_file(alloc, name, contents) else {
             return Err((self, StepError::NoMemory));
@@ -111,7 +115,7 @@ fn new_file(alloc: Global, name: Name, contents: Contents) -> Result<Creation, N
     ensures changes { IfOk result (λ made. made.changes ≡ effects (Pdu.CreateRequest name contents)) }
 {
     let kept = name.copy(alloc)?;
-    let said = told(alloc, Said::Pdu(Pdu::CreateResponse { diagnostic: None }))?;
+    let said = one_said(alloc, Said::Pdu(Pdu::CreateResponse { diagnostic: None }))?;
     let file = File {
         name,
         contents,

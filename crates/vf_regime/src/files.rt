@@ -1,9 +1,9 @@
-ghost use Rattle.std.specs.Prelude.{◌≡◌, [], length, OnOk, OnErr, is_some, nat_eq, option_copied};
+ghost use Rattle.std.specs.Prelude.{◌≡◌, ◌≤◌, [], IfOk, length, map, vec_len, OnOk, OnErr, is_some, nat_eq, option_copied};
 ghost use Rattle.std.specs.Cmp.Lexicographic.{pointwise};
-ghost use Rattle.indexmap.specs.IndexMap.{IsUnchanged, insert_entry};
-ghost use Rattle.vf_regime.specs.Files.{file_named, with_file};
+ghost use Rattle.indexmap.specs.IndexMap.{IsUnchanged, insert_all as entries_with, insert_entry, spare};
+ghost use Rattle.vf_regime.specs.Files.{after_changes, file_named, named_file, with_file};
 
-use crate::File;
+use crate::{Change, Changes, File};
 use indexmap::IndexMap;
 use std::alloc::Global;
 use std::marker::Model;
@@ -28,6 +28,7 @@ impl Model for Files {
 }
 
 impl Files {
+    /// No files; the allocator is kept for those that are put.
     pub fn new(alloc: Global) -> Files
         ensures { result ≡ [] }
     {
@@ -42,7 +43,7 @@ impl Files {
         self.by_name.len()
     }
 
-    /// The file of this name.
+    /// The file of this name; `None` exactly where there is none.
     pub fn named(&self, name: &Name) -> Option<&File>
         ensures { option_copied result ≡ file_named name.now self.now }
     {
@@ -56,7 +57,7 @@ impl Files {
         self.named(name).is_some()
     }
 
-    /// Puts the file into the place of the one of its name, or behind all others.
+    /// Puts the file into the place of the one of its name, or behind all others. Without memory nothing changes.
     pub fn put(&mut self, alloc: Global, file: File) -> Result<(), NoMemory>
         ensures ok { OnOk result (self.new ≡ with_file file self.old) }
         ensures err { OnErr result (self.new ≡ self.old) }
@@ -64,6 +65,40 @@ impl Files {
         let name = file.name.copy(alloc)?;
         insert(&mut self.by_name, name, file)?;
         Ok(())
+    }
+
+    /// Makes all of the changes in their order, or none.
+    pub fn apply(&mut self, alloc: Global, changes: Changes) -> Result<(), NoMemory>
+        ensures ok { OnOk result (self.new ≡ after_changes changes self.old) }
+        ensures err { OnErr result (self.new ≡ self.old) }
+    {
+        let named = named_files(alloc, changes)?;
+        self.by_name.reserve(named.len())?;
+        insert_all(&mut self.by_name, named);
+        Ok(())
+    }
+}
+
+/// The files that the changes put, each behind its name.
+fn named_files(alloc: Global, changes: Changes) -> Result<Vec<(Name, File)>, NoMemory>
+    ensures { IfOk result (λ named. named.items ≡ map named_file changes) }
+{
+    let mut named = Vec::new(alloc);
+    for change in changes.into_vec() {
+        let Change::PutFile { file } = change;
+        let name = file.name.copy(alloc)?;
+        named.push((name, file))?;
+    }
+    Ok(named)
+}
+
+/// Inserts all of the entries, for which there is room.
+fn insert_all(by_name: &mut IndexMap<Name, File>, named: Vec<(Name, File)>)
+    requires { vec_len named ≤ spare by_name.old }
+    ensures { by_name.new.entries ≡ entries_with (pointwise nat_eq) by_name.old.entries named.items }
+{
+    for (name, file) in named {
+        let _ = by_name.insert(name, file).unwrap();
     }
 }
 

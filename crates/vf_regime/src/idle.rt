@@ -3,7 +3,7 @@ ghost use Rattle.vf_regime.specs.declared.stage.Stage.TheVariants as stages;
 ghost use Rattle.vf_regime.specs.Refusal.{is_built};
 ghost use Rattle.vf_regime.specs.Represents.{IsAssociated, IsIdle, IsStep};
 
-use crate::step::told;
+use crate::step::one_said;
 use crate::{Associated, Changes, Said, Step, StepError, Tables};
 use std::alloc::Global;
 use vf_base::Moment;
@@ -19,7 +19,7 @@ pub struct Idle {
 const OFFERED: u16 = 15;
 
 impl Idle {
-    /// Takes an InitializeRequest that no abort refuses.
+    /// Takes an InitializeRequest that no abort refuses. Without memory the state is given back as it was.
     pub fn initialize(
         self,
         alloc: Global,
@@ -45,7 +45,7 @@ impl Idle {
             diagnostic: None,
             units,
         };
-        let Ok(said) = told(alloc, Said::Pdu(answer)) else {
+        let Ok(said) = one_said(alloc, Said::Pdu(answer)) else {
             return Err((self, StepError::NoMemory));
         };
         let state = Associated {

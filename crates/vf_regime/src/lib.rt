@@ -8,12 +8,12 @@ mod file;
 mod files;
 mod idle;
 mod message;
+mod outcomes;
 mod party;
 mod selected;
 mod stage;
 mod step;
 mod tables;
-mod turns;
 
 pub use associated::Associated;
 pub use changes::{Change, Changes};

@@ -3,7 +3,7 @@ ghost use Rattle.vf_regime.specs.declared.stage.Stage.TheVariants as stages;
 ghost use Rattle.vf_regime.specs.Refusal.{is_built};
 ghost use Rattle.vf_regime.specs.Represents.{IsAssociated, IsSelected, IsStep};
 
-use crate::step::told;
+use crate::step::one_said;
 use crate::{Associated, Changes, Said, Step, StepError, Tables};
 use std::alloc::Global;
 use vf_base::{Moment, Name};
@@ -18,7 +18,7 @@ pub struct Selected {
 }
 
 impl Selected {
-    /// Takes a DeselectRequest that no abort refuses.
+    /// Takes a DeselectRequest that no abort refuses. Without memory the state is given back as it was.
     pub fn deselect(
         self,
         alloc: Global,
@@ -36,7 +36,7 @@ impl Selected {
         // No diagnostic refuses it.
         ensures memory { IfErr result (λ back. back.1 ≡ StepError.NoMemory) }
     {
-        let Ok(said) = told(alloc, Said::Pdu(Pdu::DeselectResponse { diagnostic: None })) else {
+        let Ok(said) = one_said(alloc, Said::Pdu(Pdu::DeselectResponse { diagnostic: None })) else {
             return Err((self, StepError::NoMemory));
         };
         Ok(Step {

@@ -21,17 +21,17 @@ pub enum StepError {
     NoMemory,
 }
 
-/// One thing to be said.
-pub(crate) fn told(alloc: Global, one: Said) -> Result<Vec<Said>, NoMemory>
-    ensures { IfOk result (λ said. said.items ≡ one ∷ []) }
+/// A list of one thing that is said.
+pub(crate) fn one_said(alloc: Global, said: Said) -> Result<Vec<Said>, NoMemory>
+    ensures { IfOk result (λ list. list.items ≡ said ∷ []) }
 {
-    let mut said = Vec::new(alloc);
-    said.push(one)?;
-    Ok(said)
+    let mut list = Vec::new(alloc);
+    list.push(said)?;
+    Ok(list)
 }
 
 /// The refusal with this diagnostic.
-pub(crate) fn refused(number: u16) -> StepError
+pub(crate) fn refusal(number: u16) -> StepError
     ensures { result ≡ StepError.Refused (diagnostic number) }
 {
     StepError::Refused(Diagnostic {

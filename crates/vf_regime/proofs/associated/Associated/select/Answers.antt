@@ -21,7 +21,7 @@ returns-then-not-contains-clause-turn c = λ state party associated.
     let request = c.args.request in
     let filestore = with_tables c.args.tables.now state in
     subst (λ (error : StepError). MeetsStep IsAssociated IsSelected (transition filestore party c.args.moment (messages.Pdu request)) c.args.self request (Err (c.args.self, error)))
-    (sym c.refused.ensures)
+    (sym c.refusal.ensures)
     (refused_step IsAssociated IsSelected filestore party c.args.moment request c.args.self (diagnostic name_unknown)
     (ap (λ stage. is_built stage request) (stage_associated party.history _ associated.1 associated.2) ∙ c.requires.built)
     (ap (λ r. first_row (rows filestore.files r)) c.in-SelectRequest.is ∙ ap row (sym c.contains.ensures ∙ c.if-not-contains.true))

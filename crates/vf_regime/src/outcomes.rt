@@ -8,13 +8,13 @@ ghost use Rattle.vf_regime.specs.Refusal.{is_built};
 ghost use Rattle.vf_regime.specs.Represents.{IsTransition, IsGone, IsAnswered};
 
 use crate::party::{Outcome, Party};
-use crate::step::told;
+use crate::step::one_said;
 use crate::{Associated, Changes, Idle, Said, Selected, StepError, Tables};
 use std::alloc::Global;
 use vf_base::{Diagnostic, Moment, NoMemory};
 use vf_pdu::Pdu;
 
-/// When a message is heard, and what the layers below say of it.
+/// When a message comes, and what the session says of it.
 #[derive(Clone, Copy)]
 pub(crate) struct Setting {
     pub(crate) moment: Moment,
@@ -23,36 +23,36 @@ pub(crate) struct Setting {
     pub(crate) sync: bool,
 }
 
-/// The party is told this and is gone.
-pub(crate) fn gone(alloc: Global, party: Party, said: Vec<Said>) -> Outcome
-    ensures { IsGone said.items result }
+/// This is said, and the party is gone.
+pub(crate) fn end_party(alloc: Global, party: Party, said: Vec<Said>) -> Outcome
+    ensures { IsGone party said.items result }
 {
     Outcome {
-        party: Party::idle(party.link()),
+        party: Party::Idle(Idle { link: party.link() }),
         said,
         changes: Changes::new(alloc),
     }
 }
 
-/// The party is told the abort and is gone.
-pub(crate) fn aborted(
+/// The abort is said, and the party is gone.
+pub(crate) fn abort_party(
     alloc: Global,
     party: Party,
     number: u16,
 ) -> Result<Outcome, (Party, NoMemory)>
-    ensures { MatchResult result (IsGone (answers.Abort number 0 ∷ [])) (λ back. back.0 ≡ party) }
+    ensures { MatchResult result (IsGone party (answers.Abort number 0 ∷ [])) (λ back. back.0 ≡ party) }
 {
-    let Ok(said) = told(alloc, Said::Abort { number, place: 0 }) else {
+    let Ok(said) = one_said(alloc, Said::Abort { number, place: 0 }) else {
         return Err((party, NoMemory));
     };
-    Ok(gone(alloc, party, said))
+    Ok(end_party(alloc, party, said))
 }
 
-/// The party is told the PDU and stays as it is.
-fn answered(alloc: Global, party: Party, response: Pdu) -> Result<Outcome, (Party, NoMemory)>
+/// The response is said, and the party stays as it is.
+fn keep_party(alloc: Global, party: Party, response: Pdu) -> Result<Outcome, (Party, NoMemory)>
     ensures { MatchResult result (IsAnswered party (answers.Pdu response ∷ [])) (λ back. back.0 ≡ party) }
 {
-    let Ok(said) = told(alloc, Said::Pdu(response)) else {
+    let Ok(said) = one_said(alloc, Said::Pdu(response)) else {
         return Err((party, NoMemory));
     };
     Ok(Outcome {
@@ -131,7 +131,7 @@ fn select(
         Err((associated, error)) => {
             let party = Party::Associated(associated);
             match error {
-                StepError::Refused(diagnostic) => answered(
+                StepError::Refused(diagnostic) => keep_party(
                     alloc,
                     party,
                     Pdu::SelectResponse {
@@ -170,7 +170,7 @@ fn create(
         Err((associated, error)) => {
             let party = Party::Associated(associated);
             match error {
-                StepError::Refused(diagnostic) => answered(
+                StepError::Refused(diagnostic) => keep_party(
                     alloc,
                     party,
                     Pdu::CreateResponse {
@@ -195,10 +195,10 @@ fn terminate(
     ensures { IsTransition tables.now (Party.Associated associated) setting.moment (messages.Pdu request) result }
 {
     let party = Party::Associated(associated);
-    let Ok(said) = told(alloc, Said::Pdu(Pdu::TerminateResponse)) else {
+    let Ok(said) = one_said(alloc, Said::Pdu(Pdu::TerminateResponse)) else {
         return Err((party, NoMemory));
     };
-    Ok(gone(alloc, party, said))
+    Ok(end_party(alloc, party, said))
 }
 
 pub(crate) fn deselect(
