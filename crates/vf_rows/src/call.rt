@@ -1,0 +1,36 @@
+//! One call over objects in memory.
+use std::alloc::Global;
+use vf_base::{NoMemory, Source, VecSink};
+use vf_cli::ftam;
+
+/// What a call printed, and its status.
+#[derive(Drop)]
+pub(crate) struct Printed {
+    pub(crate) octets: Vec<u8>,
+    pub(crate) status: u8,
+}
+
+/// Calls with these words, which spaces part, on a sink whose writes of these numbers fail, from 1.
+pub(crate) fn call<I: Source>(
+    alloc: Global,
+    words: &str,
+    input: &mut I,
+    failing: Vec<u64>,
+) -> Result<Printed, NoMemory> {
+    let mut given = Vec::new(alloc);
+    for word in words.split_ascii_whitespace() {
+        given.push(String::from_str(alloc, word)?)?;
+    }
+    let mut out = VecSink::new(alloc, failing);
+    let status = ftam(alloc, &given, input, &mut out);
+    let mut octets = Vec::new(alloc);
+    octets.extend_from_slice(out.octets())?;
+    Ok(Printed { octets, status })
+}
+
+/// One number.
+pub(crate) fn only(alloc: Global, number: u64) -> Result<Vec<u64>, NoMemory> {
+    let mut numbers = Vec::new(alloc);
+    numbers.push(number)?;
+    Ok(numbers)
+}

@@ -1,0 +1,12 @@
+//! The worked dialogues: the top call over objects in memory, from its words and its input to what it prints and
+//! its status.
+#![tactic(auto)]
+
+#[cfg(test)]
+mod call;
+#[cfg(test)]
+mod dialogues;
+#[cfg(test)]
+mod faults;
+#[cfg(test)]
+mod sips;

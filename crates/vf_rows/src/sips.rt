@@ -1,0 +1,25 @@
+//! A source that gives few octets at once.
+use vf_base::{Failed, SliceSource, Source};
+
+/// A source in memory, of which a read gives sixteen octets at most.
+#[derive(Drop)]
+pub(crate) struct Sips<'a> {
+    pub(crate) octets: SliceSource<'a>,
+}
+
+impl<'a> Source for Sips<'a> {
+    ghost use Rattle.std.specs.Prelude.{None};
+
+    ghost left = { λ source. None };
+
+    ghost fault_count = { λ source. source.octets.faults };
+
+    fn read(&mut self, into: &mut [u8]) -> Result<usize, Failed> {
+        let most = into.len().min(16);
+        self.octets.read(&mut into[..most])
+    }
+
+    fn faults(&self) -> u64 {
+        self.octets.faults()
+    }
+}
