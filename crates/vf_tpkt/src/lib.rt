@@ -1,0 +1,13 @@
+//! Transport over TCP: RFC 1006 packets and the TPDUs of transport class 0 (ISO 8073), both ends.
+#![tactic(auto)]
+
+mod error;
+mod form;
+mod kind;
+mod parameters;
+mod phase;
+mod unit;
+
+pub use error::TpktError;
+pub use phase::{Phase, Side};
+pub use unit::Unit;
