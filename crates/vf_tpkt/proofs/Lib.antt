@@ -1,1 +1,3 @@
 pub mod ParameterLemmas
+pub mod SizeLemmas
+pub mod CheckLemmas

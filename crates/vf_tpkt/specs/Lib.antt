@@ -1,2 +1,4 @@
 pub mod Parameters
 pub mod Tpdu
+pub mod Hearing
+pub mod Steps

@@ -1,6 +1,7 @@
 //! Transport over TCP: RFC 1006 packets and the TPDUs of transport class 0 (ISO 8073), both ends.
 #![tactic(auto)]
 
+mod connection;
 mod error;
 mod form;
 mod kind;

@@ -3,7 +3,7 @@ ghost use Rattle.std.specs.Option.{option_map};
 ghost use Rattle.vf_tpkt.specs.Parameters.{sizes as sizes_of, summary};
 
 /// The code of the parameter that proposes a size (ISO 8073, 13.3.4 b).
-const SIZE: u8 = 0xC0;
+pub(crate) const SIZE: u8 = 0xC0;
 
 /// The least exponent of a size: TPDUs of 128 octets.
 const LEAST: u8 = 7;

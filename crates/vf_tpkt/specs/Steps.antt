@@ -1,0 +1,30 @@
+-- The steps of hearing a stream, as the functions that take them promise. Want of memory, which may come at any
+-- of them, ends the reading with fewer units and answers than the stream holds.
+use Rattle.std.specs.Prelude.{◌≡◌, ℕ, ◌+◌, ◌≤◌, Bool, true, ◌&&◌, nat_le, List, ◌++◌, length, Option, Result, Ok, Err, ◌⊎◌}
+use Rattle.vf_base.specs.declared.errors.NoMemory.{NoMemory}
+use Rattle.vf_tpkt.specs.declared.error.TpktError.{TpktError}
+use Rattle.vf_tpkt.specs.declared.error.TpktError.TheVariants as errors
+use Rattle.vf_tpkt.specs.declared.kind.Kind.{Kind}
+use Rattle.vf_tpkt.specs.declared.phase.Phase.{Phase}
+use Rattle.vf_tpkt.specs.declared.phase.Phase.TheVariants.{First, Standing, Over}
+use Rattle.vf_tpkt.specs.declared.unit.Unit.{Unit as Told}
+use Rattle.vf_tpkt.specs.Hearing.{Progress, checked, units_of, after}
+use Rattle.vf_tpkt.specs.Tpdu.{answer_of}
+
+-- A DT that is said has one octet of data at least, and fits a packet.
+abbrev pub has_room : Phase → Bool
+has_room (Standing most) = nat_le 1 most && nat_le most 65528
+has_room phase = true
+
+-- A TPDU of this kind told its unit and its answer, or memory was wanting and it told neither.
+abbrev pub Tells : Progress → Kind → List ℕ → List Told → List ℕ → Progress → List Told → List ℕ → Result (Unit {0}) NoMemory → Type 0
+Tells p kind tpdu units answers q units' answers' (Ok done) =
+    (q ≡ after p kind tpdu) × (units' ≡ units ++ units_of p kind tpdu) × (answers' ≡ answers ++ answer_of kind tpdu)
+Tells p kind tpdu units answers q units' answers' (Err wanting) = (units' ≡ units) × (answers' ≡ answers)
+
+-- A whole TPDU was heard, or it was refused and nothing changed.
+abbrev pub HearsTpdu : Progress → List ℕ → List Told → List ℕ → Progress → List Told → List ℕ → Result (Unit {0}) TpktError → Type 0
+HearsTpdu p tpdu units answers q units' answers' (Ok done) =
+    (kind : Kind) × (checked p tpdu ≡ Ok kind) × (q ≡ after p kind tpdu) × (units' ≡ units ++ units_of p kind tpdu) × (answers' ≡ answers ++ answer_of kind tpdu)
+HearsTpdu p tpdu units answers q units' answers' (Err fault) =
+    (units' ≡ units) × (answers' ≡ answers) × ((fault ≡ errors.NoMemory) ⊎ ((checked p tpdu ≡ Err fault) × (q ≡ p)))
