@@ -1,3 +1,4 @@
 pub mod ParameterLemmas
 pub mod SizeLemmas
 pub mod CheckLemmas
+pub mod FrontLemmas

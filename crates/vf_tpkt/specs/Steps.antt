@@ -1,6 +1,6 @@
 -- The steps of hearing a stream, as the functions that take them promise. Want of memory, which may come at any
 -- of them, ends the reading with fewer units and answers than the stream holds.
-use Rattle.std.specs.Prelude.{◌≡◌, ℕ, ◌+◌, ◌≤◌, Bool, true, ◌&&◌, nat_le, List, ◌++◌, length, Option, Result, Ok, Err, ◌⊎◌}
+use Rattle.std.specs.Prelude.{◌≡◌, ℕ, ◌+◌, ◌≤◌, Bool, true, ◌&&◌, nat_le, List, [], ◌++◌, length, drop, slice_index, Option, Result, Ok, Err, ◌⊎◌, ◌*◌, ◌<◌, zero, suc, None, Some}
 use Rattle.vf_base.specs.declared.errors.NoMemory.{NoMemory}
 use Rattle.vf_tpkt.specs.declared.error.TpktError.{TpktError}
 use Rattle.vf_tpkt.specs.declared.error.TpktError.TheVariants as errors
@@ -8,7 +8,7 @@ use Rattle.vf_tpkt.specs.declared.kind.Kind.{Kind}
 use Rattle.vf_tpkt.specs.declared.phase.Phase.{Phase}
 use Rattle.vf_tpkt.specs.declared.phase.Phase.TheVariants.{First, Standing, Over}
 use Rattle.vf_tpkt.specs.declared.unit.Unit.{Unit as Told}
-use Rattle.vf_tpkt.specs.Hearing.{Progress, checked, units_of, after}
+use Rattle.vf_tpkt.specs.Hearing.{Progress, checked, units_of, after, front, Front, part, bad, whole}
 use Rattle.vf_tpkt.specs.Tpdu.{answer_of}
 
 -- A DT that is said has one octet of data at least, and fits a packet.
@@ -28,3 +28,20 @@ HearsTpdu p tpdu units answers q units' answers' (Ok done) =
     (kind : Kind) × (checked p tpdu ≡ Ok kind) × (q ≡ after p kind tpdu) × (units' ≡ units ++ units_of p kind tpdu) × (answers' ≡ answers ++ answer_of kind tpdu)
 HearsTpdu p tpdu units answers q units' answers' (Err fault) =
     (units' ≡ units) × (answers' ≡ answers) × ((fault ≡ errors.NoMemory) ⊎ ((checked p tpdu ≡ Err fault) × (q ≡ p)))
+
+-- These octets hold no more than one packet. The length in the header counts all of them.
+abbrev pub size_in : List ℕ → ℕ
+size_in packet = slice_index packet 2 * 256 + slice_index packet 3
+
+abbrev pub FitsOne : List ℕ → Type 0
+FitsOne packet = 4 < length packet → length packet ≤ size_in packet
+
+-- How many octets the front of a packet lacks before it is looked at again.
+abbrev pub WantsSome : ℕ → List ℕ → ℕ → Type 0
+WantsSome place packet zero = front place packet ≡ whole (drop 4 packet) []
+WantsSome place packet (suc count) =
+    (front place packet ≡ part) × ((more : List ℕ) → length more ≤ suc count → FitsOne (packet ++ more))
+
+abbrev pub Wants : ℕ → List ℕ → Result ℕ TpktError → Type 0
+Wants place packet (Ok count) = WantsSome place packet count
+Wants place packet (Err fault) = front place packet ≡ bad fault

@@ -5,6 +5,7 @@ mod connection;
 mod error;
 mod form;
 mod kind;
+mod packet;
 mod parameters;
 mod phase;
 mod unit;
