@@ -1,5 +1,5 @@
 -- The front of a stream, by the tests that the code makes.
-use Rattle.std.proofs.Common.{◌≡◌, ◌≢◌, ℕ, zero, suc, ◌+◌, ◌-◌, ◌*◌, ◌<◌, ◌≤◌, List, [], ◌∷◌, ◌++◌, length, take, drop, get_or, min, refl, ap, sym, subst, ◌∙◌, arith, Result, Ok, Err, length-drop, length-append}
+use Rattle.std.proofs.Common.{◌≡◌, ◌≢◌, ℕ, zero, suc, ◌+◌, ◌-◌, ◌*◌, ◌<◌, ◌≤◌, List, [], ◌∷◌, ◌++◌, length, take, drop, get_or, min, refl, ap, sym, subst, ◌∙◌, arith, Result, Ok, Err, length-drop, length-append, Bool, true, false, cond, nat_lt, nat_eq}
 use native.Mathlib.Decide.{dec_le}
 use Rattle.std.proofs.lemmas.Bool.Decides.{nat_tests}
 use Rattle.std.proofs.lemmas.List.{take_all, drop_all}
@@ -63,3 +63,30 @@ wants-rest place zero o h d e s f n =
 wants-rest place (suc count) o h d e s f n =
     (front-sized place o h d e ∙ by_size-part place (size_in o) (drop 4 o) s (omega (arith, length-drop 4 o)),
      λ more fits long. rw (size_in-append o more h) (omega (arith, length-append o more)))
+
+-- less than a packet is shorter than the greatest length
+part_by_size : (b c : Bool) (fault : TpktError) (x y : List ℕ) → cond b (bad fault) (cond c part (whole x y)) ≡ part → c ≡ true
+part_by_size true c fault x y h = cc
+part_by_size false true fault x y h = refl
+part_by_size false false fault x y h = cc
+
+part-chosen : (b : Bool) (F : Front) (fault : TpktError) → cond b F (bad fault) ≡ part → F ≡ part
+part-chosen true F fault h = h
+part-chosen false F fault h = cc
+
+sized-part : (place : ℕ) (o : List ℕ) → get_or o 0 0 < 256 → get_or o 1 0 < 256 → front_sized place o ≡ part → length o < 65534
+sized-part place [] a b h = omega arith
+sized-part place (high ∷ []) a b h = omega arith
+sized-part place (high ∷ low ∷ o) a b h =
+    let size = high * 256 + low in
+    let less : nat_lt (length o) (size - 4) ≡ true = part_by_size (nat_lt size 7) (nat_lt (length o) (size - 4)) (errors.Length (place_at (place + 3))) (take (size - 4) o) (drop (size - 4) o) h in
+    let lt : length o < size - 4 = grind (arith, nat_tests) in
+    omega arith
+
+pub part-short : (place : ℕ) (o : List ℕ) → ((i : ℕ) → get_or o i 0 < 256) → front place o ≡ part → length o ≤ 65535
+part-short place [] b h = omega arith
+part-short place (v ∷ []) b h = omega arith
+part-short place (v ∷ r ∷ o) b h =
+    let reserved : front_reserved place (r ∷ o) ≡ part = part-chosen (nat_eq v 3) (front_reserved place (r ∷ o)) (errors.Version (place_at place)) h in
+    let sized : front_sized place o ≡ part = part-chosen (nat_eq r 0) (front_sized place o) (errors.Version (place_at (place + 1))) reserved in
+    omega (arith, sized-part place o (b 2) (b 3) sized)

@@ -2,3 +2,5 @@ pub mod ParameterLemmas
 pub mod SizeLemmas
 pub mod CheckLemmas
 pub mod FrontLemmas
+pub mod HearingLemmas
+pub mod StepLemmas

@@ -145,3 +145,19 @@ hearing_in (suc turns) p octets = behind_front (hearing_in turns) p octets (fron
 
 abbrev pub hearing : Progress → List ℕ → Reading
 hearing p octets = hearing_in (length octets) p octets
+
+-- Every connection begins so.
+abbrev pub beginning : Side → Progress
+beginning side = record { side = side; phase = First; tsdu = []; place = 0 }
+
+-- What the octets that one end has heard from the beginning tell it.
+abbrev pub hears : Side → List ℕ → Reading
+hears side stream = hearing (beginning side) stream
+
+-- What one more piece tells, by what is kept of the octets before it; nothing behind a fault.
+abbrev pub onward_from : Kept → List ℕ → Option TpktError → Reading
+onward_from kept piece None = hearing kept.connection (kept.packet ++ piece)
+onward_from kept piece (Some fault) = record { units = []; answers = []; kept = kept }
+
+abbrev pub onward : Kept → List ℕ → Reading
+onward kept piece = onward_from kept piece kept.fault

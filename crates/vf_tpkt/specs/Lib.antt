@@ -1,4 +1,5 @@
 pub mod Parameters
 pub mod Tpdu
 pub mod Hearing
+pub mod Pieces
 pub mod Steps

@@ -1,7 +1,7 @@
 //! A connection of transport class 0, by the TPDUs that it hears.
 ghost use Rattle.std.specs.Prelude.{◌≡◌, ◌+◌, ◌≤◌, ◌<◌, ◌^◌, ◌++◌, ◌∷◌, [], length, drop, true, IsTrue, OnOk, OnErr, Ok, None, ◌⊎◌, slice_index};
 ghost use Rattle.vf_tpkt.specs.Hearing.{checked, units_of, after, place_at};
-ghost use Rattle.vf_tpkt.specs.Steps.{Tells, HearsTpdu};
+ghost use Rattle.vf_tpkt.specs.Steps.{TellsTpdu, HearsTpdu};
 ghost use Rattle.vf_tpkt.specs.Tpdu.{answer_of, data_size as data_octets, data_of, packet, confirm, last_of, has_lengths as has_lengths_now, has_fixed as has_fixed_now};
 ghost use Rattle.vf_tpkt.specs.Parameters.{sizes as sizes_of};
 
@@ -54,6 +54,28 @@ impl Connection {
             place: 0,
             alloc,
         }
+    }
+
+    /// The number of octets heard in whole packets; one that has reached the last number of its type stays there.
+    pub(crate) fn place(&self) -> u64
+        ensures { result ≡ self.now.place }
+    {
+        self.place
+    }
+
+    /// The octets of data in the TSDU that isn't ended.
+    pub(crate) fn data_held(&self) -> usize
+        ensures held { result ≡ length self.now.tsdu }
+        ensures bound { result ≤ 1048576 }
+    {
+        self.tsdu.len()
+    }
+
+    /// Lets go the data of the TSDU that isn't ended.
+    pub(crate) fn stop(&mut self)
+        ensures { self.new ≡ record { side = self.old.side; phase = self.old.phase; tsdu = []; place = self.old.place } }
+    {
+        self.tsdu.clear();
     }
 
     /// The kind of a TPDU that may come now and is right, or its first fault.
@@ -111,7 +133,7 @@ impl Connection {
     ) -> Result<(), NoMemory>
         requires whole { 3 ≤ length tpdu.now }
         requires right { checked self.old tpdu.now ≡ Ok kind }
-        ensures { Tells self.old kind tpdu.now units.old.items answers.old.items self.new units.new.items answers.new.items result }
+        ensures { TellsTpdu self.old kind tpdu.now units.old.items answers.old.items self.new units.new.items answers.new.items result }
     {
         match kind {
             Kind::Cr => self.accept(tpdu, units, answers),
@@ -173,7 +195,7 @@ impl Connection {
     fn accept(&mut self, tpdu: &[u8], units: &mut Vec<Unit>, answers: &mut Vec<u8>) -> Result<(), NoMemory>
         requires counted { IsTrue (has_lengths_now Kind.Cr tpdu.now) }
         requires fixed { IsTrue (has_fixed_now Kind.Cr tpdu.now) }
-        ensures { Tells self.old Kind.Cr tpdu.now units.old.items answers.old.items self.new units.new.items answers.new.items result }
+        ensures { TellsTpdu self.old Kind.Cr tpdu.now units.old.items answers.old.items self.new units.new.items answers.new.items result }
     {
         let size = proposal(&tpdu[7..]);
         units.reserve(1)?;

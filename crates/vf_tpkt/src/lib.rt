@@ -8,8 +8,10 @@ mod kind;
 mod packet;
 mod parameters;
 mod phase;
+mod tpkt;
 mod unit;
 
 pub use error::TpktError;
 pub use phase::{Phase, Side};
+pub use tpkt::Tpkt;
 pub use unit::Unit;
