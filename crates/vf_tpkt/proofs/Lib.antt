@@ -4,3 +4,4 @@ pub mod CheckLemmas
 pub mod FrontLemmas
 pub mod HearingLemmas
 pub mod StepLemmas
+pub mod SayingLemmas

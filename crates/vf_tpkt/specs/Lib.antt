@@ -2,4 +2,5 @@ pub mod Parameters
 pub mod Tpdu
 pub mod Hearing
 pub mod Pieces
+pub mod Saying
 pub mod Steps

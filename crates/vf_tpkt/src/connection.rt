@@ -1,6 +1,7 @@
 //! A connection of transport class 0, by the TPDUs that it hears.
 ghost use Rattle.std.specs.Prelude.{◌≡◌, ◌+◌, ◌≤◌, ◌<◌, ◌^◌, ◌++◌, ◌∷◌, [], length, drop, true, IsTrue, OnOk, OnErr, Ok, None, ◌⊎◌, slice_index};
 ghost use Rattle.vf_tpkt.specs.Hearing.{checked, units_of, after, place_at};
+ghost use Rattle.vf_tpkt.specs.Saying.{is_standing, most_of};
 ghost use Rattle.vf_tpkt.specs.Steps.{TellsTpdu, HearsTpdu};
 ghost use Rattle.vf_tpkt.specs.Tpdu.{answer_of, data_size as data_octets, data_of, packet, confirm, last_of, has_lengths as has_lengths_now, has_fixed as has_fixed_now};
 ghost use Rattle.vf_tpkt.specs.Parameters.{sizes as sizes_of};
@@ -69,6 +70,19 @@ impl Connection {
         ensures bound { result ≤ 1048576 }
     {
         self.tsdu.len()
+    }
+
+    /// The most octets of data in a DT that is said.
+    pub(crate) fn most(&self) -> usize
+        requires { IsTrue (is_standing self.now.phase) }
+        ensures most { result ≡ most_of self.now.phase }
+        ensures some { 1 ≤ result }
+        ensures fits { result ≤ 65528 }
+    {
+        match self.phase {
+            Phase::Standing { most } => most,
+            Phase::First | Phase::Over => unreachable!(),
+        }
     }
 
     /// Lets go the data of the TSDU that isn't ended.

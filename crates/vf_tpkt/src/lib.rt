@@ -2,6 +2,7 @@
 #![tactic(auto)]
 
 mod connection;
+mod data;
 mod error;
 mod form;
 mod kind;

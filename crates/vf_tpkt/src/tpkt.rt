@@ -2,10 +2,12 @@
 ghost use Rattle.std.specs.Prelude.{◌≡◌, ◌+◌, ◌≤◌, ◌<◌, ◌++◌, [], length, List, ℕ, IsTrue, IfOk, OnOk, OnErr, None};
 ghost use Rattle.vf_tpkt.specs.Hearing.{front, beginning, hears, onward, part};
 ghost use Rattle.vf_tpkt.specs.Pieces.{Tells, TellsPiece};
+ghost use Rattle.vf_tpkt.specs.Saying.{stands, said, most_of};
 ghost use Rattle.vf_tpkt.specs.Steps.{FitsOne, Looks, Moves, HearsAll};
 ghost use Rattle.vf_tpkt.specs.Tpdu.{packet, request};
 
 use crate::connection::Connection;
+use crate::data::write_tsdu;
 use crate::packet::{HEADER, wanted};
 use crate::{Side, TpktError, Unit};
 use std::alloc::Global;
@@ -99,6 +101,26 @@ impl Tpkt {
                 self.packet.clear();
                 self.fault = Some(fault);
                 Err(fault)
+            }
+        }
+    }
+
+    /// Appends the packets of this TSDU, cut by the size that was agreed: TPDUs of that size or of 65,531 octets,
+    /// with 3 octets of header each. A connection stands once a CR or CC was heard, up to a DR, an ER or a fault
+    /// other than `Size`. Without memory nothing is appended.
+    pub fn wrap(&self, _alloc: Global, tsdu: &[u8], out: &mut Vec<u8>) -> Result<(), NoMemory>
+        requires stands { IsTrue (stands self.now) }
+        requires some { 1 ≤ length tsdu.now }
+        requires fits { length tsdu.now ≤ 1048576 }
+        ensures ok { OnOk result (out.new.items ≡ out.old.items ++ said (most_of self.now.connection.phase) tsdu.now) }
+        ensures err { OnErr result (out.new.items ≡ out.old.items) }
+    {
+        let before = out.len();
+        match write_tsdu(self.connection.most(), tsdu, out) {
+            Ok(()) => Ok(()),
+            Err(wanting) => {
+                out.truncate(before);
+                Err(wanting)
             }
         }
     }
