@@ -60,9 +60,10 @@ wants-rest place zero o h d e s f n =
     let same : length o ≡ size_in o = elim (dec_le (length o) 4) [ yes p ↦ omega arith | no p ↦ omega (arith, f (omega arith)) ] in
     let all : length (drop 4 o) ≡ size_in o - 4 = omega (arith, length-drop 4 o) in
     front-sized place o h d e ∙ by_size-whole place (size_in o) (drop 4 o) s (omega arith) ∙ rw (take_all (size_in o - 4) (drop 4 o) (omega arith), drop_all (size_in o - 4) (drop 4 o) (omega arith)) refl
-wants-rest place (suc count) o h d e s f n =
-    (front-sized place o h d e ∙ by_size-part place (size_in o) (drop 4 o) s (omega (arith, length-drop 4 o)),
-     λ more fits long. rw (size_in-append o more h) (omega (arith, length-append o more)))
+wants-rest place (suc count) o h d e s f n = (
+  front-sized place o h d e ∙ by_size-part place (size_in o) (drop 4 o) s (omega (arith, length-drop 4 o)),
+  λ more fits long. rw (size_in-append o more h) (omega (arith, length-append o more)),
+)
 
 -- less than a packet is shorter than the greatest length
 part_by_size : (b c : Bool) (fault : TpktError) (x y : List ℕ) → cond b (bad fault) (cond c part (whole x y)) ≡ part → c ≡ true

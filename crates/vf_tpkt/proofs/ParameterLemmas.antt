@@ -43,7 +43,6 @@ sizes_two (code ∷ size ∷ more) h =
     (ap (λ (rest : _). both (proposed code size more) rest)
     (sizes_in-enough (suc (length more)) (length (drop size more)) (drop size more) (omega (arith, length-drop size more)) (omega arith)))
 
-
 -- what is behind the code and the length of the first parameter
 abbrev pub behind : List ℕ → List ℕ
 behind octets = take (length octets - 2) (drop 2 octets)

@@ -16,7 +16,7 @@ said_in-enough (suc n) zero most tsdu s a b = let short : nat_le (length tsdu) m
 said_in-enough (suc n) (suc m) most tsdu s a b =
     chosen (nat_le (length tsdu) most) (packet (last_dt tsdu)) (packet (other_dt (take most tsdu)) ++ said_in n most (drop most tsdu)) (packet (other_dt (take most tsdu)) ++ said_in m most (drop most tsdu))
     (λ e. ap (λ (rest : List ℕ). packet (other_dt (take most tsdu)) ++ rest) (let long : most < length tsdu = grind (arith, nat_tests) in
-        said_in-enough n m most (drop most tsdu) s (omega (arith, length-drop most tsdu)) (omega (arith, length-drop most tsdu))))
+    said_in-enough n m most (drop most tsdu) s (omega (arith, length-drop most tsdu)) (omega (arith, length-drop most tsdu))))
 
 pub said-last : (most : ℕ) (tsdu : List ℕ) → length tsdu ≤ most → said most tsdu ≡ packet (last_dt tsdu)
 unfolding said_in

@@ -49,7 +49,7 @@ pub looks-heard : (p q : Progress) (packet tpdu rest : List ℕ) (told told' : L
 looks-heard p q packet tpdu rest told told' answered answered' e h =
     let kind = h.0 in
     let r : hearing p (packet ++ rest) ≡ preceded (units_of p kind tpdu) (answer_of kind tpdu) (hearing (after p kind tpdu) rest) =
-        hearing-whole p packet rest tpdu e ∙ rw h.1 refl in
+    hearing-whole p packet rest tpdu e ∙ rw h.1 refl in
     let s = hearing (after p kind tpdu) rest in
     record {
       same = rw (r, h.2, h.3, h.4, append_assoc told (units_of p kind tpdu) s.units, append_assoc answered (answer_of kind tpdu) s.answers) refl;
@@ -61,7 +61,7 @@ looks-heard p q packet tpdu rest told told' answered answered' e h =
 pub looks-refused : (p q : Progress) (packet tpdu rest : List ℕ) (told told' : List Told) (answered answered' : List ℕ) (fault : TpktError) → front p.place packet ≡ whole tpdu [] → HearsTpdu p tpdu told answered q told' answered' (Err fault) → Stops (hearing p (packet ++ rest)) told answered q told' answered' fault
 looks-refused p q packet tpdu rest told told' answered answered' fault e h =
     elim h.2 [
-      inl wanting ↦ inr (wanting, wants-memory (hearing p (packet ++ rest)) told told' answered answered' h.0 h.1)
+      | inl wanting ↦ inr (wanting, wants-memory (hearing p (packet ++ rest)) told told' answered answered' h.0 h.1)
       | inr refused ↦
           (let r : hearing p (packet ++ rest) ≡ stopping p fault = hearing-whole p packet rest tpdu e ∙ rw refused.0 refl in
           let stops = stops-here (hearing p (packet ++ rest)) p fault told answered r in
@@ -87,7 +87,6 @@ pub wants-fits : (place count : ℕ) (packet more : List ℕ) → front place pa
 wants-fits place zero packet more e h n = cc
 wants-fits place (suc count) packet more e h n = h.1 more n
 
-
 pub onward-begins : (p : Progress) (packet rest : List ℕ) (told : List Told) (answered : List ℕ) → front p.place packet ≡ part → Onward p (packet ++ rest) told answered p packet rest told answered
 onward-begins p packet rest told answered e =
     record { same = refl; begun = e; units = same-extends told told refl; answers = same-extends answered answered refl }
@@ -99,29 +98,33 @@ onward-onward p q s octets packet rest packet' rest' told told1 told' answered a
 pub onward-stops : (p q s : Progress) (octets packet rest : List ℕ) (told told1 told' : List Told) (answered answered1 answered' : List ℕ) (fault : TpktError) → Onward p octets told answered q packet rest told1 answered1 → Stops (hearing q (packet ++ rest)) told1 answered1 s told' answered' fault → Stops (hearing p octets) told answered s told' answered' fault
 onward-stops p q s octets packet rest told told1 told' answered answered1 answered' fault a b =
     elim b [
-      inl stopped ↦ inl (a.same ∙ stopped)
+      | inl stopped ↦ inl (a.same ∙ stopped)
       | inr wanting ↦
           (let f = wanting.1 in
-          inr (wanting.0, record {
-            units = extends-twice told told1 told' a.units f.units;
-            others = (f.others.0, ap (λ (r : Reading). r.units) a.same ∙ f.others.1);
-            answers = extends-twice answered answered1 answered' a.answers f.answers;
-            other_answers = (f.other_answers.0, ap (λ (r : Reading). r.answers) a.same ∙ f.other_answers.1);
-          }))
+          inr (
+            wanting.0,
+            record {
+              units = extends-twice told told1 told' a.units f.units;
+              others = (f.others.0, ap (λ (r : Reading). r.units) a.same ∙ f.others.1);
+              answers = extends-twice answered answered1 answered' a.answers f.answers;
+              other_answers = (f.other_answers.0, ap (λ (r : Reading). r.answers) a.same ∙ f.other_answers.1);
+            },
+          ))
     ]
 
 -- what was heard of a piece, as the end keeps it
 pub tells-all : (p q : Progress) (octets packet : List ℕ) (told told' : List Told) (answered answered' : List ℕ) → Onward p octets told answered q packet [] told' answered' → Tells (hearing p octets) told answered (record { connection = q; packet = packet; fault = None }) told' answered' (Ok tt)
 tells-all p q octets packet told told' answered answered' h =
     let rests : preceded told answered (hearing p octets) ≡ record { units = told'; answers = answered'; kept = record { connection = q; packet = packet; fault = None } } =
-        h.same ∙ rw (append-nil packet, hearing-part q packet h.begun, append-nil told', append-nil answered') refl in
-    (ap (λ (r : Reading). r.kept.fault) rests,
-     record { units = sym (ap (λ (r : Reading). r.units) rests); answers = sym (ap (λ (r : Reading). r.answers) rests); keeps = sym (ap (λ (r : Reading). r.kept) rests) })
+    h.same ∙ rw (append-nil packet, hearing-part q packet h.begun, append-nil told', append-nil answered') refl in (
+      ap (λ (r : Reading). r.kept.fault) rests,
+      record { units = sym (ap (λ (r : Reading). r.units) rests); answers = sym (ap (λ (r : Reading). r.answers) rests); keeps = sym (ap (λ (r : Reading). r.kept) rests) },
+    )
 
 pub tells-stops : (r : Reading) (q : Progress) (told told' : List Told) (answered answered' : List ℕ) (fault : TpktError) → Stops r told answered q told' answered' fault → Tells r told answered (stopped q fault) told' answered' (Err fault)
 tells-stops r q told told' answered answered' fault h =
     elim h [
-      inl ends ↦ inl (ap (λ (r : Reading). r.kept.fault) ends, record { units = sym (ap (λ (r : Reading). r.units) ends); answers = sym (ap (λ (r : Reading). r.answers) ends); keeps = sym (ap (λ (r : Reading). r.kept) ends) })
+      | inl ends ↦ inl (ap (λ (r : Reading). r.kept.fault) ends, record { units = sym (ap (λ (r : Reading). r.units) ends); answers = sym (ap (λ (r : Reading). r.answers) ends); keeps = sym (ap (λ (r : Reading). r.kept) ends) })
       | inr wanting ↦ inr (wanting.0, ap Some wanting.0, wanting.1)
     ]
 

@@ -72,6 +72,12 @@ impl Connection {
         self.tsdu.len()
     }
 
+    pub(crate) fn stands(&self) -> bool
+        ensures { result ≡ is_standing self.now.phase }
+    {
+        matches!(self.phase, Phase::Standing { .. })
+    }
+
     /// The most octets of data in a DT that is said.
     pub(crate) fn most(&self) -> usize
         requires { IsTrue (is_standing self.now.phase) }
@@ -161,7 +167,9 @@ impl Connection {
     fn passed(&self, tpdu: &[u8]) -> u64
         ensures { result ≡ place_at (self.now.place + (length tpdu.now + 4)) }
     {
-        self.place.saturating_add(tpdu.len() as u64).saturating_add(4)
+        self.place
+            .saturating_add(tpdu.len() as u64)
+            .saturating_add(4)
     }
 
     /// A CC.
@@ -206,7 +214,12 @@ impl Connection {
     }
 
     /// A CR, which is answered.
-    fn accept(&mut self, tpdu: &[u8], units: &mut Vec<Unit>, answers: &mut Vec<u8>) -> Result<(), NoMemory>
+    fn accept(
+        &mut self,
+        tpdu: &[u8],
+        units: &mut Vec<Unit>,
+        answers: &mut Vec<u8>,
+    ) -> Result<(), NoMemory>
         requires counted { IsTrue (has_lengths_now Kind.Cr tpdu.now) }
         requires fixed { IsTrue (has_fixed_now Kind.Cr tpdu.now) }
         ensures { TellsTpdu self.old Kind.Cr tpdu.now units.old.items answers.old.items self.new units.new.items answers.new.items result }
@@ -243,7 +256,20 @@ fn write_confirm(answers: &mut Vec<u8>, tpdu: &[u8], size: Option<u8>) -> Result
     match size {
         None => answers.extend_from_slice(&[3, 0, 0, 11, 6, 0xD0, high, low, 0, 1, 0])?,
         Some(size) => answers.extend_from_slice(&[
-            3, 0, 0, 14, 9, 0xD0, high, low, 0, 1, 0, SIZE, 1, size.min(11),
+            3,
+            0,
+            0,
+            14,
+            9,
+            0xD0,
+            high,
+            low,
+            0,
+            1,
+            0,
+            SIZE,
+            1,
+            size.min(11),
         ])?,
     }
     Ok(())

@@ -30,15 +30,7 @@ fn write_dt(mark: u8, octets: &[u8], out: &mut Vec<u8>) -> Result<(), NoMemory>
     ensures err { OnErr result (Extends out.old.items out.new.items) }
 {
     let size = octets.len() + 7;
-    out.extend_from_slice(&[
-        3,
-        0,
-        (size / 256) as u8,
-        (size % 256) as u8,
-        2,
-        0xF0,
-        mark,
-    ])?;
+    out.extend_from_slice(&[3, 0, (size / 256) as u8, (size % 256) as u8, 2, 0xF0, mark])?;
     out.extend_from_slice(octets)?;
     Ok(())
 }

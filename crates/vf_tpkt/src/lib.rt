@@ -16,3 +16,6 @@ pub use error::TpktError;
 pub use phase::{Phase, Side};
 pub use tpkt::Tpkt;
 pub use unit::Unit;
+
+#[cfg(test)]
+mod tests;

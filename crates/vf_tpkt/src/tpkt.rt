@@ -2,7 +2,7 @@
 ghost use Rattle.std.specs.Prelude.{◌≡◌, ◌+◌, ◌≤◌, ◌<◌, ◌++◌, [], length, List, ℕ, IsTrue, IfOk, OnOk, OnErr, None};
 ghost use Rattle.vf_tpkt.specs.Hearing.{front, beginning, hears, onward, part};
 ghost use Rattle.vf_tpkt.specs.Pieces.{Tells, TellsPiece};
-ghost use Rattle.vf_tpkt.specs.Saying.{stands, said, most_of};
+ghost use Rattle.vf_tpkt.specs.Saying.{stands as stands_now, said, most_of};
 ghost use Rattle.vf_tpkt.specs.Steps.{FitsOne, Looks, Moves, HearsAll};
 ghost use Rattle.vf_tpkt.specs.Tpdu.{packet, request};
 
@@ -94,7 +94,13 @@ impl Tpkt {
         if let Some(fault) = self.fault {
             return Err(fault);
         }
-        match hear_all(&mut self.connection, &mut self.packet, piece, units, answers) {
+        match hear_all(
+            &mut self.connection,
+            &mut self.packet,
+            piece,
+            units,
+            answers,
+        ) {
             Ok(()) => Ok(()),
             Err(fault) => {
                 self.connection.stop();
@@ -105,11 +111,19 @@ impl Tpkt {
         }
     }
 
+    /// Whether a connection stands, so that `wrap` may be called: once a CR or CC was heard, up to a DR, an ER or a
+    /// fault other than `Size`.
+    pub fn stands(&self) -> bool
+        ensures { result ≡ stands_now self.now }
+    {
+        let heard = matches!(self.fault, None | Some(TpktError::Size { .. }));
+        heard && self.connection.stands()
+    }
+
     /// Appends the packets of this TSDU, cut by the size that was agreed: TPDUs of that size or of 65,531 octets,
-    /// with 3 octets of header each. A connection stands once a CR or CC was heard, up to a DR, an ER or a fault
-    /// other than `Size`. Without memory nothing is appended.
+    /// with 3 octets of header each. Without memory nothing is appended.
     pub fn wrap(&self, _alloc: Global, tsdu: &[u8], out: &mut Vec<u8>) -> Result<(), NoMemory>
-        requires stands { IsTrue (stands self.now) }
+        requires stands { IsTrue (stands_now self.now) }
         requires some { 1 ≤ length tsdu.now }
         requires fits { length tsdu.now ≤ 1048576 }
         ensures ok { OnOk result (out.new.items ≡ out.old.items ++ said (most_of self.now.connection.phase) tsdu.now) }

@@ -10,9 +10,10 @@ pub loop-rest-preserved : goal.loop-rest-preserved
 loop-rest-preserved c =
     let l = c.loop-rest in
     let appended : c.write_dt.new.out.items ≡ l.out.items ++ packet (other_dt (take c.args.most l.rest.now)) =
-        rw (← c.split_at.ensures.front) c.in_ok-write_dt.ensures.ok in
-    (rw c.split_at.ensures.back (goes-on c.args.most (c.args.out.now.items ++ said c.args.most c.args.tsdu.now) l.out.items c.write_dt.new.out.items l.rest.now c.requires.some (omega arith) l.invariant.0 appended),
-     extends-twice c.args.out.now.items l.out.items c.write_dt.new.out.items l.invariant.1 (packet (other_dt (take c.args.most l.rest.now)), appended))
+    rw (← c.split_at.ensures.front) c.in_ok-write_dt.ensures.ok in (
+      rw c.split_at.ensures.back (goes-on c.args.most (c.args.out.now.items ++ said c.args.most c.args.tsdu.now) l.out.items c.write_dt.new.out.items l.rest.now c.requires.some (omega arith) l.invariant.0 appended),
+      extends-twice c.args.out.now.items l.out.items c.write_dt.new.out.items l.invariant.1 (packet (other_dt (take c.args.most l.rest.now)), appended),
+    )
 
 pub returns-clause-ok : goal.returns-clause-ok
 returns-clause-ok c =

@@ -19,9 +19,10 @@ returns-in-Ok-hear_whole c =
     let wants : WantsSome c.place-place.result c.deref.result.now c.in-Ok.lacks = c.in-Ok.ensures in
     let begun : front c.place-place.result c.deref.result.now ≡ part = rw (c.place-place.ensures, c.deref.ensures.value) c.requires.begun in
     let some = part-wants c.place-place.result c.in-Ok.lacks c.deref.result.now begun wants in
-    let looks : Looks c.args.connection.now c.extend_from_slice.new.self.items c.args.units.now.items c.args.answers.now.items c.hear_whole.new.connection c.hear_whole.new.packet.items c.hear_whole.new.units.items c.hear_whole.new.answers.items (Ok tt) = c.in-Ok-hear_whole.ensures in
-    (moves-heard c.args.connection.now c.hear_whole.new.connection c.args.packet.now.items c.split_at.result.0.now c.split_at.result.1.now c.args.piece.now c.hear_whole.new.packet.items c.args.units.now.items c.hear_whole.new.units.items c.args.answers.now.items c.hear_whole.new.answers.items (cut s) (rw (extended s) at looks),
-     omega arith)
+    let looks : Looks c.args.connection.now c.extend_from_slice.new.self.items c.args.units.now.items c.args.answers.now.items c.hear_whole.new.connection c.hear_whole.new.packet.items c.hear_whole.new.units.items c.hear_whole.new.answers.items (Ok tt) = c.in-Ok-hear_whole.ensures in (
+      moves-heard c.args.connection.now c.hear_whole.new.connection c.args.packet.now.items c.split_at.result.0.now c.split_at.result.1.now c.args.piece.now c.hear_whole.new.packet.items c.args.units.now.items c.hear_whole.new.units.items c.args.answers.now.items c.hear_whole.new.answers.items (cut s) (rw (extended s) at looks),
+      omega arith,
+    )
 
 pub returns-in-Err-hear_whole : goal.returns-in-Err-hear_whole
 returns-in-Err-hear_whole c =

@@ -18,7 +18,7 @@ is_whole c =
     let d = c.deref-2.result.now in
     let packet = c.args.packet.now.items in
     let tpdu : take (length d - 4) (drop 4 d) ≡ drop 4 packet =
-        take_all (length d - 4) (drop 4 d) (omega (arith, length-drop 4 d)) ∙ ap (λ (o : List ℕ). drop 4 o) c.deref-2.ensures.value in
+    take_all (length d - 4) (drop 4 d) (omega (arith, length-drop 4 d)) ∙ ap (λ (o : List ℕ). drop 4 o) c.deref-2.ensures.value in
     let wants : WantsSome c.place.result c.deref.result.now c.in-Ok.lacks = c.in-Ok.ensures in
     looks-whole c.args.connection.now c.place.result c.in-Ok.lacks packet (take (length d - 4) (drop 4 d)) c.place.ensures (rw c.deref.ensures.value at wants) (omega arith) tpdu
 
