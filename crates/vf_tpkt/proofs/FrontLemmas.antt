@@ -1,12 +1,12 @@
 -- The front of a stream, by the tests that the code makes.
-use Rattle.std.proofs.Common.{◌≡◌, ◌≢◌, ℕ, zero, suc, ◌+◌, ◌-◌, ◌*◌, ◌<◌, ◌≤◌, List, [], ◌∷◌, ◌++◌, length, take, drop, get_or, min, refl, ap, sym, subst, ◌∙◌, arith, Result, Ok, Err, length-drop, length-append, Bool, true, false, cond, nat_lt, nat_eq}
+use Rattle.std.proofs.Common.{◌≡◌, ◌≢◌, ℕ, zero, suc, ◌+◌, ◌-◌, ◌*◌, ◌<◌, ◌≤◌, List, [], ◌∷◌, ◌++◌, length, take, drop, get_or, refl, ◌∙◌, arith, length-drop, length-append, Bool, true, false, cond, nat_lt, nat_eq}
 use native.Mathlib.Decide.{dec_le}
 use Rattle.std.proofs.lemmas.Bool.Decides.{nat_tests}
 use Rattle.std.proofs.lemmas.List.{take_all, drop_all}
 use Rattle.vf_tpkt.specs.declared.error.TpktError.{TpktError}
 use Rattle.vf_tpkt.specs.declared.error.TpktError.TheVariants as errors
 use Rattle.vf_tpkt.specs.Hearing.{Front, part, bad, whole, front, front_reserved, front_sized, front_by_size, place_at}
-use Rattle.vf_tpkt.specs.Steps.{FitsOne, WantsSome, Wants, size_in}
+use Rattle.vf_tpkt.specs.Steps.{FitsOne, WantsSome, size_in}
 
 pub front-version : (place : ℕ) (o : List ℕ) → 0 < length o → get_or o 0 0 ≢ 3 → front place o ≡ bad (errors.Version (place_at place))
 front-version place [] h e = absurd (omega arith)

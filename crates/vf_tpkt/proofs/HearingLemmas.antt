@@ -1,5 +1,5 @@
 -- The reading of a stream doesn't depend on the number of turns, nor on how the stream is cut.
-use Rattle.std.proofs.Common.{◌≡◌, ℕ, zero, suc, ◌+◌, ◌-◌, ◌*◌, ◌<◌, ◌≤◌, Bool, true, false, cond, nat_lt, nat_eq, List, [], ◌∷◌, ◌++◌, length, take, drop, refl, ap, sym, subst, ◌∙◌, arith, Result, Ok, Err, length-drop, length-append, append_assoc}
+use Rattle.std.proofs.Common.{◌≡◌, ℕ, zero, suc, ◌+◌, ◌-◌, ◌*◌, ◌<◌, ◌≤◌, Bool, true, false, cond, nat_lt, nat_eq, List, [], ◌∷◌, ◌++◌, length, take, drop, refl, ap, sym, ◌∙◌, arith, Result, Ok, Err, length-drop, length-append, append_assoc}
 use Rattle.std.proofs.Math.Nat.{le_refl}
 use Rattle.std.proofs.lemmas.Bool.Decides.{nat_tests}
 use Rattle.std.proofs.lemmas.List.{take-append-le, drop-append-le}
@@ -7,7 +7,7 @@ use Rattle.vf_tpkt.specs.declared.error.TpktError.{TpktError}
 use Rattle.vf_tpkt.specs.declared.error.TpktError.TheVariants as errors
 use Rattle.vf_tpkt.specs.declared.kind.Kind.{Kind}
 use Rattle.vf_tpkt.specs.declared.unit.Unit.{Unit as Told}
-use Rattle.vf_tpkt.specs.Hearing.{Progress, Front, part, bad, whole, front, front_reserved, front_sized, front_by_size, Reading, resting, stopping, preceded, behind_tpdu, behind_front, hearing_in, hearing, checked, after, units_of, onward, place_at}
+use Rattle.vf_tpkt.specs.Hearing.{Progress, Front, part, bad, whole, front, front_reserved, front_sized, front_by_size, Reading, preceded, behind_tpdu, behind_front, hearing_in, hearing, checked, after, units_of, onward, place_at}
 use Rattle.vf_tpkt.specs.Tpdu.{answer_of}
 use Rattle.vf_tpkt.proofs.FrontLemmas.{by_size-whole}
 

@@ -1,5 +1,5 @@
 -- Reading parameters doesn't depend on the number of turns.
-use Rattle.std.proofs.Common.{◌≡◌, ℕ, zero, suc, ◌+◌, ◌-◌, ◌≤◌, List, [], ◌∷◌, ◌<◌, length, take, drop, get_or, refl, ap, arith, length-drop, ◌∙◌, Option, Some, None, sym, subst, ◌≢◌, Bool, ◌||◌, nat_lt, unwrap_or}
+use Rattle.std.proofs.Common.{◌≡◌, ℕ, zero, suc, ◌-◌, ◌≤◌, List, [], ◌∷◌, ◌<◌, length, take, drop, get_or, refl, ap, arith, length-drop, Option, Some, None, sym, subst, ◌≢◌, ◌||◌, nat_lt, unwrap_or}
 use Rattle.std.specs.Option.{option_map}
 use Rattle.vf_tpkt.specs.declared.parameters.Proposed.{Proposed}
 use Rattle.std.proofs.lemmas.Bool.Decides.{nat_tests}

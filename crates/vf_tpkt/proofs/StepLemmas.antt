@@ -1,15 +1,13 @@
 -- The steps of hearing a stream, put together.
-use Rattle.std.proofs.Common.{◌≡◌, ℕ, zero, suc, ◌+◌, ◌-◌, ◌*◌, ◌<◌, ◌≤◌, List, [], ◌∷◌, ◌++◌, length, take, drop, get_or, refl, ap, sym, subst, ◌∙◌, arith, Option, Some, None, Result, Ok, Err, ◌⊎◌, inl, inr, length-drop, length-append, append_assoc, append-nil, OnOk}
+use Rattle.std.proofs.Common.{◌≡◌, ℕ, zero, suc, ◌<◌, ◌≤◌, List, [], ◌++◌, length, drop, refl, ap, sym, subst, ◌∙◌, arith, Option, Some, None, Result, Ok, Err, inl, inr, append_assoc, append-nil, OnOk}
 use Rattle.vf_tpkt.specs.declared.error.TpktError.{TpktError}
-use Rattle.vf_tpkt.specs.declared.error.TpktError.TheVariants as errors
-use Rattle.vf_tpkt.specs.declared.kind.Kind.{Kind}
 use Rattle.vf_tpkt.specs.declared.phase.Side.{Side}
 use Rattle.vf_tpkt.specs.declared.unit.Unit.{Unit as Told}
-use Rattle.vf_tpkt.specs.Hearing.{Progress, Front, part, bad, whole, front, front_by_size, Reading, Kept, resting, stopping, stopped, preceded, behind_tpdu, behind_front, hearing_in, hearing, checked, after, units_of, onward, onward_from, hears, beginning}
-use Rattle.vf_tpkt.specs.Pieces.{Extends, TellsAll, TellsFront, Tells, TellsPiece}
-use Rattle.vf_tpkt.specs.Steps.{HearsTpdu, FitsOne, WantsSome, Stops, Onward, Looks, Moves, HearsAll, size_in}
+use Rattle.vf_tpkt.specs.Hearing.{Progress, part, bad, whole, front, Reading, Kept, resting, stopping, stopped, preceded, behind_tpdu, hearing, checked, after, units_of, onward, onward_from, hears, beginning}
+use Rattle.vf_tpkt.specs.Pieces.{Extends, TellsFront, Tells, TellsPiece}
+use Rattle.vf_tpkt.specs.Steps.{HearsTpdu, FitsOne, WantsSome, Stops, Onward, Looks}
 use Rattle.vf_tpkt.specs.Tpdu.{answer_of}
-use Rattle.vf_tpkt.proofs.HearingLemmas.{hearing-front, front-whole, front-bad, pieces, then}
+use Rattle.vf_tpkt.proofs.HearingLemmas.{hearing-front, front-whole, front-bad, pieces}
 
 pub hearing-part : (p : Progress) (o : List ℕ) → front p.place o ≡ part → hearing p o ≡ resting p o
 hearing-part p o e = hearing-front p o ∙ rw e refl

@@ -1,11 +1,11 @@
 -- What a stream of RFC 1006 packets tells one end of a connection of transport class 0. The stream is read
 -- packet by packet: of the first packet follow its unit and its answer or its fault, and the octets behind it
 -- are read by what the connection then is.
-use Rattle.std.specs.Prelude.{◌≡◌, ℕ, zero, suc, ◌+◌, ◌-◌, ◌*◌, ◌<◌, ◌≤◌, Bool, true, false, ◌&&◌, nat_eq, nat_lt, min, List, [], ◌∷◌, ◌++◌, length, take, drop, slice_index, Option, None, Some, Result, Ok, Err, if◌then◌else◌}
+use Rattle.std.specs.Prelude.{ℕ, zero, suc, ◌+◌, ◌-◌, ◌*◌, Bool, false, nat_eq, nat_lt, min, List, [], ◌∷◌, ◌++◌, length, take, drop, slice_index, Option, None, Some, Result, Ok, Err, if◌then◌else◌}
 use Rattle.vf_tpkt.specs.declared.error.TpktError.{TpktError}
 use Rattle.vf_tpkt.specs.declared.error.TpktError.TheVariants as errors
 use Rattle.vf_tpkt.specs.declared.kind.Kind.{Kind}
-use Rattle.vf_tpkt.specs.declared.kind.Kind.TheVariants.{Cr, Cc, Dr, Er, Dt}
+use Rattle.vf_tpkt.specs.declared.kind.Kind.TheVariants.{Cr, Cc, Dt}
 use Rattle.vf_tpkt.specs.declared.phase.Side.{Side}
 use Rattle.vf_tpkt.specs.declared.phase.Phase.{Phase}
 use Rattle.vf_tpkt.specs.declared.phase.Phase.TheVariants.{First, Standing, Over}

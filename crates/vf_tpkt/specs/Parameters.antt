@@ -1,8 +1,7 @@
 -- The variable part of a CR or CC (ISO 8073, 13.3.4): parameters of a code octet, a length octet and so many
 -- octets of value. C0 proposes the size of a TPDU, as an exponent of 2; all others are skipped.
-use Rattle.std.specs.Prelude.{ℕ, zero, suc, Bool, true, false, nat_eq, nat_lt, List, [], ◌∷◌, ◌++◌, length, take, drop, Option, None, Some, unwrap_or, if◌then◌else◌}
+use Rattle.std.specs.Prelude.{ℕ, zero, suc, Bool, nat_eq, nat_lt, List, [], ◌∷◌, ◌++◌, length, take, drop, Option, None, Some, unwrap_or, if◌then◌else◌}
 use Rattle.std.specs.List.{list_any}
-use Rattle.std.specs.Option.{option_map}
 use Rattle.vf_tpkt.specs.declared.parameters.Proposed.{Proposed}
 
 -- what one parameter proposes, by its code, its length and the octets behind these: none where it ends past

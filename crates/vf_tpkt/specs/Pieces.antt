@@ -1,10 +1,10 @@
 -- A stream that comes in pieces.
-use Rattle.std.specs.Prelude.{◌≡◌, ℕ, List, ◌++◌, Option, None, Some, Result, Ok, Err, ◌⊎◌}
+use Rattle.std.specs.Prelude.{◌≡◌, ℕ, List, ◌++◌, None, Some, Result, Ok, Err, ◌⊎◌}
 use Rattle.vf_tpkt.specs.declared.error.TpktError.{TpktError}
 use Rattle.vf_tpkt.specs.declared.error.TpktError.TheVariants as errors
 use Rattle.vf_tpkt.specs.declared.phase.Side.{Side}
 use Rattle.vf_tpkt.specs.declared.unit.Unit.{Unit as Told}
-use Rattle.vf_tpkt.specs.Hearing.{Reading, Kept, hears, onward, preceded}
+use Rattle.vf_tpkt.specs.Hearing.{Reading, Kept, hears, preceded}
 
 -- new is old with something appended
 abbrev pub Extends : {A : Type 0} → List A → List A → Type 0

@@ -3,7 +3,7 @@ use Rattle.std.specs.Prelude.{â„•, zero, suc, Bool, true, false, nat_le, List, â
 use Rattle.vf_tpkt.specs.declared.error.TpktError.{TpktError}
 use Rattle.vf_tpkt.specs.declared.error.TpktError.TheVariants as errors
 use Rattle.vf_tpkt.specs.declared.phase.Phase.{Phase}
-use Rattle.vf_tpkt.specs.declared.phase.Phase.TheVariants.{First, Standing, Over}
+use Rattle.vf_tpkt.specs.declared.phase.Phase.TheVariants.{Standing}
 use Rattle.vf_tpkt.specs.Hearing.{Kept}
 use Rattle.vf_tpkt.specs.Tpdu.{packet}
 

@@ -1,14 +1,14 @@
 -- The steps of hearing a stream, as the functions that take them promise. Want of memory, which may come at any
 -- of them, ends the reading with fewer units and answers than the stream holds.
-use Rattle.std.specs.Prelude.{◌≡◌, ℕ, ◌+◌, ◌≤◌, Bool, true, ◌&&◌, nat_le, List, [], ◌++◌, length, drop, slice_index, Option, Result, Ok, Err, ◌⊎◌, ◌*◌, ◌<◌, zero, suc, None, Some}
+use Rattle.std.specs.Prelude.{◌≡◌, ℕ, ◌+◌, ◌≤◌, Bool, true, ◌&&◌, nat_le, List, [], ◌++◌, length, drop, slice_index, Result, Ok, Err, ◌⊎◌, ◌*◌, ◌<◌, zero, suc}
 use Rattle.vf_base.specs.declared.errors.NoMemory.{NoMemory}
 use Rattle.vf_tpkt.specs.declared.error.TpktError.{TpktError}
 use Rattle.vf_tpkt.specs.declared.error.TpktError.TheVariants as errors
 use Rattle.vf_tpkt.specs.declared.kind.Kind.{Kind}
 use Rattle.vf_tpkt.specs.declared.phase.Phase.{Phase}
-use Rattle.vf_tpkt.specs.declared.phase.Phase.TheVariants.{First, Standing, Over}
+use Rattle.vf_tpkt.specs.declared.phase.Phase.TheVariants.{Standing}
 use Rattle.vf_tpkt.specs.declared.unit.Unit.{Unit as Told}
-use Rattle.vf_tpkt.specs.Hearing.{Progress, Reading, checked, units_of, after, front, Front, part, bad, whole, hearing, preceded, stopped}
+use Rattle.vf_tpkt.specs.Hearing.{Progress, Reading, checked, units_of, after, front, part, bad, whole, hearing, preceded, stopped}
 use Rattle.vf_tpkt.specs.Pieces.{Extends, TellsFront}
 use Rattle.std.specs.Borrow.{Bor}
 use Rattle.vf_tpkt.specs.Tpdu.{answer_of}

@@ -1,8 +1,7 @@
 -- One TPDU of transport class 0 (ISO 8073, 13), as its octets from the length octet on: what is wrong with it,
 -- and what it tells. A packet has one of at least three octets.
-use Rattle.std.specs.Prelude.{ℕ, ◌+◌, ◌-◌, ◌*◌, ◌/◌, ◌%◌, ◌^◌, Bool, true, false, ◌&&◌, ◌||◌, nat_eq, nat_lt, nat_le, min, List, [], ◌∷◌, ◌++◌, length, drop, slice_index, Option, None, Some, is_some, unwrap_or, if◌then◌else◌}
-use Rattle.std.specs.Option.{option_map_or}
-use Rattle.std.specs.List.{list_all, list_any}
+use Rattle.std.specs.Prelude.{ℕ, ◌+◌, ◌-◌, ◌/◌, ◌%◌, ◌^◌, Bool, true, false, ◌&&◌, ◌||◌, nat_eq, nat_lt, nat_le, min, List, [], ◌∷◌, length, drop, slice_index, Option, None, Some, is_some, if◌then◌else◌}
+use Rattle.std.specs.List.{list_any}
 use Rattle.vf_tpkt.specs.declared.kind.Kind.{Kind}
 use Rattle.vf_tpkt.specs.declared.kind.Kind.TheVariants.{Cr, Cc, Dr, Er, Dt}
 use Rattle.vf_tpkt.specs.declared.phase.Side.{Side}

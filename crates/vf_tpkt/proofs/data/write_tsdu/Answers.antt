@@ -1,4 +1,4 @@
-use Rattle.std.proofs.Common.{◌≡◌, ◌++◌, ◌<◌, List, ℕ, arith, rules, drop, take, length}
+use Rattle.std.proofs.Common.{◌≡◌, ◌++◌, arith, take}
 use Rattle.std.proofs.lemmas.Result.{IfOk-equal}
 use Rattle.vf_tpkt.specs.Saying.{said, other_dt}
 use Rattle.vf_tpkt.specs.Tpdu.{packet}

@@ -1,4 +1,4 @@
-use Rattle.std.proofs.Common.{◌≡◌, ◌≤◌, arith, rules, get_or, length, refl}
+use Rattle.std.proofs.Common.{◌≡◌, ◌≤◌, arith, get_or, length, refl}
 use Rattle.std.proofs.lemmas.Bool.Decides.{nat_tests}
 use Rattle.vf_tpkt.proofs.FrontLemmas.{wants-rest}
 use Rattle.vf_tpkt.proofs.packet.wanted.Goals as goal

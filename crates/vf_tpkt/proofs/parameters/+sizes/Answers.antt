@@ -1,4 +1,4 @@
-use Rattle.std.proofs.Common.{arith, ◌≡◌, ◌≤◌, ◌≢◌, ◌<◌, refl, length, drop, get_or, sym, ◌∙◌, ap, None, Some}
+use Rattle.std.proofs.Common.{arith, ◌≡◌, ◌≤◌, ◌≢◌, ◌<◌, refl, length, drop, get_or, sym, ◌∙◌, None, Some}
 use Rattle.std.proofs.lemmas.Bool.Decides.{nat_tests}
 use Rattle.std.specs.Option.{option_map}
 use Rattle.vf_tpkt.specs.Parameters.{sizes as sizes_of, summary}

@@ -1,8 +1,8 @@
-use Rattle.std.proofs.Common.{◌≡◌, ◌≤◌, ◌<◌, ◌++◌, List, ℕ, arith, length, take, drop, ◌∙◌, ap, sym, Ok, Err}
+use Rattle.std.proofs.Common.{◌≡◌, ◌++◌, arith, Ok, Err}
 use Rattle.std.proofs.lemmas.Grind.{common_steps}
 use Rattle.std.proofs.lemmas.List.{take-append-drop}
-use Rattle.vf_tpkt.specs.Hearing.{front, part, hearing}
-use Rattle.vf_tpkt.specs.Steps.{WantsSome, Looks, Stops}
+use Rattle.vf_tpkt.specs.Hearing.{front, part}
+use Rattle.vf_tpkt.specs.Steps.{WantsSome, Looks}
 use Rattle.vf_tpkt.proofs.StepLemmas.{moves-heard, moves-refused, part-wants}
 use Rattle.vf_tpkt.proofs.tpkt.advance.Goals as goal
 use Rattle.vf_tpkt.proofs.tpkt.advance.Goals.{After-hear_whole}

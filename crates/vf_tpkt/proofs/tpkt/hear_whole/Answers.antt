@@ -1,4 +1,4 @@
-use Rattle.std.proofs.Common.{◌≡◌, ◌≤◌, ◌-◌, List, [], ℕ, arith, drop, take, length, length-drop, ◌∙◌, ap}
+use Rattle.std.proofs.Common.{◌≡◌, ◌-◌, List, [], ℕ, arith, drop, take, length, length-drop, ◌∙◌, ap}
 use Rattle.std.proofs.lemmas.List.{take_all}
 use Rattle.vf_tpkt.specs.Hearing.{front, bad, whole}
 use Rattle.vf_tpkt.specs.Steps.{WantsSome}
