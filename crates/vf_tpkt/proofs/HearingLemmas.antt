@@ -133,7 +133,7 @@ hearing-front p (x ∷ o) =
 abbrev pub then : Reading → List ℕ → Reading
 then r piece = preceded r.units r.answers (onward r.kept piece)
 
-preceded-twice : (us vs : List Told) (bs cs : List ℕ) (r : Reading) → preceded us bs (preceded vs cs r) ≡ preceded (us ++ vs) (bs ++ cs) r
+pub preceded-twice : (us vs : List Told) (bs cs : List ℕ) (r : Reading) → preceded us bs (preceded vs cs r) ≡ preceded (us ++ vs) (bs ++ cs) r
 preceded-twice us vs bs cs r = rw (append_assoc us vs r.units, append_assoc bs cs r.answers) refl
 
 tpdu-then : (p : Progress) (tpdu more b : List ℕ) (r : Result Kind TpktError) → ((q : Progress) → hearing q (more ++ b) ≡ then (hearing q more) b) → behind_tpdu hearing p tpdu (more ++ b) r ≡ then (behind_tpdu hearing p tpdu more r) b

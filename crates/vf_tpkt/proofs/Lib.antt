@@ -5,3 +5,4 @@ pub mod FrontLemmas
 pub mod HearingLemmas
 pub mod StepLemmas
 pub mod SayingLemmas
+pub mod RoundTrip

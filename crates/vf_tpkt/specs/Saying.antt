@@ -1,10 +1,11 @@
 -- What one end says of a TSDU: DT TPDUs, each in its packet (ISO 8073, 13.7; RFC 1006, 6).
-use Rattle.std.specs.Prelude.{ℕ, zero, suc, Bool, true, false, nat_le, List, ◌∷◌, ◌++◌, length, take, drop, Option, None, Some, ◌&&◌, if◌then◌else◌}
+use Rattle.std.specs.Prelude.{◌≡◌, ◌+◌, ◌≤◌, [], IsTrue, ℕ, zero, suc, Bool, true, false, nat_le, List, ◌∷◌, ◌++◌, length, take, drop, Option, None, Some, ◌&&◌, if◌then◌else◌}
 use Rattle.vf_tpkt.specs.declared.error.TpktError.{TpktError}
 use Rattle.vf_tpkt.specs.declared.error.TpktError.TheVariants as errors
 use Rattle.vf_tpkt.specs.declared.phase.Phase.{Phase}
 use Rattle.vf_tpkt.specs.declared.phase.Phase.TheVariants.{Standing}
-use Rattle.vf_tpkt.specs.Hearing.{Kept}
+use Rattle.vf_tpkt.specs.declared.unit.Unit.TheVariants as told
+use Rattle.vf_tpkt.specs.Hearing.{Kept, Progress, hearing, preceded, place_at}
 use Rattle.vf_tpkt.specs.Tpdu.{packet}
 
 -- A DT, with the mark of the last one of its TSDU or of another.
@@ -41,3 +42,13 @@ is_heard (Some fault) = false
 
 abbrev pub stands : Kept → Bool
 stands kept = is_standing kept.connection.phase && is_heard kept.fault
+
+-- What is said of a TSDU tells this TSDU at an end that waits for one, and then what follows it tells what it
+-- tells: the connection is as it was, with the octets of the packets behind it.
+abbrev pub behind_said : Progress → List ℕ → Progress
+behind_said p octets = record { side = p.side; phase = p.phase; tsdu = []; place = place_at (p.place + length octets) }
+
+abbrev pub HearsSaid : Progress → ℕ → List ℕ → List ℕ → Type 0
+HearsSaid p most tsdu more =
+    IsTrue (is_standing p.phase) → p.tsdu ≡ [] → 1 ≤ most → most ≤ 65528 → length tsdu ≤ 1048576 →
+    hearing p (said most tsdu ++ more) ≡ preceded (told.Data tsdu ∷ []) [] (hearing (behind_said p (said most tsdu)) more)

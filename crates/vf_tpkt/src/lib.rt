@@ -6,6 +6,7 @@ mod data;
 mod error;
 mod form;
 mod kind;
+mod laws;
 mod packet;
 mod parameters;
 mod phase;
@@ -13,6 +14,7 @@ mod tpkt;
 mod unit;
 
 pub use error::TpktError;
+pub use laws::{ends_connect, pieces_tell_all, said_is_heard};
 pub use phase::{Phase, Side};
 pub use tpkt::Tpkt;
 pub use unit::Unit;
