@@ -1,5 +1,5 @@
 -- What is known of a TPDU that was found without fault.
-use Rattle.std.proofs.Common.{◌≡◌, ℕ, Bool, true, false, cond, List, Option, None, Some, Result, Ok, Err, slice_index, refl, subst}
+use Rattle.std.proofs.Common.{◌≡◌, ℕ, Bool, true, false, cond, List, Option, None, Some, Result, Ok, Err, slice_index, refl, subst, ap}
 use Rattle.vf_tpkt.specs.declared.error.TpktError.{TpktError}
 use Rattle.vf_tpkt.specs.declared.kind.Kind.{Kind}
 use Rattle.vf_tpkt.specs.Hearing.{Progress, checked, checked_as, passes_longest}
@@ -31,3 +31,11 @@ right_as p tpdu (Some k) kind h =
 
 pub right : (p : Progress) (tpdu : List ℕ) (kind : Kind) → checked p tpdu ≡ Ok kind → IsRight p tpdu kind
 right p tpdu kind h = right_as p tpdu (kind_of (slice_index tpdu 1)) kind h
+
+pub kind-is : (p : Progress) (tpdu : List ℕ) (o : Option Kind) (kind : Kind) → checked_as p tpdu o ≡ Ok kind → o ≡ Some kind
+kind-is p tpdu None kind h = cc
+kind-is p tpdu (Some k) kind h =
+    let comes = guarded (may_come p.side p.phase k) _ _ kind h in
+    let counted = guarded (has_lengths k tpdu) _ _ kind comes.1 in
+    let fixed = guarded (has_fixed k tpdu) _ _ kind counted.1 in
+    ap Some (passed (passes_longest p k tpdu) _ k kind fixed.1).1

@@ -16,18 +16,18 @@ along : (b : Bool) (F F' E X X' : Front) → cond b F E ≡ X → (F ≡ X → F
 along true F F' E X X' h f e = f h
 along false F F' E X X' h f e = e h
 
-record IsWhole (size : ℕ) (o tpdu more : List ℕ) : Type 0 where
-  enough : 7 ≤ size
-  fits : size - 4 ≤ length o
-  front_is : take (size - 4) o ≡ tpdu
-  rest_is : drop (size - 4) o ≡ more
+pub record IsWhole (size : ℕ) (o tpdu more : List ℕ) : Type 0 where
+  pub enough : 7 ≤ size
+  pub fits : size - 4 ≤ length o
+  pub front_is : take (size - 4) o ≡ tpdu
+  pub rest_is : drop (size - 4) o ≡ more
 
 chosen : (b c : Bool) (e : TpktError) (x y tpdu more : List ℕ) → cond b (bad e) (cond c part (whole x y)) ≡ whole tpdu more → (b ≡ false) × (c ≡ false) × (x ≡ tpdu) × (y ≡ more)
 chosen true c e x y tpdu more h = cc
 chosen false true e x y tpdu more h = cc
 chosen false false e x y tpdu more h = (refl, refl, cc, cc)
 
-is_whole : (place size : ℕ) (o tpdu more : List ℕ) → front_by_size place size o ≡ whole tpdu more → IsWhole size o tpdu more
+pub is_whole : (place size : ℕ) (o tpdu more : List ℕ) → front_by_size place size o ≡ whole tpdu more → IsWhole size o tpdu more
 is_whole place size o tpdu more h =
     let c = chosen (nat_lt size 7) (nat_lt (length o) (size - 4)) (errors.Length (place_at (place + 3))) (take (size - 4) o) (drop (size - 4) o) tpdu more h in
     let large : nat_lt size 7 ≡ false = c.0 in

@@ -6,3 +6,4 @@ pub mod HearingLemmas
 pub mod StepLemmas
 pub mod SayingLemmas
 pub mod RoundTrip
+pub mod HistoryLemmas

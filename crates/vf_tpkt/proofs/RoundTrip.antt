@@ -1,22 +1,21 @@
 -- What is said is heard again.
 use Rattle.std.proofs.Math.Nat.{le_refl}
 use native.Mathlib.Decide.{dec_le}
-use Rattle.std.proofs.Common.{◌≡◌, ℕ, zero, suc, ◌+◌, ◌-◌, ◌*◌, ◌/◌, ◌%◌, ◌≤◌, ◌<◌, Bool, true, false, cond, nat_le, nat_lt, nat_eq, ◌||◌, List, [], ◌∷◌, ◌++◌, length, take, drop, refl, ap, sym, subst, ◌∙◌, arith, length-drop, length-take, length-append, append_assoc, IsTrue, min, Result, Ok, Err, Option, Some, None}
+use Rattle.std.proofs.Common.{◌≡◌, ℕ, zero, suc, ◌+◌, ◌-◌, ◌*◌, ◌/◌, ◌%◌, ◌≤◌, ◌<◌, true, false, List, [], ◌∷◌, ◌++◌, length, take, drop, refl, ap, sym, ◌∙◌, arith, length-drop, length-take, length-append, append_assoc, IsTrue, Result, Ok, Option, Some, None}
 use Rattle.std.proofs.lemmas.Bool.Decides.{nat_tests}
 use Rattle.std.proofs.lemmas.List.{take-append-drop}
 use Rattle.std.proofs.Math.Seq.{take-append_seam, drop-append_seam}
 use Rattle.vf_tpkt.specs.declared.error.TpktError.{TpktError}
 use Rattle.vf_tpkt.specs.declared.kind.Kind.{Kind}
-use Rattle.vf_tpkt.specs.declared.kind.Kind.TheVariants.{Cr, Cc, Dr, Er, Dt}
+use Rattle.vf_tpkt.specs.declared.kind.Kind.TheVariants.{Dt}
 use Rattle.vf_tpkt.specs.declared.phase.Phase.{Phase}
 use Rattle.vf_tpkt.specs.declared.phase.Phase.TheVariants.{First, Standing, Over}
-use Rattle.vf_tpkt.specs.declared.unit.Unit.{Unit as Told}
 use Rattle.vf_tpkt.specs.declared.unit.Unit.TheVariants as told
-use Rattle.vf_tpkt.specs.Hearing.{Progress, Kept, Reading, front, whole, front_by_size, checked, checked_as, hearing, preceded, behind_tpdu, after, units_of, place_at, onward, onward_from, passes_longest}
-use Rattle.vf_tpkt.specs.Saying.{said, last_dt, other_dt, is_standing, behind_said, HearsSaid}
-use Rattle.vf_tpkt.specs.Tpdu.{packet, may_come, has_lengths, has_fixed, answer_of}
+use Rattle.vf_tpkt.specs.Hearing.{Progress, Kept, Reading, front, whole, front_by_size, checked, hearing, preceded, behind_tpdu, after, units_of, place_at, onward, onward_from, passes_longest}
+use Rattle.vf_tpkt.specs.Saying.{said, last_dt, other_dt, is_standing, HearsSaid}
+use Rattle.vf_tpkt.specs.Tpdu.{packet, may_come, has_lengths, answer_of}
 use Rattle.vf_tpkt.proofs.FrontLemmas.{by_size-whole}
-use Rattle.vf_tpkt.proofs.HearingLemmas.{hearing-front, pieces, then, preceded-twice}
+use Rattle.vf_tpkt.proofs.HearingLemmas.{hearing-front, pieces, then}
 use Rattle.vf_tpkt.proofs.SayingLemmas.{said-last, said-more}
 
 onward-pieces-by : (kept : Kept) (fault : Option TpktError) (a b : List ℕ) → kept.fault ≡ fault → onward kept (a ++ b) ≡ then (onward kept a) b
@@ -110,7 +109,7 @@ more-said p most tsdu more long claim s some fits short =
     let all : (p.tsdu ++ take most tsdu) ++ drop most tsdu ≡ p.tsdu ++ tsdu = append_assoc p.tsdu (take most tsdu) (drop most tsdu) ∙ ap (λ (t : List ℕ). p.tsdu ++ t) (take-append-drop most tsdu) in
     let spelled : said most tsdu ≡ front ++ others = said-more most tsdu some long in
     let place : place_at (place_at (p.place + length front) + length others) ≡ place_at (p.place + length (said most tsdu)) =
-        place-twice p.place (length front) (length others) ∙ ap (λ (n : ℕ). place_at (p.place + n)) (sym (ap (λ (o : List ℕ). length o) spelled ∙ length-append front others)) in
+    place-twice p.place (length front) (length others) ∙ ap (λ (n : ℕ). place_at (p.place + n)) (sym (ap (λ (o : List ℕ). length o) spelled ∙ length-append front others)) in
     ap (λ (o : List ℕ). hearing p (o ++ more)) spelled ∙
     ap (λ (o : List ℕ). hearing p o) (append_assoc front others more) ∙
     hears-other p (take most tsdu) (others ++ more) s (omega arith) (omega arith) (omega arith) ∙
@@ -121,8 +120,8 @@ more-said p most tsdu more long claim s some fits short =
 claims : (n : ℕ) (p : Progress) (most : ℕ) (tsdu more : List ℕ) → length tsdu ≤ n → Claim p most tsdu more
 claims zero p most tsdu more bound s some fits short = last-said p most tsdu more (omega arith) s some fits short
 claims (suc n) p most tsdu more bound s some fits short = elim (dec_le (length tsdu) most) [
-    yes last ↦ last-said p most tsdu more last s some fits short
-    | no longer ↦ more-said p most tsdu more (omega arith) (λ q. claims n q most (drop most tsdu) more (omega (arith, length-drop most tsdu))) s some fits short
+  | yes last ↦ last-said p most tsdu more last s some fits short
+  | no longer ↦ more-said p most tsdu more (omega arith) (λ q. claims n q most (drop most tsdu) more (omega (arith, length-drop most tsdu))) s some fits short
 ]
 
 pub said-heard : (p : Progress) (most : ℕ) (tsdu more : List ℕ) → HearsSaid p most tsdu more

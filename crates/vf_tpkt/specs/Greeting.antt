@@ -1,5 +1,5 @@
 -- How two ends of this project connect: a CR without parameters, and the CC that answers it (ISO 8073, 6.5).
-use Rattle.std.specs.Prelude.{◌≡◌, ℕ, List, [], ◌∷◌, None}
+use Rattle.std.specs.Prelude.{◌≡◌, [], ◌∷◌, None}
 use Rattle.vf_tpkt.specs.declared.phase.Side.{Side}
 use Rattle.vf_tpkt.specs.declared.phase.Side.TheVariants.{Calling, Called}
 use Rattle.vf_tpkt.specs.declared.phase.Phase.TheVariants.{Standing}

@@ -14,7 +14,7 @@ mod tpkt;
 mod unit;
 
 pub use error::TpktError;
-pub use laws::{ends_connect, pieces_tell_all, said_is_heard};
+pub use laws::{ends_connect, pieces_tell_all, said_is_heard, stream_holds_tpdus};
 pub use phase::{Phase, Side};
 pub use tpkt::Tpkt;
 pub use unit::Unit;
