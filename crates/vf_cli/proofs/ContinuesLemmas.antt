@@ -13,34 +13,34 @@ use Rattle.vf_regime.specs.declared.message.Said.{Said}
 use Rattle.vf_regime.specs.declared.message.Said.TheVariants as answers
 use Rattle.vf_regime.specs.Refusal.{not_built}
 use Rattle.vf_regime.specs.State.{State, StandingParty, party_of, with_party}
-use Rattle.vf_regime.specs.Transition.{Turn, after_turn, transition}
+use Rattle.vf_regime.specs.Transition.{Consequence, after_transition, transition}
 use Rattle.vf_cli.specs.Conversation.{Aborts, Continues, IsQuiet, behind}
-use Rattle.vf_cli.specs.Dialogue.{Fault, Heard, Request, answer, answer_by, dialogue_from, heard, heard_first, is_abort, joined, link, behind_replies, message_of, prints_after, reply, said_to, turn_to}
+use Rattle.vf_cli.specs.Dialogue.{Fault, Received, Request, answer, answer_by, dialogue_from, received, received_first, is_abort, joined, link, behind_replies, message_of, prints_after, reply, said_to, consequence_to}
 use Rattle.vf_cli.specs.Printed.{Printed}
-use Rattle.vf_cli.proofs.ReceivedLemmas.{heard-read, heard_front}
+use Rattle.vf_cli.proofs.ReceivedLemmas.{received-read, received_front}
 
 -- a link where no party stands is told nothing
-pub said_to-gone : (state : State) (things : List Heard) → state.parties ≡ [] → said_to state things ≡ []
+pub said_to-gone : (state : State) (things : List Received) → state.parties ≡ [] → said_to state things ≡ []
 said_to-gone state [] gone = refl
 said_to-gone state (thing ∷ things) gone =
     let nobody : party_of link state.parties ≡ None = ap (party_of link) gone in
     let answered : answer state thing ≡ record { said = []; state = state } = ap (answer_by state thing) nobody in
     (λ i. (answered i).said ++ said_to (answered i).state things) ∙ said_to-gone state things gone
 
--- a party that stands is told its turn, and what is said in the state after it
-pub said_to-one : (state : State) (party : StandingParty) (thing : Heard) (things : List Heard) → state.parties ≡ party ∷ [] → party.link ≡ link
-    → said_to state (thing ∷ things) ≡ (turn_to state party thing).said ++ said_to (after_turn state link (turn_to state party thing)) things
+-- a party that stands is told its consequence, and what is said in the state after it
+pub said_to-one : (state : State) (party : StandingParty) (thing : Received) (things : List Received) → state.parties ≡ party ∷ [] → party.link ≡ link
+    → said_to state (thing ∷ things) ≡ (consequence_to state party thing).said ++ said_to (after_transition state link (consequence_to state party thing)) things
 said_to-one state party thing things one here =
     let found : party_of link state.parties ≡ Some party =
     ap (party_of link) one ∙ ap (λ (n : ℕ). if nat_eq n link then Some party else None) here in
     ap (λ (o : Option StandingParty). (answer_by state thing o).said ++ said_to (answer_by state thing o).state things) found
 
--- the parties after the turn of the one party
-pub after_one : (state : State) (party : StandingParty) (turn : Turn) → state.parties ≡ party ∷ [] → party.link ≡ link
-    → (after_turn state link turn).parties ≡ option_to_list turn.party ++ []
-after_one state party turn one here =
-    ap (with_party link turn.party) one
-    ∙ ap (λ (n : ℕ). if nat_eq n link then option_to_list turn.party ++ [] else party ∷ []) here
+-- the parties after the consequence of the one party
+pub after_one : (state : State) (party : StandingParty) (consequence : Consequence) → state.parties ≡ party ∷ [] → party.link ≡ link
+    → (after_transition state link consequence).parties ≡ option_to_list consequence.party ++ []
+after_one state party consequence one here =
+    ap (with_party link consequence.party) one
+    ∙ ap (λ (n : ℕ). if nat_eq n link then option_to_list consequence.party ++ [] else party ∷ []) here
 
 abbrev pub last : Bool → Option ℕ → Printed
 last aborted bad = if aborted then record { octets = []; status = 7 } else behind_replies bad
@@ -70,43 +70,43 @@ prints_after-abort said bad abort =
 module _ (old new : State) (octets rest : List ℕ) where
   -- what is said to octets first, whatever follows, and then what is said to the rest in the next state
   abbrev pub Says : List Said → Type 0
-  Says said = (more : List ℕ) → said_to old (heard (octets ++ more)) ≡ said ++ said_to new (heard (rest ++ more))
+  Says said = (more : List ℕ) → said_to old (received (octets ++ more)) ≡ said ++ said_to new (received (rest ++ more))
 
   pub continues : (said : List Said) → list_any is_abort said ≡ false → Says said → Continues old octets (flat_map reply said) new rest
   continues said none says = record {
     prints = λ input. ap (λ l. prints_after l input.bad) (says (joined input.pieces))
-        ∙ prints_after-append said (said_to new (heard (rest ++ joined input.pieces))) input.bad none;
+        ∙ prints_after-append said (said_to new (received (rest ++ joined input.pieces))) input.bad none;
   }
 
   pub aborts : (said : List Said) → list_any is_abort said ≡ true → new.parties ≡ [] → Says said → Aborts old octets (flat_map reply said)
   aborts said abort gone says = record {
     prints = λ input.
         ap (λ l. prints_after l input.bad) (says (joined input.pieces)
-        ∙ ap (λ l. said ++ l) (said_to-gone new (heard (rest ++ joined input.pieces)) gone) ∙ append-nil said)
+        ∙ ap (λ l. said ++ l) (said_to-gone new (received (rest ++ joined input.pieces)) gone) ∙ append-nil said)
         ∙ prints_after-abort said input.bad abort;
   }
 
 -- a request in front is taken by the one party
 pub says_request : (state : State) (party : StandingParty) (octets : List ℕ) (tree : Tree) (n : ℕ) (pdu : Pdu)
     → state.parties ≡ party ∷ [] → party.link ≡ link → reading octets ≡ Read tree n → meaning tree ≡ Some pdu
-    → Says state (after_turn state link (transition state party 0 (messages.Pdu pdu))) octets (drop n octets) (transition state party 0 (messages.Pdu pdu)).said
+    → Says state (after_transition state link (transition state party 0 (messages.Pdu pdu))) octets (drop n octets) (transition state party 0 (messages.Pdu pdu)).said
 says_request state party octets tree n pdu one here read means = λ more.
-    ap (said_to state) (heard-read octets more tree n read ∙ ap (λ o. message_of o ∷ heard (drop n octets ++ more)) means)
-    ∙ said_to-one state party (Request pdu) (heard (drop n octets ++ more)) one here
+    ap (said_to state) (received-read octets more tree n read ∙ ap (λ o. message_of o ∷ received (drop n octets ++ more)) means)
+    ∙ said_to-one state party (Request pdu) (received (drop n octets ++ more)) one here
 
 -- octets that are no message end the one party
 pub aborts_fault : (state : State) (party : StandingParty) (octets : List ℕ) → state.parties ≡ party ∷ [] → party.link ≡ link
-    → ((more : List ℕ) → (later : List Heard) × (heard (octets ++ more) ≡ Fault ∷ later))
+    → ((more : List ℕ) → (later : List Received) × (received (octets ++ more) ≡ Fault ∷ later))
     → Aborts state octets (reply (answers.Abort not_built 0))
 aborts_fault state party octets one here faulty = record {
   prints = λ input.
       let fault = faulty (joined input.pieces) in
-      let turn = turn_to state party Fault in
+      let consequence = consequence_to state party Fault in
       let said : List Said = answers.Abort not_built 0 ∷ [] in
-      let after = after_turn state link turn in
+      let after = after_transition state link consequence in
       ap (λ l. prints_after l input.bad)
       (ap (said_to state) fault.1 ∙ said_to-one state party Fault fault.0 one here
-      ∙ ap (λ l. said ++ l) (said_to-gone after fault.0 (after_one state party turn one here)))
+      ∙ ap (λ l. said ++ l) (said_to-gone after fault.0 (after_one state party consequence one here)))
       ∙ prints_after-abort said input.bad refl
       ∙ (λ i. record { octets = append-nil (reply (answers.Abort not_built 0)) i; status = 7 });
 }
@@ -130,12 +130,12 @@ continues_none state octets = record { prints = λ input. refl }
 pub continues_gone : (state : State) (octets rest : List ℕ) → state.parties ≡ [] → Continues state octets [] state rest
 continues_gone state octets rest gone = record {
   prints = λ input.
-      ap (λ l. prints_after l input.bad) (said_to-gone state (heard (octets ++ joined input.pieces)) gone)
-      ∙ sym (ap (λ l. behind [] (prints_after l input.bad)) (said_to-gone state (heard (rest ++ joined input.pieces)) gone));
+      ap (λ l. prints_after l input.bad) (said_to-gone state (received (octets ++ joined input.pieces)) gone)
+      ∙ sym (ap (λ l. behind [] (prints_after l input.bad)) (said_to-gone state (received (rest ++ joined input.pieces)) gone));
 }
 
 pub quiet_gone : (state : State) (pending : List ℕ) → state.parties ≡ [] → IsQuiet state pending
-quiet_gone state pending gone = said_to-gone state (heard pending) gone
+quiet_gone state pending gone = said_to-gone state (received pending) gone
 
 pub quiet_short : (state : State) (pending : List ℕ) → reading pending ≡ Short → IsQuiet state pending
-quiet_short state pending short = ap (said_to state) (heard_front pending ∙ ap (heard_first heard pending) short)
+quiet_short state pending short = ap (said_to state) (received_front pending ∙ ap (received_first received pending) short)

@@ -5,7 +5,7 @@ mod TakenLemmas
 mod ContinuesLemmas
 mod ReceivedLemmas
 mod ReadingLemmas
-mod TurnLemmas
+mod ConsequenceLemmas
 pub mod HexLemmas
 pub mod LinesLemmas
 pub mod InputLemmas

@@ -2,7 +2,7 @@
 use Rattle.std.proofs.Common.{◌≡◌, ℕ, List, [], ◌++◌, Option, None, Some, refl, ap, sym, subst, ◌∙◌, append_assoc, append-nil}
 use Rattle.vf_regime.specs.State.{State}
 use Rattle.vf_cli.specs.Conversation.{IsQuiet}
-use Rattle.vf_cli.specs.Dialogue.{dialogue_from, heard, joined, prints_after, said_to}
+use Rattle.vf_cli.specs.Dialogue.{dialogue_from, received, joined, prints_after, said_to}
 use Rattle.vf_cli.specs.Lines.{Input, bad_at, bad_line, ended, piece_before}
 use Rattle.vf_cli.specs.Printed.{Wrote, WroteFront}
 
@@ -35,13 +35,13 @@ module _ (state : State) (pending : List ℕ) where
   -- a piece joins the octets that were pending
   pub dialogue_from-piece : (piece : List ℕ) (later : Input) → dialogue_from state pending (piece_before piece later) ≡ dialogue_from state (pending ++ piece) later
   dialogue_from-piece piece later =
-      ap (λ l. prints_after (said_to state (heard l)) later.bad) (sym (append_assoc pending piece (joined later.pieces)))
+      ap (λ l. prints_after (said_to state (received l)) later.bad) (sym (append_assoc pending piece (joined later.pieces)))
 
   module _ (quiet : IsQuiet state pending) where
     pub dialogue_from-ended : dialogue_from state pending ended ≡ record { octets = []; status = 0 }
     dialogue_from-ended =
-        ap (λ l. prints_after l None) (ap (λ l. said_to state (heard l)) (append-nil pending) ∙ quiet)
+        ap (λ l. prints_after l None) (ap (λ l. said_to state (received l)) (append-nil pending) ∙ quiet)
 
     pub dialogue_from-bad : (number : ℕ) → dialogue_from state pending (bad_at number) ≡ record { octets = bad_line number; status = 11 }
     dialogue_from-bad number =
-        ap (λ l. prints_after l (Some number)) (ap (λ l. said_to state (heard l)) (append-nil pending) ∙ quiet)
+        ap (λ l. prints_after l (Some number)) (ap (λ l. said_to state (received l)) (append-nil pending) ∙ quiet)

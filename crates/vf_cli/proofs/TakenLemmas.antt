@@ -14,29 +14,29 @@ use Rattle.vf_regime.specs.Files.{after_changes}
 use Rattle.vf_regime.specs.Refusal.{not_built}
 use Rattle.vf_regime.specs.Represents.{with_tables}
 use Rattle.vf_regime.specs.State.{State, StandingParty}
-use Rattle.vf_regime.specs.Transition.{Turn, after_turn, transition}
+use Rattle.vf_regime.specs.Transition.{Consequence, after_transition, transition}
 use Rattle.vf_cli.specs.declared.conversation.After.{After}
 use Rattle.vf_cli.specs.declared.conversation.After.TheVariants as after
 use Rattle.vf_cli.specs.declared.message.Front.TheVariants as front
 use Rattle.vf_cli.specs.Conversation.{Aborts, Appends, Continues, Holds, IsAfter, IsFront, Makes, Took}
-use Rattle.vf_cli.specs.Dialogue.{Fault, Heard, heard, link, message_of, reply, said_to}
+use Rattle.vf_cli.specs.Dialogue.{Fault, Received, received, link, message_of, reply, said_to}
 use Rattle.vf_cli.proofs.ContinuesLemmas.{aborts, aborts_fault, after_one, continues, continues-aborts, continues-continues, says_request}
-use Rattle.vf_cli.proofs.ReceivedLemmas.{heard-bad, heard-read}
-use Rattle.vf_cli.proofs.TurnLemmas.{keeps_link}
+use Rattle.vf_cli.proofs.ReceivedLemmas.{received-bad, received-read}
+use Rattle.vf_cli.proofs.ConsequenceLemmas.{keeps_link}
 
 -- a state with the tables' files is the same with the tables
 with_tables-same : (tables : Tables) (state : State) → state.files ≡ tables.files → with_tables tables state ≡ state
 with_tables-same tables state same = λ i. record { users = state.users; files = sym same i; parties = state.parties; transitions = state.transitions }
 
--- where a fault stands in front, it is heard first
-faulty : (rest more : List ℕ) → IsFront (reading rest) (Ok front.Fault) → (later : List Heard) × (heard (rest ++ more) ≡ Fault ∷ later)
+-- where a fault stands in front, it is received first
+faulty : (rest more : List ℕ) → IsFront (reading rest) (Ok front.Fault) → (later : List Received) × (received (rest ++ more) ≡ Fault ∷ later)
 faulty rest more found = by (reading rest) refl found
   where
-    by : (r : Reading) → reading rest ≡ r → IsFront r (Ok front.Fault) → (later : List Heard) × (heard (rest ++ more) ≡ Fault ∷ later)
+    by : (r : Reading) → reading rest ≡ r → IsFront r (Ok front.Fault) → (later : List Received) × (received (rest ++ more) ≡ Fault ∷ later)
     by Short e found = absurd found
-    by Bad e found = ([], heard-bad rest more e)
+    by Bad e found = ([], received-bad rest more e)
     by (Read tree n) e found =
-        (heard (drop n rest ++ more), heard-read rest more tree n e ∙ ap (λ o. message_of o ∷ heard (drop n rest ++ more)) found)
+        (received (drop n rest ++ more), received-read rest more tree n e ∙ ap (λ o. message_of o ∷ received (drop n rest ++ more)) found)
 
 -- a request in front was read
 read_request : (rest : List ℕ) (pdu : Pdu) (n : ℕ) → IsFront (reading rest) (Ok (front.Request pdu n))
@@ -48,29 +48,29 @@ read_request rest pdu n found = by (reading rest) refl found
     by Bad e found = absurd found
     by (Read tree m) e found = (tree, e ∙ ap (Read tree) found.1, found.0)
 
-module _ (first state next : State) (octets between rest said : List ℕ) (turn : Turn) (made : Tables) where
-  -- what comes of octets whose last message had this turn
+module _ (first state next : State) (octets between rest said : List ℕ) (consequence : Consequence) (made : Tables) where
+  -- what comes of octets whose last message had this consequence
   took : (after : After) → Continues first octets said state between
-      → ((more : List ℕ) → said_to state (heard (between ++ more)) ≡ turn.said ++ said_to next (heard (rest ++ more)))
-      → next.parties ≡ option_to_list turn.party ++ [] → next.files ≡ made.files
-      → ((standing : StandingParty) → turn.party ≡ Some standing → standing.link ≡ link)
-      → IsAfter turn after → Took first octets (said ++ flat_map reply turn.said) made after rest
+      → ((more : List ℕ) → said_to state (received (between ++ more)) ≡ consequence.said ++ said_to next (received (rest ++ more)))
+      → next.parties ≡ option_to_list consequence.party ++ [] → next.files ≡ made.files
+      → ((standing : StandingParty) → consequence.party ≡ Some standing → standing.link ≡ link)
+      → IsAfter consequence after → Took first octets (said ++ flat_map reply consequence.said) made after rest
   took (after.Goes party) before says parties files links goes =
       let one = parties ∙ ap (λ (o : Option StandingParty). option_to_list o ++ []) goes.1 in (
         next,
         (goes.0, one, links goes.0 goes.1, goes.2, files),
-        continues-continues first state next octets between rest said (flat_map reply turn.said) before
-            (continues state next between rest turn.said goes.3 says),
+        continues-continues first state next octets between rest said (flat_map reply consequence.said) before
+            (continues state next between rest consequence.said goes.3 says),
       )
   took after.Gone before says parties files links goes = (
     next,
     parties ∙ ap (λ (o : Option StandingParty). option_to_list o ++ []) goes.0,
-    continues-continues first state next octets between rest said (flat_map reply turn.said) before
-        (continues state next between rest turn.said goes.1 says),
+    continues-continues first state next octets between rest said (flat_map reply consequence.said) before
+        (continues state next between rest consequence.said goes.1 says),
   )
   took after.Aborted before says parties files links goes =
-      continues-aborts first state next octets between rest said (flat_map reply turn.said) before
-      (aborts state next between rest turn.said goes.1 (parties ∙ ap (λ (o : Option StandingParty). option_to_list o ++ []) goes.0) says)
+      continues-aborts first state next octets between rest said (flat_map reply consequence.said) before
+      (aborts state next between rest consequence.said goes.1 (parties ∙ ap (λ (o : Option StandingParty). option_to_list o ++ []) goes.0) says)
 
 module _ (first state : State) (party : Party) (tables : Tables) (octets said old : List ℕ) (at : ℕ)
     (holds : Holds (Some party) tables state) (before : Continues first octets said state (drop at octets)) where
@@ -80,23 +80,23 @@ module _ (first state : State) (party : Party) (tables : Tables) (octets said ol
       continues-aborts first state state octets rest [] said (reply (answers.Abort not_built 0)) before
       (aborts_fault state holds.0 rest holds.1 holds.2 (λ more. faulty rest more found))
 
-  -- what is printed goes on with the turn of a request in front
+  -- what is printed goes on with the consequence of a request in front
   pub takes_request : (pdu : Pdu) (n : ℕ) (new replies : List ℕ) (made : Tables) (rest : After) → replies ≡ old ++ said
       → IsFront (reading (drop at octets)) (Ok (front.Request pdu n))
       → Makes (transition (with_tables tables state) holds.0 0 (messages.Pdu pdu)) replies new tables made rest
       → Appends first octets old new made rest (drop (at + n) octets)
   takes_request pdu n new replies made rest so_far found makes =
-      let turn = transition state holds.0 0 (messages.Pdu pdu) in
+      let consequence = transition state holds.0 0 (messages.Pdu pdu) in
       let same = subst (λ (s : State). Makes (transition s holds.0 0 (messages.Pdu pdu)) replies new tables made rest) (with_tables-same tables state holds.4) makes in
       let read = read_request (drop at octets) pdu n found in
-      let next = after_turn state link turn in
-      let lines = flat_map reply turn.said in
-      let says : (more : List ℕ) → said_to state (heard (drop at octets ++ more)) ≡ turn.said ++ said_to next (heard (drop (at + n) octets ++ more)) =
+      let next = after_transition state link consequence in
+      let lines = flat_map reply consequence.said in
+      let says : (more : List ℕ) → said_to state (received (drop at octets ++ more)) ≡ consequence.said ++ said_to next (received (drop (at + n) octets ++ more)) =
       λ more. says_request state holds.0 (drop at octets) read.0 n pdu holds.1 holds.2 read.1 read.2 more
-      ∙ ap (λ l. turn.said ++ said_to next (heard (l ++ more))) (drop-drop n at octets) in
-      let files = sym (same.changed ∙ ap (after_changes turn.changes) (sym holds.4)) in
-      let parties = after_one state holds.0 turn holds.1 holds.2 in
+      ∙ ap (λ l. consequence.said ++ said_to next (received (l ++ more))) (drop-drop n at octets) in
+      let files = sym (same.changed ∙ ap (after_changes consequence.changes) (sym holds.4)) in
+      let parties = after_one state holds.0 consequence holds.1 holds.2 in
       let written : new ≡ old ++ (said ++ lines) = same.said ∙ ap (λ l. l ++ lines) so_far ∙ append_assoc old said lines in
-      let links : (standing : StandingParty) → turn.party ≡ Some standing → standing.link ≡ link =
+      let links : (standing : StandingParty) → consequence.party ≡ Some standing → standing.link ≡ link =
       λ standing goes. keeps_link state holds.0 standing 0 pdu goes ∙ holds.2 in
-      (said ++ lines, written, took first state next octets (drop at octets) (drop (at + n) octets) said turn made rest before says parties files links same.goes)
+      (said ++ lines, written, took first state next octets (drop at octets) (drop (at + n) octets) said consequence made rest before says parties files links same.goes)

@@ -5,7 +5,7 @@ use Rattle.vf_base.specs.declared.errors.NoMemory.{NoMemory}
 use Rattle.vf_ber.specs.Reading.{Reading, Short, Bad, Read, reading}
 use Rattle.vf_pdu.specs.declared.pdu.Pdu.TheVariants.{ProviderAbort}
 use Rattle.vf_pdu.specs.Meaning.{meaning}
-use Rattle.vf_pdu.specs.Value.{IsMessage}
+use Rattle.vf_pdu.specs.Value.{IsMessage, IsNamed}
 use Rattle.vf_regime.specs.declared.message.Said.{Said}
 use Rattle.vf_regime.specs.declared.message.Said.TheVariants as answers
 use Rattle.vf_regime.specs.declared.party.Party.{Party}
@@ -13,13 +13,13 @@ use Rattle.vf_regime.specs.declared.tables.Tables.{Tables}
 use Rattle.vf_regime.specs.Files.{after_changes}
 use Rattle.vf_regime.specs.Represents.{Represents}
 use Rattle.vf_regime.specs.State.{State, StandingParty}
-use Rattle.vf_regime.specs.Transition.{Turn}
+use Rattle.vf_regime.specs.Transition.{Consequence}
 use Rattle.vf_cli.specs.declared.conversation.After.{After}
 use Rattle.vf_cli.specs.declared.conversation.After.TheVariants as after
 use Rattle.vf_cli.specs.declared.conversation.Conversation.{Conversation}
 use Rattle.vf_cli.specs.declared.message.Front.{Front}
 use Rattle.vf_cli.specs.declared.message.Front.TheVariants as front
-use Rattle.vf_cli.specs.Dialogue.{dialogue, dialogue_from, heard, is_abort, link, reply, said_to}
+use Rattle.vf_cli.specs.Dialogue.{dialogue, dialogue_from, received, is_abort, link, reply, said_to}
 use Rattle.vf_cli.specs.declared.lines.NextLine.{NextLine}
 use Rattle.vf_cli.specs.Lines.{Input, input_limit}
 use Rattle.vf_cli.specs.Reader.{Answers}
@@ -45,7 +45,7 @@ Advances octets _ = Unit {0}
 
 -- a reply whose fields are in their ranges
 abbrev pub IsSayable : Said → Type 0
-IsSayable (answers.Pdu pdu) = IsMessage pdu
+IsSayable (answers.Pdu pdu) = IsMessage pdu × IsNamed pdu
 IsSayable (answers.Abort number place) = IsMessage (ProviderAbort number place)
 
 -- A party that goes on, with these tables, stands for the one party of the state. One that is gone stands nowhere.
@@ -57,7 +57,7 @@ Holds None tables state = state.parties ≡ []
 
 -- octets that are no message yet: nothing is said to them
 abbrev pub IsQuiet : State → List ℕ → Type 0
-IsQuiet state pending = said_to state (heard pending) ≡ []
+IsQuiet state pending = said_to state (received pending) ≡ []
 
 -- a conversation stands in this state of the filestore
 abbrev pub Stands : Conversation → State → Type 0
@@ -80,20 +80,20 @@ pub record Continues (old : State) (pending : List ℕ) (replies : List ℕ) (ne
 pub record Aborts (old : State) (pending : List ℕ) (replies : List ℕ) : Type 0 where
   pub prints : (input : Input) → dialogue_from old pending input ≡ record { octets = replies; status = 7 }
 
--- the party after a turn: it goes on, it is gone, or it was told an abort
-abbrev pub IsAfter : Turn → After → Type 0
-IsAfter turn (after.Goes party) =
-    (next : StandingParty) × (turn.party ≡ Some next) × Represents party next × (list_any is_abort turn.said ≡ false)
-IsAfter turn after.Gone = (turn.party ≡ None) × (list_any is_abort turn.said ≡ false)
-IsAfter turn after.Aborted = (turn.party ≡ None) × (list_any is_abort turn.said ≡ true)
+-- the party after a transition: it goes on, it is gone, or it was told an abort
+abbrev pub IsAfter : Consequence → After → Type 0
+IsAfter consequence (after.Goes party) =
+    (next : StandingParty) × (consequence.party ≡ Some next) × Represents party next × (list_any is_abort consequence.said ≡ false)
+IsAfter consequence after.Gone = (consequence.party ≡ None) × (list_any is_abort consequence.said ≡ false)
+IsAfter consequence after.Aborted = (consequence.party ≡ None) × (list_any is_abort consequence.said ≡ true)
 
--- the replies of a turn were appended and its changes made
-pub record Makes (turn : Turn) (old_replies new_replies : List ℕ) (old_tables new_tables : Tables) (rest : After) : Type 0 where
-  pub said : new_replies ≡ old_replies ++ flat_map reply turn.said
-  pub changed : new_tables.files ≡ after_changes turn.changes old_tables.files
-  pub goes : IsAfter turn rest
+-- the replies of a transition were appended and its changes made
+pub record Makes (consequence : Consequence) (old_replies new_replies : List ℕ) (old_tables new_tables : Tables) (rest : After) : Type 0 where
+  pub said : new_replies ≡ old_replies ++ flat_map reply consequence.said
+  pub changed : new_tables.files ≡ after_changes consequence.changes old_tables.files
+  pub goes : IsAfter consequence rest
 
--- what was made of octets in this state: the replies, and the state in which the rest will be heard
+-- what was made of octets in this state: the replies, and the state in which the rest will be received
 abbrev pub Took : State → List ℕ → List ℕ → Tables → After → List ℕ → Type 0
 Took state octets replies tables (after.Goes party) rest =
     (next : State) × Holds (Some party) tables next × Continues state octets replies next rest

@@ -13,63 +13,63 @@ use Rattle.vf_regime.specs.declared.message.Said.{Said}
 use Rattle.vf_regime.specs.declared.message.Said.TheVariants as answers
 use Rattle.vf_regime.specs.Refusal.{not_built}
 use Rattle.vf_regime.specs.State.{State, StandingParty, arrived, party_of}
-use Rattle.vf_regime.specs.Transition.{Turn, after_turn, leaves, transition}
+use Rattle.vf_regime.specs.Transition.{Consequence, after_transition, leaves, transition}
 use Rattle.vf_cli.specs.Lines.{Input, says, hex_line, bad_line}
 use Rattle.vf_cli.specs.Printed.{Printed}
 
--- a message, or octets that are none that is built so far
-pub data Heard : Type 0 where
-  Request : Pdu → Heard
-  Fault : Heard
+-- a message that is built so far, or octets that are no such message
+pub data Received : Type 0 where
+  Request : Pdu → Received
+  Fault : Received
 
-abbrev pub message_of : Option Pdu → Heard
+abbrev pub message_of : Option Pdu → Received
 message_of (Some pdu) = Request pdu
 message_of None = Fault
 
--- what the octets in front are heard as, and those behind them, which `behind` hears
-abbrev pub heard_first : (List ℕ → List Heard) → List ℕ → Reading → List Heard
-heard_first behind octets Short = []
-heard_first behind octets Bad = Fault ∷ []
-heard_first behind octets (Read tree n) = message_of (meaning tree) ∷ behind (drop n octets)
+-- what the octets in front are received as, and behind them what `behind` makes of the rest
+abbrev pub received_first : (List ℕ → List Received) → List ℕ → Reading → List Received
+received_first behind octets Short = []
+received_first behind octets Bad = Fault ∷ []
+received_first behind octets (Read tree n) = message_of (meaning tree) ∷ behind (drop n octets)
 
--- The messages of a stream, one after another. A rest that is no whole message yet is nothing, and behind a fault
--- nothing is heard. As many as there are octets are always enough.
-unfoldable pub heard_within : ℕ → List ℕ → List Heard
-heard_within zero octets = []
-heard_within (suc most) octets = heard_first (heard_within most) octets (reading octets)
+-- The messages of a stream, one after another. A rest that is no whole message yet is nothing, and behind octets
+-- that begin no message nothing is read. The bound is on their number; the number of octets is always enough.
+unfoldable pub received_within : ℕ → List ℕ → List Received
+received_within zero octets = []
+received_within (suc most) octets = received_first (received_within most) octets (reading octets)
 
-abbrev pub heard : List ℕ → List Heard
-heard octets = heard_within (length octets) octets
+abbrev pub received : List ℕ → List Received
+received octets = received_within (length octets) octets
 
 -- the number of the one link
 abbrev pub link : ℕ
 link = 1
 
--- the filestore at the begin: no user, no file, and the one party
+-- the filestore at its start: no user, no file, and the one party
 abbrev pub opened : State
 opened = record { users = []; files = []; parties = arrived link ∷ []; transitions = 0 }
 
--- the turn of the party to what it hears
-abbrev pub turn_to : State → StandingParty → Heard → Turn
-turn_to state party (Request pdu) = transition state party 0 (messages.Pdu pdu)
-turn_to state party Fault = leaves (answers.Abort not_built 0 ∷ [])
+-- what comes of what the party receives
+abbrev pub consequence_to : State → StandingParty → Received → Consequence
+consequence_to state party (Request pdu) = transition state party 0 (messages.Pdu pdu)
+consequence_to state party Fault = leaves (answers.Abort not_built 0 ∷ [])
 
--- what is said to one thing heard, and the state after it; a party that is gone hears nothing
+-- what is said to one message or fault, and the state after it; a party that is gone receives nothing
 pub record Answer : Type 0 where
   pub said : List Said
   pub state : State
 
-abbrev pub answer_by : State → Heard → Option StandingParty → Answer
+abbrev pub answer_by : State → Received → Option StandingParty → Answer
 answer_by state thing None = record { said = []; state = state }
 answer_by state thing (Some party) =
-    let turn = turn_to state party thing in
-    record { said = turn.said; state = after_turn state link turn }
+    let consequence = consequence_to state party thing in
+    record { said = consequence.said; state = after_transition state link consequence }
 
-abbrev pub answer : State → Heard → Answer
+abbrev pub answer : State → Received → Answer
 answer state thing = answer_by state thing (party_of link state.parties)
 
--- all that is said to what is heard from this state on
-abbrev pub said_to : State → List Heard → List Said
+-- all that is said to what is received from this state on
+abbrev pub said_to : State → List Received → List Said
 said_to state [] = []
 said_to state (thing ∷ things) = (answer state thing).said ++ said_to (answer state thing).state things
 
@@ -98,7 +98,7 @@ joined = flat_map (λ piece. piece)
 
 -- what is printed to an input from this state on, with octets of a message that isn't whole yet before it
 abbrev pub dialogue_from : State → List ℕ → Input → Printed
-dialogue_from state pending input = prints_after (said_to state (heard (pending ++ joined input.pieces))) input.bad
+dialogue_from state pending input = prints_after (said_to state (received (pending ++ joined input.pieces))) input.bad
 
 abbrev pub dialogue : List ℕ → Printed
 dialogue octets = dialogue_from opened [] (says octets)

@@ -71,7 +71,7 @@ impl Conversation {
     }
 }
 
-/// What is left of a party after it heard something.
+/// What is left of a party after it received something.
 #[derive(Drop)]
 pub(crate) enum After {
     /// It goes on.

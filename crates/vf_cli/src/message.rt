@@ -3,14 +3,14 @@ ghost use Rattle.std.specs.Prelude.{◌≡◌, ◌++◌, OnOk};
 ghost use Rattle.vf_ber.specs.Reading.{reading};
 ghost use Rattle.vf_cli.specs.Conversation.{Advances, IsFront, IsSayable};
 ghost use Rattle.vf_ber.specs.Spelling.{spell};
-ghost use Rattle.vf_pdu.specs.Value.{IsMessage, value};
+ghost use Rattle.vf_pdu.specs.Value.{IsMessage, IsNamed, value};
 ghost use Rattle.vf_cli.specs.Dialogue.{reply};
 ghost use Rattle.vf_cli.specs.Lines.{hex_line};
 
 use crate::printed::append_hex_line;
 use std::alloc::Global;
 use vf_base::NoMemory;
-use vf_ber::BerError;
+use vf_ber::{BerError, WriteError};
 use vf_pdu::{Pdu, PduError};
 use vf_regime::Said;
 
@@ -62,13 +62,17 @@ pub(crate) fn append_reply(alloc: Global, said: &Said, text: &mut Vec<u8>) -> Re
 }
 
 fn append_pdu(alloc: Global, pdu: &Pdu, text: &mut Vec<u8>) -> Result<(), NoMemory>
-    requires { IsMessage pdu.now }
+    requires message { IsMessage pdu.now }
+    requires named { IsNamed pdu.now }
     ensures { OnOk result (text.new.items ≡ text.old.items ++ hex_line (spell (value pdu.now))) }
 {
     let value = vf_pdu::to_value(alloc, pdu)?;
     let mut octets = Vec::new(alloc);
-    if vf_ber::write(alloc, &value, &mut octets).is_err() {
-        return Err(NoMemory);
+    vf_pdu::value_is_within();
+    match vf_ber::write(alloc, &value, &mut octets) {
+        Ok(()) => {}
+        Err(WriteError::TooLarge) => unreachable!(),
+        Err(WriteError::NoMemory) => return Err(NoMemory),
     }
     append_hex_line(octets.as_slice(), text)?;
     Ok(())

@@ -1,8 +1,8 @@
 //! The top call of the program.
-ghost use Rattle.std.specs.Prelude.{◌≡◌, map};
+ghost use Rattle.std.specs.Prelude.{◌≡◌, None, map};
 ghost use Rattle.std.specs.String.{string_bytes};
 ghost use Rattle.vf_base.specs.Faults.{HasRisen};
-ghost use Rattle.vf_cli.specs.Ftam.{MeetsCommand, usage as usage_printed};
+ghost use Rattle.vf_cli.specs.Ftam.{MeetsCommand, faults_of, usage as usage_printed};
 ghost use Rattle.vf_cli.specs.Printed.{HasCauses, Prints};
 ghost use Rattle.vf_cli.specs.Words.{command_of};
 
@@ -41,7 +41,7 @@ pub fn ftam<I: Source, O: Sink>(
 fn usage<O: Sink>(out: &mut O) -> u8
     ensures causes { result ≡ 4 → HasRisen (O.fault_count out.old) (O.fault_count out.new) }
     ensures input { result ≡ 3 → ⊥ }
-    ensures prints { Prints usage_printed result (O.taken out.old) (O.taken out.new) }
+    ensures prints { Prints (faults_of None) usage_printed result (O.taken out.old) (O.taken out.new) }
 {
     match write_lines(out, usage_text()) {
         Ok(()) => USAGE,

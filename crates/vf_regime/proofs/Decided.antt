@@ -1,4 +1,4 @@
--- What the turns of the definitions come to, by the row that decides.
+-- What the transitions of the definitions come to, by the row that decides.
 use Rattle.std.proofs.Common.{◌≡◌, ℕ, Bool, true, false, not, List, [], ◌∷◌, Option, None, Some, Result, Ok, Err, MatchResult, is_some, ap, sym, subst, ◌∙◌}
 use Rattle.std.specs.Prelude.{if◌then◌else◌}
 use Rattle.vf_base.specs.declared.diagnostic.Diagnostic.{Diagnostic}
@@ -20,7 +20,7 @@ use Rattle.vf_regime.specs.History.{History, association, selection, stage}
 use Rattle.vf_regime.specs.Refusal.{Refusal, AbortOf, DiagnosticOf, first_row, is_built, not_built, rows}
 use Rattle.vf_regime.specs.Represents.{IsAnswered, IsNext, IsStep, IsTransition, MeetsStep, Represents, with_tables}
 use Rattle.vf_regime.specs.State.{State, StandingParty}
-use Rattle.vf_regime.specs.Transition.{Turn, concludes, effects, with_message, leaves, response, transition, turn_by}
+use Rattle.vf_regime.specs.Transition.{Consequence, concludes, effects, with_message, leaves, response, transition, consequence_by}
 
 stage_by : Option (List ℕ) → Option ℕ → Stage
 stage_by selection association = if is_some selection then stages.Selected else if is_some association then stages.Associated else stages.Idle
@@ -39,29 +39,29 @@ module _ (history : History) where
   stage_selected name s = λ i. stage_by (s i) (association history)
 
 module _ (state : State) (party : StandingParty) (moment : ℕ) (request : Pdu) where
-  decided : Bool → Option Refusal → Turn
-  decided built row = turn_by (if not built then Some (AbortOf not_built) else row) state party moment request
+  decided : Bool → Option Refusal → Consequence
+  decided built row = consequence_by (if not built then Some (AbortOf not_built) else row) state party moment request
 
   -- a request that isn't built there ends the party
-  pub unbuilt_turn : is_built (stage party.history) request ≡ false
+  pub unbuilt_consequence : is_built (stage party.history) request ≡ false
       → transition state party moment (messages.Pdu request) ≡ leaves (answers.Abort not_built 0 ∷ [])
   unfolding decided
-  unbuilt_turn unbuilt = λ i. decided (unbuilt i) (first_row (rows state.files request))
+  unbuilt_consequence unbuilt = λ i. decided (unbuilt i) (first_row (rows state.files request))
 
   -- a request that a row refuses is told its diagnostic
-  pub refused_turn : (diagnostic : Diagnostic) → is_built (stage party.history) request ≡ true
+  pub refused_consequence : (diagnostic : Diagnostic) → is_built (stage party.history) request ≡ true
       → first_row (rows state.files request) ≡ Some (DiagnosticOf diagnostic)
       → transition state party moment (messages.Pdu request)
       ≡ record { said = response (Some diagnostic) request; changes = []; party = Some (with_message (messages.Pdu request) party) }
   unfolding decided
-  refused_turn diagnostic built row = λ i. decided (built i) (row i)
+  refused_consequence diagnostic built row = λ i. decided (built i) (row i)
 
   -- a request that no row refuses is concluded
-  pub concluded_turn : is_built (stage party.history) request ≡ true → first_row (rows state.files request) ≡ None
+  pub concluded_consequence : is_built (stage party.history) request ≡ true → first_row (rows state.files request) ≡ None
       → transition state party moment (messages.Pdu request)
       ≡ record { said = response None request; changes = effects request; party = concludes state moment request party }
   unfolding decided
-  concluded_turn built none = λ i. decided (built i) (none i)
+  concluded_consequence built none = λ i. decided (built i) (none i)
 
 module _ {Old New : Type 0} (before : Old → StandingParty → Type 0) (after : New → StandingParty → Type 0)
     (state : State) (party : StandingParty) (moment : ℕ) (request : Pdu) (old : Old) where
@@ -71,8 +71,8 @@ module _ {Old New : Type 0} (before : Old → StandingParty → Type 0) (after :
       → (next : StandingParty) → concludes state moment request party ≡ Some next → after step.state next
       → MeetsStep before after (transition state party moment (messages.Pdu request)) old request (Ok step)
   concluded_step step built none said changes next goes represents =
-      let turn = concluded_turn state party moment request built none in
-      (said ∙ ap (λ (t : Turn). t.said) (sym turn), changes ∙ ap (λ (t : Turn). t.changes) (sym turn), (next, ap (λ (t : Turn). t.party) turn ∙ goes, represents))
+      let consequence = concluded_consequence state party moment request built none in
+      (said ∙ ap (λ (t : Consequence). t.said) (sym consequence), changes ∙ ap (λ (t : Consequence). t.changes) (sym consequence), (next, ap (λ (t : Consequence). t.party) consequence ∙ goes, represents))
 
   -- a step that gives its state back with the diagnostic of the row that refuses
   pub refused_step : (diagnostic : Diagnostic) → is_built (stage party.history) request ≡ true
@@ -80,21 +80,21 @@ module _ {Old New : Type 0} (before : Old → StandingParty → Type 0) (after :
       → before old (with_message (messages.Pdu request) party)
       → MeetsStep before after (transition state party moment (messages.Pdu request)) old request (Err (old, errors.Refused diagnostic))
   refused_step diagnostic built row represents =
-      let turn = refused_turn state party moment request diagnostic built row in
-      (ap (λ (t : Turn). t.said) turn, ap (λ (t : Turn). t.changes) turn, (with_message (messages.Pdu request) party, ap (λ (t : Turn). t.party) turn, represents))
+      let consequence = refused_consequence state party moment request diagnostic built row in
+      (ap (λ (t : Consequence). t.said) consequence, ap (λ (t : Consequence). t.changes) consequence, (with_message (messages.Pdu request) party, ap (λ (t : Consequence). t.party) consequence, represents))
 
--- an answer that leaves the party as it is meets a turn that says the same, changes nothing and goes on with it
-pub answered_turn : (tables : Tables) (party : Party) (moment : ℕ) (message : Message) (said : List Said) (result : Result Outcome (Party × NoMemory))
+-- an answer that leaves the party as it is meets a consequence that says the same, changes nothing and goes on with it
+pub answered_consequence : (tables : Tables) (party : Party) (moment : ℕ) (message : Message) (said : List Said) (result : Result Outcome (Party × NoMemory))
     → MatchResult result (IsAnswered party said) (λ back. back.0 ≡ party)
     → ((state : State) (standing : StandingParty) → Represents party standing
     → ((transition (with_tables tables state) standing moment message).said ≡ said) × ((transition (with_tables tables state) standing moment message).changes ≡ [])
     × IsNext standing.link (transition (with_tables tables state) standing moment message).party party)
     → IsTransition tables party moment message result
-answered_turn tables party moment message said (Ok outcome) answered goes = λ state standing represents.
-    let turn = transition (with_tables tables state) standing moment message in
+answered_consequence tables party moment message said (Ok outcome) answered goes = λ state standing represents.
+    let consequence = transition (with_tables tables state) standing moment message in
     let gone = goes state standing represents in
-    (answered.0 ∙ sym gone.0, answered.1 ∙ sym gone.1, subst (IsNext standing.link turn.party) (sym answered.2) gone.2)
-answered_turn tables party moment message said (Err back) answered goes = answered
+    (answered.0 ∙ sym gone.0, answered.1 ∙ sym gone.1, subst (IsNext standing.link consequence.party) (sym answered.2) gone.2)
+answered_consequence tables party moment message said (Err back) answered goes = answered
 
 -- a step that gives its state back with a diagnostic, and an answer that says the response with it
 pub refused_answer : {Old New : Type 0} (before : Old → StandingParty → Type 0) (after : New → StandingParty → Type 0) (wrap : Old → Party)
@@ -107,10 +107,10 @@ pub refused_answer : {Old New : Type 0} (before : Old → StandingParty → Type
     → IsTransition tables (wrap old) moment (messages.Pdu request) result
 refused_answer {Old} before after wrap into out tables old back request moment error diagnostic said result step kept refused answered says =
     let P : Party → Type 0 = λ party. MatchResult result (IsAnswered party said) (λ given. given.0 ≡ party) in
-    answered_turn tables (wrap old) moment (messages.Pdu request) said result (subst P (ap wrap kept) answered)
+    answered_consequence tables (wrap old) moment (messages.Pdu request) said result (subst P (ap wrap kept) answered)
     (λ state standing represents.
-    let turn = transition (with_tables tables state) standing moment (messages.Pdu request) in
-    let meets = subst (λ (e : StepError). MeetsStep before after turn old request (Err (back, e))) refused (step state standing (into old standing represents)) in (
+    let consequence = transition (with_tables tables state) standing moment (messages.Pdu request) in
+    let meets = subst (λ (e : StepError). MeetsStep before after consequence old request (Err (back, e))) refused (step state standing (into old standing represents)) in (
       meets.0 ∙ sym says,
       meets.1,
       subst (λ (next : Option StandingParty). IsNext standing.link next (wrap old)) (sym (meets.2).1) (out standing.link old (meets.2).0 (meets.2).2),

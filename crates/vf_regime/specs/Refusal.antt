@@ -20,7 +20,7 @@ pub data Refusal : Type 0 where
 abbrev pub diagnostic : ℕ → Diagnostic
 diagnostic number = record { number = number; first = pos 0; second = pos 0 }
 
--- the requests that each stage takes from the initiator (ISO 8571-4)
+-- the requests that each stage takes from the initiator (ISO 8571-4), of those that are built so far
 abbrev pub takes : Stage → Pdu → Bool
 takes Idle (InitializeRequest units) = true
 takes Associated (SelectRequest name) = true

@@ -20,7 +20,7 @@ use Rattle.vf_regime.specs.declared.step.StepError.TheVariants as errors
 use Rattle.vf_regime.specs.declared.tables.Tables.{Tables}
 use Rattle.vf_regime.specs.History.{association, selection}
 use Rattle.vf_regime.specs.State.{State, StandingParty}
-use Rattle.vf_regime.specs.Transition.{Turn, response, transition}
+use Rattle.vf_regime.specs.Transition.{Consequence, response, transition}
 
 abbrev pub IsIdle : Idle → StandingParty → Type 0
 IsIdle idle party = (party.link ≡ idle.link) × (association party.history ≡ None) × (selection party.history ≡ None)
@@ -44,19 +44,19 @@ Represents (parties.Selected selected) = IsSelected selected
 abbrev pub with_tables : Tables → State → State
 with_tables tables state = record state { files = tables.files }
 
--- A good step is the turn, with a next state that represents the party after it. A refused one is the turn with
--- that diagnostic, and its state still represents the party.
+-- A good step is the transition, with a next state that represents the party after it. A refused one is the
+-- transition with that diagnostic, and its state still represents the party.
 abbrev pub MeetsStep : {Old New : Type 0} → (Old → StandingParty → Type 0) → (New → StandingParty → Type 0)
-    → Turn → Old → Pdu → Result (Step New) (Old × StepError) → Type 0
-MeetsStep before after turn old request (Ok step) =
-    (step.said.items ≡ turn.said) × (step.changes ≡ turn.changes)
-    × ((next : StandingParty) × (turn.party ≡ Some next) × after step.state next)
-MeetsStep before after turn old request (Err (back, errors.Refused diagnostic)) =
-    (turn.said ≡ response (Some diagnostic) request) × (turn.changes ≡ [])
-    × ((next : StandingParty) × (turn.party ≡ Some next) × before old next)
-MeetsStep before after turn old request (Err (back, errors.NoMemory)) = Unit {0}
+    → Consequence → Old → Pdu → Result (Step New) (Old × StepError) → Type 0
+MeetsStep before after consequence old request (Ok step) =
+    (step.said.items ≡ consequence.said) × (step.changes ≡ consequence.changes)
+    × ((next : StandingParty) × (consequence.party ≡ Some next) × after step.state next)
+MeetsStep before after consequence old request (Err (back, errors.Refused diagnostic)) =
+    (consequence.said ≡ response (Some diagnostic) request) × (consequence.changes ≡ [])
+    × ((next : StandingParty) × (consequence.party ≡ Some next) × before old next)
+MeetsStep before after consequence old request (Err (back, errors.NoMemory)) = Unit {0}
 
--- what a step answers is the turn of every party that its state represents
+-- what a step answers is the transition of every party that its state represents
 abbrev pub IsStep : {Old New : Type 0} → (Old → StandingParty → Type 0) → (New → StandingParty → Type 0)
     → Tables → Old → Pdu → ℕ → Result (Step New) (Old × StepError) → Type 0
 IsStep before after tables old request moment result =
@@ -69,16 +69,16 @@ link_of (parties.Idle idle) = idle.link
 link_of (parties.Associated associated) = associated.link
 link_of (parties.Selected selected) = selected.associated.link
 
--- the party of a link after a turn: the idle one where it is gone, and else one that represents it and isn't idle
+-- the party of a link after a transition: the idle one where it is gone, else one that represents it and isn't idle
 abbrev pub IsNext : ℕ → Option StandingParty → Party → Type 0
 IsNext link None party = party ≡ parties.Idle (record { link = link })
 IsNext link (Some next) (parties.Idle idle) = ⊥
 IsNext link (Some next) party = Represents party next
 
--- what came of a message on a link is the turn
-abbrev pub Meets : ℕ → Turn → Outcome → Type 0
-Meets link turn outcome =
-    (outcome.said.items ≡ turn.said) × (outcome.changes ≡ turn.changes) × IsNext link turn.party outcome.party
+-- what came of a message on a link is this consequence
+abbrev pub Meets : ℕ → Consequence → Outcome → Type 0
+Meets link consequence outcome =
+    (outcome.said.items ≡ consequence.said) × (outcome.changes ≡ consequence.changes) × IsNext link consequence.party outcome.party
 
 -- this was said, nothing changed, and the party is gone
 abbrev pub IsGone : Party → List Said → Outcome → Type 0

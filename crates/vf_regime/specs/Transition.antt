@@ -15,7 +15,7 @@ use Rattle.vf_regime.specs.Refusal.{Refusal, AbortOf, DiagnosticOf, refusal}
 use Rattle.vf_regime.specs.State.{State, StandingParty, with_party}
 
 -- what comes of a message: what is said, what changes, and the party after it, none where it is gone
-pub record Turn : Type 0 where
+pub record Consequence : Type 0 where
   pub said : List Said
   pub changes : List Change
   pub party : Option StandingParty
@@ -57,27 +57,27 @@ abbrev pub concludes : State → ℕ → Pdu → StandingParty → Option Standi
 concludes state moment TerminateRequest party = None
 concludes state moment request party = Some (with_entry (entry_of state moment request) party)
 
--- the turn in which this is said and the party is gone
-abbrev pub leaves : List Said → Turn
+-- this is said, and the party is gone
+abbrev pub leaves : List Said → Consequence
 leaves said = record { said = said; changes = []; party = None }
 
-abbrev pub turn_by : Option Refusal → State → StandingParty → ℕ → Pdu → Turn
-turn_by (Some (AbortOf number)) state party moment request = leaves (answers.Abort number 0 ∷ [])
-turn_by (Some (DiagnosticOf diagnostic)) state party moment request =
+abbrev pub consequence_by : Option Refusal → State → StandingParty → ℕ → Pdu → Consequence
+consequence_by (Some (AbortOf number)) state party moment request = leaves (answers.Abort number 0 ∷ [])
+consequence_by (Some (DiagnosticOf diagnostic)) state party moment request =
     let next = with_message (messages.Pdu request) party in
     record { said = response (Some diagnostic) request; changes = []; party = Some next }
-turn_by None state party moment request =
+consequence_by None state party moment request =
     record { said = response None request; changes = effects request; party = concludes state moment request party }
 
-abbrev pub transition : State → StandingParty → ℕ → Message → Turn
+abbrev pub transition : State → StandingParty → ℕ → Message → Consequence
 transition state party moment messages.Break = leaves []
-transition state party moment (messages.Pdu request) = turn_by (refusal state party request) state party moment request
+transition state party moment (messages.Pdu request) = consequence_by (refusal state party request) state party moment request
 
--- the state after a party's turn
-abbrev pub after_turn : State → ℕ → Turn → State
-after_turn state link turn = record {
+-- the state after a transition of the link's party
+abbrev pub after_transition : State → ℕ → Consequence → State
+after_transition state link consequence = record {
   users = state.users;
-  files = after_changes turn.changes state.files;
-  parties = with_party link turn.party state.parties;
+  files = after_changes consequence.changes state.files;
+  parties = with_party link consequence.party state.parties;
   transitions = state.transitions + 1;
 }

@@ -40,7 +40,7 @@ impl Associated {
     ) -> Result<Step<Selected>, (Associated, StepError)>
         requires asked { (name : List ℕ) × (request ≡ Pdu.SelectRequest name) }
         requires built { IsTrue (is_built stages.Associated request) }
-        ensures turn { IsStep IsAssociated IsSelected tables.now self request moment result }
+        ensures consequence { IsStep IsAssociated IsSelected tables.now self request moment result }
         ensures kept { IfErr result (λ back. back.0 ≡ self) }
     {
         let Pdu::SelectRequest { name } = request else {
@@ -77,7 +77,7 @@ impl Associated {
     ) -> Result<Step<Selected>, (Associated, StepError)>
         requires asked { (name : List ℕ) × (contents : FileContents) × (request ≡ Pdu.CreateRequest name contents) }
         requires built { IsTrue (is_built stages.Associated request) }
-        ensures turn { IsStep IsAssociated IsSelected tables.now self request moment result }
+        ensures consequence { IsStep IsAssociated IsSelected tables.now self request moment result }
         ensures kept { IfErr result (λ back. back.0 ≡ self) }
     {
         let Pdu::CreateRequest { name, contents } = request else {

@@ -32,7 +32,7 @@ impl Idle {
     ) -> Result<Step<Associated>, (Idle, StepError)>
         requires asked { (units : ℕ) × (request ≡ Pdu.InitializeRequest units) }
         requires built { IsTrue (is_built stages.Idle request) }
-        ensures turn { IsStep IsIdle IsAssociated tables.now self request moment result }
+        ensures consequence { IsStep IsIdle IsAssociated tables.now self request moment result }
         ensures kept { IfErr result (λ back. back.0 ≡ self) }
         // No diagnostic refuses it so far.
         ensures memory { IfErr result (λ back. back.1 ≡ StepError.NoMemory) }

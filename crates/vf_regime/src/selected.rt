@@ -31,7 +31,7 @@ impl Selected {
     ) -> Result<Step<Associated>, (Selected, StepError)>
         requires asked { request ≡ Pdu.DeselectRequest }
         requires built { IsTrue (is_built stages.Selected request) }
-        ensures turn { IsStep IsSelected IsAssociated tables.now self request moment result }
+        ensures consequence { IsStep IsSelected IsAssociated tables.now self request moment result }
         ensures kept { IfErr result (λ back. back.0 ≡ self) }
         // No diagnostic refuses it.
         ensures memory { IfErr result (λ back. back.1 ≡ StepError.NoMemory) }

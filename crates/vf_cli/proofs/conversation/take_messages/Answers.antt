@@ -61,8 +61,8 @@ loop-party-preserved c =
       within = fits.1;
       goes = λ first holds.
           let goes = c.loop-party.invariant.goes first holds in
-          let turn = transition (with_tables c.loop-party.tables goes.0) (goes.2).0 0 (messages.Pdu c.in-Request.pdu) in
-          let makes = subst (λ (rest : After). Makes turn c.loop-party.replies.items c.take_request.new.replies.items c.loop-party.tables c.take_request.new.tables rest)
+          let consequence = transition (with_tables c.loop-party.tables goes.0) (goes.2).0 0 (messages.Pdu c.in-Request.pdu) in
+          let makes = subst (λ (rest : After). Makes consequence c.loop-party.replies.items c.take_request.new.replies.items c.loop-party.tables c.take_request.new.tables rest)
           c.in-Goes.is (c.in_ok-ended-in-Request.ensures goes.0 (goes.2).0 (goes.2).3) in
           let appended = takes_request first goes.0 c.loop-party.party c.loop-party.tables c.args.octets.now goes.1 c.args.replies.now.items c.loop-party.at goes.2 goes.4
           c.in-Request.pdu c.in-Request.length c.take_request.new.replies.items c.loop-party.replies.items c.take_request.new.tables (after.Goes c.in-Goes.next) goes.3 found makes in

@@ -8,7 +8,7 @@ use Rattle.vf_regime.specs.Transition.{transition}
 use Rattle.vf_regime.specs.State.{State}
 use Rattle.vf_cli.specs.Conversation.{IsSayable}
 use Rattle.vf_cli.specs.Dialogue.{is_abort, opened, reply}
-use Rattle.vf_cli.proofs.TurnLemmas.{goes_on, turn_sayable}
+use Rattle.vf_cli.proofs.ConsequenceLemmas.{goes_on, consequence_sayable}
 use Rattle.vf_cli.proofs.conversation.take_request.Goals as goal
 
 pub returns-in_default-stage : goal.returns-in_default-stage
@@ -31,4 +31,4 @@ append_replies-requires c =
     let state : State = opened in
     let filestore = with_tables c.args.tables.now state in
     let meets = c.in-Ok-take.ensures state standing c.requires.1 in
-    subst (AllByRecursion IsSayable) (sym (c.as_slice.ensures.value ∙ meets.0)) (turn_sayable filestore standing _ c.args.pdu)
+    subst (AllByRecursion IsSayable) (sym (c.as_slice.ensures.value ∙ meets.0)) (consequence_sayable filestore standing _ c.args.pdu)

@@ -15,9 +15,9 @@ use Rattle.vf_regime.proofs.associated.Associated.create.Goals as goal
 row : Bool → Option Refusal
 row stands = if stands then Some (DiagnosticOf (diagnostic name_exists)) else None
 
-pub returns-then-contains-clause-turn : goal.returns-then-contains-clause-turn
+pub returns-then-contains-clause-consequence : goal.returns-then-contains-clause-consequence
 unfolding row
-returns-then-contains-clause-turn c = λ state party associated.
+returns-then-contains-clause-consequence c = λ state party associated.
     let request = c.args.request in
     let filestore = with_tables c.args.tables.now state in
     subst (λ (error : StepError). MeetsStep IsAssociated IsSelected (transition filestore party c.args.moment (messages.Pdu request)) c.args.self request (Err (c.args.self, error)))
@@ -27,9 +27,9 @@ returns-then-contains-clause-turn c = λ state party associated.
     (ap (λ r. first_row (rows filestore.files r)) c.in-CreateRequest.is ∙ ap row (sym c.contains.ensures ∙ c.if-contains.true))
     associated)
 
-pub returns-clause-turn : goal.returns-clause-turn
+pub returns-clause-consequence : goal.returns-clause-consequence
 unfolding row
-returns-clause-turn c = λ state party associated.
+returns-clause-consequence c = λ state party associated.
     let request = c.args.request in
     let filestore = with_tables c.args.tables.now state in
     let asked = c.in-CreateRequest.is in

@@ -15,9 +15,9 @@ use Rattle.vf_regime.proofs.associated.Associated.select.Goals as goal
 row : Bool → Option Refusal
 row stands = if not stands then Some (DiagnosticOf (diagnostic name_unknown)) else None
 
-pub returns-then-not-contains-clause-turn : goal.returns-then-not-contains-clause-turn
+pub returns-then-not-contains-clause-consequence : goal.returns-then-not-contains-clause-consequence
 unfolding row
-returns-then-not-contains-clause-turn c = λ state party associated.
+returns-then-not-contains-clause-consequence c = λ state party associated.
     let request = c.args.request in
     let filestore = with_tables c.args.tables.now state in
     subst (λ (error : StepError). MeetsStep IsAssociated IsSelected (transition filestore party c.args.moment (messages.Pdu request)) c.args.self request (Err (c.args.self, error)))
@@ -27,9 +27,9 @@ returns-then-not-contains-clause-turn c = λ state party associated.
     (ap (λ r. first_row (rows filestore.files r)) c.in-SelectRequest.is ∙ ap row (sym c.contains.ensures ∙ c.if-not-contains.true))
     associated)
 
-pub returns-clause-turn : goal.returns-clause-turn
+pub returns-clause-consequence : goal.returns-clause-consequence
 unfolding row
-returns-clause-turn c = λ state party associated.
+returns-clause-consequence c = λ state party associated.
     let request = c.args.request in
     let filestore = with_tables c.args.tables.now state in
     let asked = c.in-SelectRequest.is in

@@ -9,8 +9,8 @@ use Rattle.vf_regime.specs.Transition.{concludes, effects, entry_of, response, w
 use Rattle.vf_regime.proofs.Decided.{concluded_step, stage_idle}
 use Rattle.vf_regime.proofs.idle.Idle.initialize.Goals as goal
 
-pub returns-clause-turn : goal.returns-clause-turn
-returns-clause-turn c = λ state party idle.
+pub returns-clause-consequence : goal.returns-clause-consequence
+returns-clause-consequence c = λ state party idle.
     let request = c.args.request in
     let filestore = with_tables c.args.tables.now state in
     let asked = c.in-InitializeRequest.is in

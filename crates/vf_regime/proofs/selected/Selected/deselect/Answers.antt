@@ -8,8 +8,8 @@ use Rattle.vf_regime.specs.Transition.{concludes, effects, entry_of, response, w
 use Rattle.vf_regime.proofs.Decided.{concluded_step, stage_selected}
 use Rattle.vf_regime.proofs.selected.Selected.deselect.Goals as goal
 
-pub returns-clause-turn : goal.returns-clause-turn
-returns-clause-turn c = λ state party selected.
+pub returns-clause-consequence : goal.returns-clause-consequence
+returns-clause-consequence c = λ state party selected.
     let request = c.args.request in
     let filestore = with_tables c.args.tables.now state in
     let asked = c.requires.asked in

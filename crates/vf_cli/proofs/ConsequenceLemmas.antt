@@ -1,4 +1,4 @@
--- What every turn keeps: the link, and that a party that is told an abort is gone.
+-- What every consequence keeps: the link, and that a party that is told an abort is gone.
 use Rattle.std.proofs.Common.{◌≡◌, ◌<◌, ℕ, Bool, true, false, cond, not, true≢false, List, [], ◌∷◌, Option, None, Some, IfSome, refl, ap, sym, ◌∙◌, arith}
 use Rattle.std.specs.List.{AllByRecursion, list_any}
 use Rattle.vf_base.specs.declared.diagnostic.Diagnostic.{Diagnostic}
@@ -12,7 +12,7 @@ use Rattle.vf_regime.specs.Represents.{IsNext, Represents, stage_of}
 use Rattle.vf_regime.specs.Refusal.{Refusal, AbortOf, DiagnosticOf, first_row, is_built, not_built, refusal, rows}
 use Rattle.vf_regime.specs.History.{stage}
 use Rattle.vf_regime.specs.State.{State, StandingParty}
-use Rattle.vf_regime.specs.Transition.{concludes, response, transition, turn_by}
+use Rattle.vf_regime.specs.Transition.{concludes, response, transition, consequence_by}
 use Rattle.vf_pdu.specs.Value.{InRange}
 use Rattle.vf_regime.specs.declared.file.File.{File}
 use Rattle.vf_cli.specs.Conversation.{IsSayable}
@@ -33,8 +33,8 @@ responses_go diagnostic (DeselectResponse d) = refl
 responses_go diagnostic (CreateResponse d) = refl
 
 module _ (state : State) (party : StandingParty) (moment : ℕ) (request : Pdu) where
-  abort_ends_by : (row : Option Refusal) → list_any is_abort (turn_by row state party moment request).said ≡ true
-      → (turn_by row state party moment request).party ≡ None
+  abort_ends_by : (row : Option Refusal) → list_any is_abort (consequence_by row state party moment request).said ≡ true
+      → (consequence_by row state party moment request).party ≡ None
   abort_ends_by (Some (AbortOf number)) said = refl
   abort_ends_by (Some (DiagnosticOf diagnostic)) said = absurd (true≢false (sym said ∙ responses_go (Some diagnostic) request))
   abort_ends_by None said = absurd (true≢false (sym said ∙ responses_go None request))
@@ -62,7 +62,7 @@ concludes_link state moment (DeselectResponse d) party next e = some_link _ next
 concludes_link state moment (CreateResponse d) party next e = some_link _ next party refl e
 
 module _ (state : State) (party next : StandingParty) (moment : ℕ) (request : Pdu) where
-  keeps_link_by : (row : Option Refusal) → (turn_by row state party moment request).party ≡ Some next → next.link ≡ party.link
+  keeps_link_by : (row : Option Refusal) → (consequence_by row state party moment request).party ≡ Some next → next.link ≡ party.link
   keeps_link_by (Some (AbortOf number)) e = absurd cc
   keeps_link_by (Some (DiagnosticOf diagnostic)) e = some_link _ next party refl e
   keeps_link_by None e = concludes_link state moment request party next e
@@ -70,7 +70,7 @@ module _ (state : State) (party next : StandingParty) (moment : ℕ) (request : 
   pub keeps_link : (transition state party moment (messages.Pdu request)).party ≡ Some next → next.link ≡ party.link
   keeps_link = keeps_link_by (refusal state party request)
 
--- a party that isn't idle after a turn goes on
+-- a party that isn't idle after a consequence goes on
 pub goes_on : (link : ℕ) (after : Option StandingParty) (party : Party) → IsNext link after party → (stage_of party ≡ stages.Idle → ⊥)
     → (next : StandingParty) × (after ≡ Some next) × Represents party next
 goes_on link None party next busy = absurd (busy (ap stage_of next))
@@ -108,11 +108,11 @@ rows_good files (DeselectResponse d) = tt
 rows_good files (CreateResponse d) = tt
 
 response_sayable : (diagnostic : Option Diagnostic) (request : Pdu) → InRange diagnostic → AllByRecursion IsSayable (response diagnostic request)
-response_sayable diagnostic (InitializeRequest units) good = (good, tt)
-response_sayable diagnostic TerminateRequest good = (tt, tt)
-response_sayable diagnostic (SelectRequest name) good = (good, tt)
-response_sayable diagnostic DeselectRequest good = (good, tt)
-response_sayable diagnostic (CreateRequest name contents) good = (good, tt)
+response_sayable diagnostic (InitializeRequest units) good = ((good, tt), tt)
+response_sayable diagnostic TerminateRequest good = ((tt, tt), tt)
+response_sayable diagnostic (SelectRequest name) good = ((good, tt), tt)
+response_sayable diagnostic DeselectRequest good = ((good, tt), tt)
+response_sayable diagnostic (CreateRequest name contents) good = ((good, tt), tt)
 response_sayable diagnostic (InitializeResponse d units) good = tt
 response_sayable diagnostic TerminateResponse good = tt
 response_sayable diagnostic (ProviderAbort number place) good = tt
@@ -121,13 +121,13 @@ response_sayable diagnostic (DeselectResponse d) good = tt
 response_sayable diagnostic (CreateResponse d) good = tt
 
 module _ (state : State) (party : StandingParty) (moment : ℕ) (request : Pdu) where
-  sayable_by : (row : Option Refusal) → IfSome row IsGood → AllByRecursion IsSayable (turn_by row state party moment request).said
+  sayable_by : (row : Option Refusal) → IfSome row IsGood → AllByRecursion IsSayable (consequence_by row state party moment request).said
   sayable_by (Some (AbortOf number)) good = (omega arith, tt)
   sayable_by (Some (DiagnosticOf diagnostic)) good = response_sayable (Some diagnostic) request good
   sayable_by None good = response_sayable None request tt
 
-  -- what a turn says has a value
-  pub turn_sayable : AllByRecursion IsSayable (transition state party moment (messages.Pdu request)).said
-  turn_sayable =
+  -- what a consequence says has a value
+  pub consequence_sayable : AllByRecursion IsSayable (transition state party moment (messages.Pdu request)).said
+  consequence_sayable =
       let all : List (Bool × Refusal) = (not (is_built (stage party.history) request), AbortOf not_built) ∷ rows state.files request in
       sayable_by (refusal state party request) (first_good all (tt, rows_good state.files request))

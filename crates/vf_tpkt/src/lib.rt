@@ -1,0 +1,23 @@
+//! Transport over TCP: RFC 1006 packets and the TPDUs of transport class 0 (ISO 8073), both ends.
+#![tactic(auto)]
+
+mod connection;
+mod data;
+mod error;
+mod form;
+mod kind;
+mod laws;
+mod packet;
+mod parameters;
+mod phase;
+mod tpkt;
+mod unit;
+
+pub use error::TpktError;
+pub use laws::{ends_connect, pieces_tell_all, said_is_heard, stream_holds_tpdus};
+pub use phase::{Phase, Side};
+pub use tpkt::Tpkt;
+pub use unit::Unit;
+
+#[cfg(test)]
+mod tests;

@@ -1,0 +1,19 @@
+/// Which end of the connection this is.
+#[derive(Clone, Copy, Debug, PartialEq, Eq)]
+pub enum Side {
+    /// It said the CR and waits for the CC.
+    Calling,
+    /// It waits for the CR.
+    Called,
+}
+
+/// Where a connection stands.
+#[derive(Clone, Copy, Debug, PartialEq, Eq)]
+pub enum Phase {
+    /// No TPDU was heard.
+    First,
+    /// The connection stands; a DT that is said has at most so many octets of data.
+    Standing { most: usize },
+    /// It was ended by a DR or ER.
+    Over,
+}

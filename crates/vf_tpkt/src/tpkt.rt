@@ -1,0 +1,234 @@
+//! The transport's user end: what was heard, and what is said.
+ghost use Rattle.std.specs.Prelude.{◌≡◌, ◌+◌, ◌≤◌, ◌<◌, ◌++◌, [], length, List, ℕ, IsTrue, IfOk, OnOk, OnErr, None};
+ghost use Rattle.vf_tpkt.specs.Hearing.{front, beginning, hears, onward, part};
+ghost use Rattle.vf_tpkt.specs.Pieces.{Tells, TellsPiece};
+ghost use Rattle.vf_tpkt.specs.Saying.{stands as stands_now, said, most_of};
+ghost use Rattle.vf_tpkt.specs.Steps.{FitsOne, Looks, Moves, HearsAll};
+ghost use Rattle.vf_tpkt.specs.Tpdu.{packet, request};
+
+use crate::connection::Connection;
+use crate::data::write_tsdu;
+use crate::packet::{HEADER, wanted};
+use crate::{Side, TpktError, Unit};
+use std::alloc::Global;
+use std::marker::Model;
+use vf_base::NoMemory;
+
+/// The CR that the calling end says, in its packet: references 0 and 1, class 0, no parameter.
+const REQUEST: [u8; 11] = [3, 0, 0, 11, 6, 0xE0, 0, 0, 0, 1, 0];
+
+/// One end of a transport connection of class 0 over TCP (RFC 1006, ISO 8073).
+#[derive(Drop)]
+pub struct Tpkt {
+    connection: Connection,
+    packet: Vec<u8>,
+    fault: Option<TpktError>,
+}
+
+impl Model for Tpkt {
+    ghost use Rattle.std.specs.Prelude.{◌≡◌};
+    ghost use Rattle.vf_tpkt.specs.Hearing.{Kept, front, part};
+
+    ghost Value = { Kept };
+
+    ghost view = { λ t. record { connection = t.connection; packet = t.packet.items; fault = t.fault } };
+
+    ghost invariant = { λ t. front t.connection.place t.packet.items ≡ part };
+}
+
+impl Tpkt {
+    /// The calling end, which says its CR.
+    #[tactic(auto, unfolding(crate::specs::Hearing::hearing_in))]
+    pub fn calling(alloc: Global, out: &mut Vec<u8>) -> Result<Tpkt, NoMemory>
+        ensures tpkt { IfOk result (λ tpkt. tpkt ≡ (hears Side.Calling []).kept) }
+        ensures ok { OnOk result (out.new.items ≡ out.old.items ++ packet request) }
+        ensures err { OnErr result (out.new.items ≡ out.old.items) }
+    {
+        out.extend_from_slice(&REQUEST)?;
+        Ok(Tpkt {
+            connection: Connection::new(alloc, Side::Calling),
+            packet: Vec::new(alloc),
+            fault: None,
+        })
+    }
+
+    /// The called end, which waits for a CR.
+    #[tactic(auto, unfolding(crate::specs::Hearing::hearing_in))]
+    pub fn called(alloc: Global) -> Result<Tpkt, NoMemory>
+        ensures { IfOk result (λ tpkt. tpkt ≡ (hears Side.Called []).kept) }
+    {
+        Ok(Tpkt {
+            connection: Connection::new(alloc, Side::Called),
+            packet: Vec::new(alloc),
+            fault: None,
+        })
+    }
+
+    /// Hears the next piece of the stream, and appends the units that it completes and the octets that answer
+    /// them. After an error the units before it are appended, and each further call answers it again and
+    /// appends nothing; after `Size` alone `wrap` may still be called. After `NoMemory` a front of the units is
+    /// appended.
+    pub fn feed(
+        &mut self,
+        piece: &[u8],
+        units: &mut Vec<Unit>,
+        answers: &mut Vec<u8>,
+    ) -> Result<(), TpktError>
+        // By what is kept of the stream so far.
+        ensures heard { Tells (onward self.old piece.now) units.old.items answers.old.items self.new units.new.items answers.new.items result }
+        // Of every stream that the object represents.
+        ensures stream { (side : Side) (stream : List ℕ) → self.old ≡ (hears side stream).kept → TellsPiece side stream piece.now units.old.items answers.old.items self.new units.new.items answers.new.items result }
+        ensures kept { (side : Side) (stream : List ℕ) → self.old ≡ (hears side stream).kept → OnOk result (self.new ≡ (hears side (stream ++ piece.now)).kept) }
+    {
+        self.hear(piece, units, answers)
+    }
+
+    fn hear(
+        &mut self,
+        piece: &[u8],
+        units: &mut Vec<Unit>,
+        answers: &mut Vec<u8>,
+    ) -> Result<(), TpktError>
+        ensures { Tells (onward self.old piece.now) units.old.items answers.old.items self.new units.new.items answers.new.items result }
+    {
+        if let Some(fault) = self.fault {
+            return Err(fault);
+        }
+        match hear_all(
+            &mut self.connection,
+            &mut self.packet,
+            piece,
+            units,
+            answers,
+        ) {
+            Ok(()) => Ok(()),
+            Err(fault) => {
+                self.connection.stop();
+                self.packet.clear();
+                self.fault = Some(fault);
+                Err(fault)
+            }
+        }
+    }
+
+    /// Whether a connection stands, so that `wrap` may be called: once a CR or CC was heard, up to a DR, an ER or a
+    /// fault other than `Size`.
+    pub fn stands(&self) -> bool
+        ensures { result ≡ stands_now self.now }
+    {
+        let heard = matches!(self.fault, None | Some(TpktError::Size { .. }));
+        heard && self.connection.stands()
+    }
+
+    /// Appends the packets of this TSDU, cut by the size that was agreed: TPDUs of that size or of 65,531 octets,
+    /// with 3 octets of header each. Without memory nothing is appended.
+    pub fn wrap(&self, _alloc: Global, tsdu: &[u8], out: &mut Vec<u8>) -> Result<(), NoMemory>
+        requires stands { IsTrue (stands_now self.now) }
+        requires some { 1 ≤ length tsdu.now }
+        requires fits { length tsdu.now ≤ 1048576 }
+        ensures ok { OnOk result (out.new.items ≡ out.old.items ++ said (most_of self.now.connection.phase) tsdu.now) }
+        ensures err { OnErr result (out.new.items ≡ out.old.items) }
+    {
+        let before = out.len();
+        match write_tsdu(self.connection.most(), tsdu, out) {
+            Ok(()) => Ok(()),
+            Err(wanting) => {
+                out.truncate(before);
+                Err(wanting)
+            }
+        }
+    }
+
+    /// The octets held that are told in no unit: those of a packet that isn't whole, and the data of a TSDU that
+    /// isn't ended. They are none after an error.
+    pub fn held(&self) -> u64
+        ensures held { result ≡ length self.now.packet + length self.now.connection.tsdu }
+        ensures bound { result ≤ 1048576 + 65535 }
+    {
+        let packet = octets_in_part(self.connection.place(), self.packet.as_slice());
+        packet as u64 + self.connection.data_held() as u64
+    }
+}
+
+/// The number of octets in the front of a packet.
+fn octets_in_part(place: u64, packet: &[u8]) -> usize
+    requires { front place packet.now ≡ part }
+    ensures octets { result ≡ length packet.now }
+    ensures bound { result ≤ 65535 }
+{
+    packet.len()
+}
+
+/// Hears a piece of the stream.
+fn hear_all(
+    connection: &mut Connection,
+    packet: &mut Vec<u8>,
+    piece: &[u8],
+    units: &mut Vec<Unit>,
+    answers: &mut Vec<u8>,
+) -> Result<(), TpktError>
+    requires { front connection.old.place packet.old.items ≡ part }
+    ensures { HearsAll connection.old packet.old.items piece.now units.old.items answers.old.items connection.new packet.new.items units.new.items answers.new.items result }
+{
+    let mut rest = piece;
+    while !rest.is_empty() {
+        match advance(connection, packet, rest, units, answers) {
+            Ok(more) => rest = more,
+            Err(fault) => return Err(fault),
+        }
+    }
+    Ok(())
+}
+
+/// Takes the octets that the packet wants, or those that there are, and hears the packet once it is whole.
+fn advance<'a>(
+    connection: &mut Connection,
+    packet: &mut Vec<u8>,
+    piece: &'a [u8],
+    units: &mut Vec<Unit>,
+    answers: &mut Vec<u8>,
+) -> Result<&'a [u8], TpktError>
+    requires begun { front connection.old.place packet.old.items ≡ part }
+    requires more { 0 < length piece.now }
+    ensures { Moves connection.old packet.old.items piece.now units.old.items answers.old.items connection.new packet.new.items units.new.items answers.new.items result }
+{
+    let place = connection.place();
+    let lacks = match wanted(place, packet) {
+        Ok(lacks) => lacks,
+        Err(fault) => return Err(fault),
+    };
+    let (front, rest) = piece.split_at(lacks.min(piece.len()));
+    if packet.extend_from_slice(front).is_err() {
+        return Err(TpktError::NoMemory);
+    }
+    match hear_whole(connection, packet, units, answers) {
+        Ok(()) => Ok(rest),
+        Err(fault) => Err(fault),
+    }
+}
+
+/// Hears a packet, if it is whole, and then has no front of another.
+fn hear_whole(
+    connection: &mut Connection,
+    packet: &mut Vec<u8>,
+    units: &mut Vec<Unit>,
+    answers: &mut Vec<u8>,
+) -> Result<(), TpktError>
+    requires { FitsOne packet.old.items }
+    ensures { Looks connection.old packet.old.items units.old.items answers.old.items connection.new packet.new.items units.new.items answers.new.items result }
+{
+    let lacks = match wanted(connection.place(), packet) {
+        Ok(lacks) => lacks,
+        Err(fault) => return Err(fault),
+    };
+    if lacks > 0 {
+        return Ok(());
+    }
+    match connection.hear(&packet[HEADER..], units, answers) {
+        Ok(()) => {
+            packet.clear();
+            Ok(())
+        }
+        Err(fault) => Err(fault),
+    }
+}
