@@ -46,6 +46,13 @@ impl<T> Sequence<T> {
     {
         self.items.as_slice()
     }
+
+    /// The items, which are not copied.
+    pub fn into_vec(self) -> Vec<T>
+        ensures { result.items ≡ self }
+    {
+        self.items
+    }
 }
 
 impl<T: Drop> Sequence<T> {

@@ -1,0 +1,11 @@
+pub mod Code
+pub mod Contents
+pub mod Falls
+pub mod Laws
+pub mod Limits
+pub mod Reading
+pub mod Results
+pub mod Spelling
+pub mod Tags
+pub mod Tree
+pub mod Views

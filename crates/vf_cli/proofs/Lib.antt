@@ -1,0 +1,4 @@
+pub mod HexLemmas
+pub mod LinesLemmas
+pub mod InputLemmas
+pub mod ReaderLemmas

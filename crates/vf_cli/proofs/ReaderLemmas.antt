@@ -1,0 +1,107 @@
+-- What a reader of lines answers at each place where its search ends.
+use Rattle.std.proofs.Common.{◌≡◌, ℕ, ◌+◌, ◌<◌, List, [], ◌∷◌, ◌++◌, Bool, true, length, drop, refl, sym, ap, ◌∙◌, subst, append_assoc, append-nil}
+use Rattle.std.specs.Prelude.{Option, Some, None, option_map, IfSome, Result, Ok}
+use Rattle.vf_cli.specs.Lines.{line_feed, input_limit, IsInLine, Input, piece_of, says_from}
+use Rattle.vf_cli.specs.Reader.{Place, with_front, will_say, Answers, FromFeed, IsPiece}
+use Rattle.vf_cli.specs.declared.lines.NextLine.{NextLine}
+use Rattle.vf_cli.specs.declared.lines.NextLine.TheVariants.{Piece, Bad, End}
+use Rattle.vf_cli.specs.declared.lines.LineError.{LineError}
+use Rattle.vf_cli.proofs.InputLemmas.{says_piece, says_bad, says_rest, says_long}
+
+-- a reader answers what it would have answered before octets were moved
+pub answers_as : (old : Place) (count number : ℕ) (ahead moved : List ℕ) (left left' : Option (List ℕ)) (new : Option Input)
+    (piece : List ℕ) (result : Result NextLine LineError) →
+    record { count = count; number = number; ahead = ahead } ≡ old →
+    with_front moved left' ≡ with_front ahead left →
+    Answers (will_say (record { count = count; number = number; ahead = moved }) left') new piece result →
+    Answers (will_say old left) new piece result
+answers_as old count number ahead moved left left' new piece result is_old same answers =
+    let P : Option Input → Type 0 = λ said. Answers said new piece result in
+    subst P (ap (option_map (says_from count number)) same ∙ ap (λ (p : Place). will_say p left) is_old) answers
+
+pub answers_long : (count number room : ℕ) (line block : List ℕ) (left : Option (List ℕ)) (piece : List ℕ) →
+    IsInLine line → count + room ≡ input_limit → room < length line →
+    Answers (will_say (record { count = count; number = number; ahead = line ++ block }) left)
+    (will_say (record { count = count; number = number; ahead = line ++ block }) left) piece (Ok (Bad number))
+answers_long count number room line block None piece in_line limit long = refl
+answers_long count number room line block (Some left) piece in_line limit long = (
+  refl,
+  ap (says_from count number) (append_assoc line block left)
+      ∙ says_long count number room line (block ++ left) in_line limit long,
+)
+
+-- nothing stands behind the line
+nothing_behind : (line block left : List ℕ) → block ≡ [] → left ≡ [] → line ++ block ++ left ≡ line
+nothing_behind line block left no_block none_left =
+    ap (λ (xs : List ℕ). line ++ xs ++ left) no_block ∙ (ap (λ (xs : List ℕ). line ++ [] ++ xs) none_left
+    ∙ (append-nil (line ++ []) ∙ append-nil line))
+
+pub answers_end : (count number : ℕ) (line block : List ℕ) (left : Option (List ℕ)) (piece : List ℕ) →
+    line ≡ [] → block ≡ [] → IfSome left (λ octets. octets ≡ []) →
+    Answers (will_say (record { count = count; number = number; ahead = line ++ block }) left)
+    (will_say (record { count = count; number = number; ahead = line ++ block }) left) piece (Ok End)
+answers_end count number line block None piece no_line no_block none_left = refl
+answers_end count number line block (Some left) piece no_line no_block none_left =
+    (refl, ap (says_from count number) (nothing_behind line block left no_block none_left ∙ no_line))
+
+pub answers_rest : (count number : ℕ) (line block : List ℕ) (left : Option (List ℕ)) (piece : List ℕ) →
+    IsInLine line → 0 < length line → block ≡ [] → IfSome left (λ octets. octets ≡ []) →
+    Answers (will_say (record { count = count; number = number; ahead = line ++ block }) left)
+    (will_say (record { count = count; number = number; ahead = line ++ block }) left) piece (Ok (Bad number))
+answers_rest count number line block None piece in_line some no_block none_left = refl
+answers_rest count number line block (Some left) piece in_line some no_block none_left = (
+  refl,
+  ap (says_from count number) (nothing_behind line block left no_block none_left)
+      ∙ says_rest count number line in_line some,
+)
+
+feed_behind : (line block rest left : List ℕ) → block ≡ line_feed ∷ rest → line ++ block ++ left ≡ line ++ line_feed ∷ (rest ++ left)
+feed_behind line block rest left is_block =
+    ap (λ (xs : List ℕ). line ++ xs ++ left) is_block ∙ append_assoc line (line_feed ∷ rest) left
+
+pub answers_bad : (count number : ℕ) (line block : List ℕ) (left : Option (List ℕ)) (piece : List ℕ) →
+    IsInLine line → FromFeed true block → piece_of (count + length line + 1) line ≡ None →
+    Answers (will_say (record { count = count; number = number; ahead = line ++ block }) left)
+    (will_say (record { count = count; number = number; ahead = line ++ block }) left) piece (Ok (Bad number))
+answers_bad count number line block None piece in_line feed bad = refl
+answers_bad count number line block (Some left) piece in_line (rest, is_block) bad = (
+  refl,
+  ap (says_from count number) (feed_behind line block rest left is_block)
+      ∙ says_bad count number line (rest ++ left) in_line bad,
+)
+
+pub answers_piece : (count number : ℕ) (line block : List ℕ) (left : Option (List ℕ)) (piece none behind : List ℕ) →
+    IsInLine line → FromFeed true block → piece_of (count + length line + 1) line ≡ Some piece → none ≡ [] → behind ≡ drop 1 block →
+    Answers (will_say (record { count = count; number = number; ahead = line ++ block }) left)
+    (will_say (record { count = count + length line + 1; number = number + 1; ahead = none ++ behind }) left) piece (Ok Piece)
+answers_piece count number line block None piece none behind in_line feed good no_line is_behind = refl
+answers_piece count number line block (Some left) piece none behind in_line (rest, is_block) good no_line is_behind =
+    let says = says_from (count + length line + 1) (number + 1) in
+    let ahead : none ++ behind ≡ rest =
+    ap (λ (xs : List ℕ). xs ++ behind) no_line ∙ (is_behind ∙ ap (drop 1) is_block) in (
+      says (rest ++ left),
+      ap (λ (xs : List ℕ). Some (says (xs ++ left))) ahead,
+      ap (says_from count number) (feed_behind line block rest left is_block)
+          ∙ says_piece count number line (rest ++ left) piece in_line good,
+    )
+
+-- the piece of a line that is seen through a slice
+pub piece_of_line : (count len : ℕ) (shown line piece : List ℕ) (good : Bool) (says : Bool) →
+    shown ≡ line → len ≡ length line → good ≡ says →
+    IsPiece (piece_of (count + len + 1) shown) piece good → IsPiece (piece_of (count + length line + 1) line) piece says
+piece_of_line count len shown line piece good says is_line is_len is_said is_piece =
+    let P : List ℕ → Type 0 = λ xs. IsPiece (piece_of (count + len + 1) xs) piece good in
+    let Q : ℕ → Type 0 = λ n. IsPiece (piece_of (count + n + 1) line) piece good in
+    let R : Bool → Type 0 = λ b. IsPiece (piece_of (count + length line + 1) line) piece b in
+    subst R is_said (subst Q is_len (subst P is_line is_piece))
+
+pub answers_piece_of : (count number len : ℕ) (line block : List ℕ) (left : Option (List ℕ)) (piece none behind : List ℕ) →
+    IsInLine line → FromFeed true block → len ≡ length line → piece_of (count + length line + 1) line ≡ Some piece →
+    none ≡ [] → behind ≡ drop 1 block →
+    Answers (will_say (record { count = count; number = number; ahead = line ++ block }) left)
+    (will_say (record { count = count + len + 1; number = number + 1; ahead = none ++ behind }) left) piece (Ok Piece)
+answers_piece_of count number len line block left piece none behind in_line feed is_len good no_line is_behind =
+    let P : ℕ → Type 0 = λ n.
+    Answers (will_say (record { count = count; number = number; ahead = line ++ block }) left)
+    (will_say (record { count = count + n + 1; number = number + 1; ahead = none ++ behind }) left) piece (Ok Piece) in
+    subst P (sym is_len) (answers_piece count number line block left piece none behind in_line feed good no_line is_behind)

@@ -1,0 +1,21 @@
+//! The commands, and what they want of the outside.
+use vf_base::Octets;
+
+/// What the command line asks for.
+#[derive(Drop)]
+pub enum Command {
+    /// One party's messages over an empty filestore in memory.
+    Dialogue,
+}
+
+/// What the command wants of the outside: the values of its options, where it has them.
+#[derive(Drop)]
+pub struct Wanted {
+    /// The path of the store.
+    pub store: Option<Octets>,
+    pub host: Option<Octets>,
+    /// 1 to 65535.
+    pub port: Option<u16>,
+    /// The rounds without an event, a millisecond each, after which serving ends: 1 to 1,000,000,000.
+    pub idle: u64,
+}

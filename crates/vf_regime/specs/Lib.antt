@@ -1,0 +1,6 @@
+pub mod Files
+pub mod History
+pub mod Refusal
+pub mod Represents
+pub mod State
+pub mod Transition

@@ -1,0 +1,111 @@
+ghost use Rattle.std.specs.Prelude.{◌≡◌, ◌≤◌, [], IfOk, length, map, vec_len, OnOk, OnErr, is_some, nat_eq, option_copied};
+ghost use Rattle.std.specs.Cmp.Lexicographic.{pointwise};
+ghost use Rattle.indexmap.specs.IndexMap.{IsUnchanged, insert_all as entries_with, insert_entry, spare};
+ghost use Rattle.vf_regime.specs.Files.{after_changes, file_named, named_file, with_file};
+
+use crate::{Change, Changes, File};
+use indexmap::IndexMap;
+use std::alloc::Global;
+use std::marker::Model;
+use vf_base::{Name, NoMemory};
+
+/// The files in the order of their creation, found by name.
+#[derive(Drop)]
+pub struct Files {
+    by_name: IndexMap<Name, File>,
+}
+
+impl Model for Files {
+    ghost use Rattle.std.specs.Prelude.{◌≡◌, List, map};
+    ghost use Rattle.indexmap.specs.IndexMap.{keys, values};
+    ghost use Rattle.vf_regime.specs.declared.file.File.{File};
+
+    ghost Value = { List File };
+
+    ghost view = { λ files. values files.by_name };
+
+    ghost invariant = { λ files. keys files.by_name ≡ map (λ (file : File). file.name) (values files.by_name) };
+}
+
+impl Files {
+    /// No files; the allocator is kept for those that are put.
+    pub fn new(alloc: Global) -> Files
+        ensures { result ≡ [] }
+    {
+        Files {
+            by_name: IndexMap::new(alloc),
+        }
+    }
+
+    pub fn len(&self) -> usize
+        ensures { result ≡ length self.now }
+    {
+        self.by_name.len()
+    }
+
+    /// The file of this name; `None` exactly where there is none.
+    pub fn named(&self, name: &Name) -> Option<&File>
+        ensures { option_copied result ≡ file_named name.now self.now }
+    {
+        self.by_name.get(name)
+    }
+
+    /// Whether a file has this name.
+    pub fn contains(&self, name: &Name) -> bool
+        ensures { result ≡ is_some (file_named name.now self.now) }
+    {
+        self.named(name).is_some()
+    }
+
+    /// Puts the file into the place of the one of its name, or behind all others. Without memory nothing changes.
+    pub fn put(&mut self, alloc: Global, file: File) -> Result<(), NoMemory>
+        ensures ok { OnOk result (self.new ≡ with_file file self.old) }
+        ensures err { OnErr result (self.new ≡ self.old) }
+    {
+        let name = file.name.copy(alloc)?;
+        insert(&mut self.by_name, name, file)?;
+        Ok(())
+    }
+
+    /// Makes all of the changes in their order, or none.
+    pub fn apply(&mut self, alloc: Global, changes: Changes) -> Result<(), NoMemory>
+        ensures ok { OnOk result (self.new ≡ after_changes changes self.old) }
+        ensures err { OnErr result (self.new ≡ self.old) }
+    {
+        let named = named_files(alloc, changes)?;
+        self.by_name.reserve(named.len())?;
+        insert_all(&mut self.by_name, named);
+        Ok(())
+    }
+}
+
+/// The files that the changes put, each behind its name.
+fn named_files(alloc: Global, changes: Changes) -> Result<Vec<(Name, File)>, NoMemory>
+    ensures { IfOk result (λ named. named.items ≡ map named_file changes) }
+{
+    let mut named = Vec::new(alloc);
+    for change in changes.into_vec() {
+        let Change::PutFile { file } = change;
+        let name = file.name.copy(alloc)?;
+        named.push((name, file))?;
+    }
+    Ok(named)
+}
+
+/// Inserts all of the entries, for which there is room.
+fn insert_all(by_name: &mut IndexMap<Name, File>, named: Vec<(Name, File)>)
+    requires { vec_len named ≤ spare by_name.old }
+    ensures { by_name.new.entries ≡ entries_with (pointwise nat_eq) by_name.old.entries named.items }
+{
+    for (name, file) in named {
+        let _ = by_name.insert(name, file).unwrap();
+    }
+}
+
+fn insert(by_name: &mut IndexMap<Name, File>, name: Name, file: File) -> Result<(), NoMemory>
+    ensures ok { OnOk result (by_name.new.entries ≡ insert_entry (pointwise nat_eq) by_name.old.entries name file) }
+    ensures err { OnErr result (IsUnchanged by_name.old by_name.new) }
+{
+    by_name.insert(name, file)?;
+    Ok(())
+}
