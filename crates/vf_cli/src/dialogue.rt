@@ -36,6 +36,15 @@ impl From<NoMemory> for Interruption {
     }
 }
 
+/// Room that is used again for each line.
+#[derive(Drop)]
+struct Buffers {
+    /// The piece that a line spells.
+    piece: Vec<u8>,
+    /// The lines that are to be written.
+    lines: Vec<u8>,
+}
+
 /// The status where the input failed.
 const INPUT_FAULT: u8 = 3;
 
@@ -94,8 +103,20 @@ fn converse<I: Source, O: Sink>(
 {
     let mut reader = LineReader::new(alloc)?;
     let mut conversation = Conversation::new(alloc);
+    let mut buffers = Buffers {
+        piece: Vec::new(alloc),
+        lines: Vec::new(alloc),
+    };
     'lines: loop {
-        if let Some(status) = take_line(alloc, &mut reader, &mut conversation, input, out)? {
+        let line = take_line(
+            alloc,
+            &mut reader,
+            &mut conversation,
+            &mut buffers,
+            input,
+            out,
+        )?;
+        if let Some(status) = line {
             return Ok(status);
         }
     }
@@ -106,6 +127,7 @@ fn take_line<I: Source, O: Sink>(
     alloc: Global,
     reader: &mut LineReader,
     conversation: &mut Conversation,
+    buffers: &mut Buffers,
     input: &mut I,
     out: &mut O,
 ) -> Result<Option<u8>, Interruption>
@@ -121,16 +143,16 @@ fn take_line<I: Source, O: Sink>(
     ensures input { IsErrOf result Interruption.Input → HasRisen (I.fault_count input.old) (I.fault_count input.new) }
     ensures output { IsErrOf result Interruption.Output → HasRisen (O.fault_count out.old) (O.fault_count out.new) }
 {
-    let mut piece = Vec::new(alloc);
-    let mut lines = Vec::new(alloc);
-    match next_line(reader, input, &mut piece)? {
+    let Buffers { piece, lines } = buffers;
+    lines.clear();
+    match next_line(reader, input, piece)? {
         NextLine::Piece => {
-            let aborted = conversation.take(alloc, piece.as_slice(), &mut lines)?;
+            let aborted = conversation.take(alloc, piece.as_slice(), lines)?;
             write_lines(out, lines.as_slice())?;
             Ok(if aborted { Some(ABORTED) } else { None })
         }
         NextLine::Bad(number) => {
-            append_bad_line(alloc, number, &mut lines)?;
+            append_bad_line(alloc, number, lines)?;
             write_lines(out, lines.as_slice())?;
             Ok(Some(BAD_LINE))
         }

@@ -26,8 +26,8 @@ returns-in_err-write_lines-in-Piece-clause-interrupted g c = on_err c.from_resid
     let lines = c.take.new.replies.items in
     let aborted = c.in_ok-aborted-in-Piece.aborted in
     let answers = subst (λ (next : NextLine). Answers old_input new_input piece (Ok next)) c.in-Piece.is c.in_ok-next_line.ensures.answers in
-    let takes = subst (λ (l : List ℕ). TakesPiece state pending piece l lines c.take.new.self aborted) c.new-lines.ensures.items
-    (subst (λ (l : List ℕ). TakesPiece state pending l c.new-lines.result.items lines c.take.new.self aborted) c.as_slice.ensures.value
+    let takes = subst (λ (l : List ℕ). TakesPiece state pending piece l lines c.take.new.self aborted) c.clear.ensures.items
+    (subst (λ (l : List ℕ). TakesPiece state pending l c.clear.new.self.items lines c.take.new.self aborted) c.as_slice.ensures.value
     (c.in_ok-aborted-in-Piece.ensures state stands.0)) in
     line_interrupted state pending old new aborted piece lines c.take.new.self old_input new_input answers takes
     (subst (λ (l : List ℕ). WroteFront l old new) c.as_slice-in-Piece.ensures.value c.in_err-write_lines-in-Piece.ensures.front))
@@ -42,6 +42,6 @@ returns-in_err-write_lines-in-Bad-clause-interrupted g c = on_err c.from_residua
     let new = g.O.Sink.taken c.write_lines-in-Bad.new.out in
     let piece = c.next_line.new.piece.items in
     let answers = subst (λ (next : NextLine). Answers old_input new_input piece (Ok next)) c.in-Bad.is c.in_ok-next_line.ensures.answers in
-    let lines = c.as_slice-in-Bad.ensures.value ∙ c.in_ok-append_bad_line-in-Bad.ensures ∙ ap (λ l. l ++ bad_line c.in-Bad.number) c.new-lines.ensures.items in
+    let lines = c.as_slice-in-Bad.ensures.value ∙ c.in_ok-append_bad_line-in-Bad.ensures ∙ ap (λ l. l ++ bad_line c.in-Bad.number) c.clear.ensures.items in
     line_bad_interrupted state pending old new stands.1 c.in-Bad.number piece old_input new_input answers
     (subst (λ (l : List ℕ). WroteFront l old new) lines c.in_err-write_lines-in-Bad.ensures.front))
