@@ -30,3 +30,20 @@ pub fn usage_text() -> &'static [u8]
 {
     b"usage\n"
 }
+
+#[cfg(test)]
+mod tests {
+    use super::*;
+
+    #[test]
+    fn lines_behind_what_is_there(rt: HostRuntime) -> Result<(), NoMemory> {
+        let mut text = Vec::new(rt.alloc());
+        append_hex_line(b"", &mut text)?;
+        append_hex_line(b"\xA0\x03", &mut text)?;
+        append_bad_line(rt.alloc(), 1, &mut text)?;
+        append_bad_line(rt.alloc(), 4_294_967_296, &mut text)?;
+        assert!(rt; text.as_slice() == b"\nA003\nbad line 1\nbad line 4294967296\n".as_slice());
+        assert!(rt; usage_text() == b"usage\n".as_slice());
+        Ok(())
+    }
+}
