@@ -217,3 +217,76 @@ fn lists_are_copied(rt: HostRuntime) -> Result<(), Fail> {
     assert!(rt; copied.get(2).is_none());
     Ok(())
 }
+
+#[test]
+fn values_are_copied(rt: HostRuntime) -> Result<(), Fail> {
+    let alloc = rt.alloc();
+    let contents = Contents {
+        kind: Oid::of(alloc, &[1, 0, 8571, 5, 1])?,
+        class: 25,
+        longest: 80,
+        significance: 1,
+    };
+    let copied = contents.copy(alloc)?;
+    assert!(rt; copied.kind.arcs() == [1, 0, 8571, 5, 1].as_slice());
+    assert!(rt; (copied.class, copied.longest, copied.significance) == (25, 80, 1));
+    let term = Term {
+        identity: Some(Name::of(alloc, b"bill")?),
+        actions: Actions { value: 3 },
+        password: Some(Octets::of(alloc, b"pw")?),
+    };
+    let copied = term.copy(alloc)?;
+    assert!(rt;
+        copied
+            .identity
+            .is_some_and(|name| name.as_slice() == b"bill".as_slice())
+    );
+    assert!(rt; copied.actions == Actions { value: 3 });
+    assert!(rt;
+        copied
+            .password
+            .is_some_and(|octets| octets.as_slice() == b"pw".as_slice())
+    );
+    Ok(())
+}
+
+#[test]
+fn events_and_pieces_are_copied(rt: HostRuntime) -> Result<(), Fail> {
+    let alloc = rt.alloc();
+    let seconds = Moment::of(9)?;
+    let event = ScriptEvent::Octets {
+        link: 7,
+        moment: seconds,
+        octets: Octets::of(alloc, b"abc")?,
+    };
+    let same = match event.copy(alloc)? {
+        ScriptEvent::Octets {
+            link,
+            moment,
+            octets,
+        } => link == 7 && moment == seconds && octets.as_slice() == b"abc".as_slice(),
+        _ => false,
+    };
+    assert!(rt; same);
+    let piece = Piece {
+        link: 8,
+        octets: Octets::of(alloc, b"de")?,
+    };
+    let copied = piece.copy(alloc)?;
+    assert!(rt; copied.link == 8);
+    assert!(rt; copied.octets.as_slice() == b"de".as_slice());
+    Ok(())
+}
+
+#[test]
+fn vectors_become_octets_and_lists_vectors(rt: HostRuntime) -> Result<(), Fail> {
+    let alloc = rt.alloc();
+    let octets = Octets::from_vec(b"abc".to_vec(alloc)?)?;
+    assert!(rt; octets.as_slice() == b"abc".as_slice());
+    let mut list = Sequence::new(alloc);
+    list.push(3)?;
+    list.push(5)?;
+    assert!(rt; list.as_slice() == [3, 5].as_slice());
+    assert!(rt; list.into_vec().as_slice() == [3, 5].as_slice());
+    Ok(())
+}
