@@ -27,6 +27,14 @@ enum Command {
     Hear(usize),
 }
 
+fn command_of(name: &str, number: &str) -> Option<Command> {
+    match name {
+        "say" => Some(Command::Say(number.parse::<u8>().ok()?)),
+        "hear" => Some(Command::Hear(number.parse::<u32>().ok()? as usize)),
+        _ => None,
+    }
+}
+
 /// The stream that says these octets.
 fn say(alloc: Global, exponent: u8, octets: &[u8]) -> Result<Vec<u8>, TpktError> {
     let mut stream = Vec::new(alloc);
@@ -79,12 +87,11 @@ fn main(rt: HostRuntime) -> ExitCode {
         return ExitCode::from(2);
     };
     let command = match (words.nth(1), words.next()) {
-        (Some(name), Some(number)) => match (name.as_str(), number.parse::<u32>()) {
-            ("say", Ok(exponent)) => Command::Say(exponent as u8),
-            ("hear", Ok(count)) => Command::Hear(count as usize),
-            _ => return ExitCode::from(2),
-        },
-        _ => return ExitCode::from(2),
+        (Some(name), Some(number)) => command_of(name.as_str(), number.as_str()),
+        _ => None,
+    };
+    let Some(command) = command else {
+        return ExitCode::from(2);
     };
     let Ok(octets) = read_up_to(alloc, &mut ReadSource::new(rt.stdin()), LIMIT) else {
         return ExitCode::from(3);
