@@ -62,12 +62,12 @@ erased tree id = erasure tree.constraint tree.units id
 abbrev pub LeavesFile : Result Done TreeError → Type 0
 LeavesFile answer = IfOk answer (λ after. IsWithinFile after.tree.units)
 
--- What a call answers is what the definition answers, each refusal included. Memory may be wanting, but only where
--- nothing is refused.
-abbrev pub Meets : {A : Type 0} → Result A TreeError → Result A TreeError → Type 0
-Meets answer (Ok value) = answer ≡ Ok value
-Meets answer (Err NoMemory) = IsOk answer
-Meets answer (Err error) = answer ≡ Err error
+-- What a call answers is, seen so, what the definition answers, each refusal included. Memory may be wanting, but
+-- only where nothing is refused.
+abbrev pub Meets : {A B : Type 0} → (A → B) → Result B TreeError → Result A TreeError → Type 0
+Meets seen answer (Ok value) = answer ≡ Ok (seen value)
+Meets seen answer (Err NoMemory) = IsOk answer
+Meets seen answer (Err error) = answer ≡ Err error
 
 -- the same of a call that changes a tree, which is as it was where anything is answered but a position
 abbrev pub Performs : Result Done TreeError → (old new : FileTree) → Result ℕ TreeError → Type 0

@@ -1,18 +1,18 @@
 -- What a read shows (ISO 8571-2, access contexts; which of them are allowed where is profile): a list of data
 -- elements in preorder, and the position after it.
-use Rattle.std.specs.Prelude.{ℕ, Bool, true, false, not, List, [], ◌∷◌, ◌++◌, length, Option, None, Result, Ok, Err, if◌then◌else◌, slice_index_or, ◌-◌}
+use Rattle.std.specs.Prelude.{ℕ, Bool, true, false, List, [], ◌∷◌, ◌++◌, length, ◌-◌, Option, Some, None, Result, Ok, Err, if◌then◌else◌, nat_eq, slice_get}
 use Rattle.vf_base.specs.declared.access.Constraint.{Constraint}
 use Rattle.vf_base.specs.declared.access.Constraint.TheVariants.{Unstructured, SequentialFlat}
 use Rattle.vf_base.specs.declared.access.Context.{Context}
 use Rattle.vf_base.specs.declared.access.Context.TheVariants.{HA, FA, UA, US}
 use Rattle.vf_base.specs.declared.access.FaduId.{FaduId}
-use Rattle.vf_base.specs.declared.access.FaduId.TheVariants.{Begin, End, First}
+use Rattle.vf_base.specs.declared.access.FaduId.TheVariants.{Begin, First}
 use Rattle.vf_base.specs.declared.element.Element.{Element}
 use Rattle.vf_base.specs.declared.element.Element.TheVariants.{Descriptor, Enter, Exit}
 use Rattle.vf_tree.specs.declared.errors.TreeError.{TreeError}
 use Rattle.vf_tree.specs.declared.errors.TreeError.TheVariants.{NotFound, BadContext}
 use Rattle.vf_tree.specs.FileTree.{FileTree, Unit, strings}
-use Rattle.vf_tree.specs.Identities.{located, standing}
+use Rattle.vf_tree.specs.Identities.{meant, standing}
 
 -- the contexts that a constraint set takes
 abbrev pub takes : Constraint → Context → Bool
@@ -46,31 +46,29 @@ one FA unit = descriptor true ∷ unit
 one UA unit = unit
 one US unit = unit
 
--- the unit at a position from 1 on
-abbrev pub unit_there : List Unit → ℕ → Unit
-unit_there units i = slice_index_or units (i - 1) []
+-- the unit at a position; none at begin and end
+abbrev pub unit_there : List Unit → ℕ → Option Unit
+unit_there units i = if nat_eq i 0 then None else slice_get units (i - 1)
 
 -- an unstructured file is read whole, and has no position but 0
-abbrev pub reading_whole : List Unit → FaduId → Context → Result (List Element × ℕ) TreeError
-reading_whole units Begin context = Ok (strings units, 0)
-reading_whole units First context = Ok (strings units, 0)
-reading_whole units _ context = Err NotFound
+abbrev pub reading_whole : List Unit → FaduId → Result (List Element × ℕ) TreeError
+reading_whole units Begin = Ok (strings units, 0)
+reading_whole units First = Ok (strings units, 0)
+reading_whole units _ = Err NotFound
 
--- the unit that an identity gives, where it gives one
-abbrev pub reading_one : List Unit → Context → Result ℕ TreeError → Result (List Element × ℕ) TreeError
-reading_one units context (Ok i) = Ok (one context (unit_there units i), i)
-reading_one units context (Err error) = Err error
+-- a unit, which is then the position
+abbrev pub reading_one : Context → ℕ → Option Unit → Result (List Element × ℕ) TreeError
+reading_one context i (Some unit) = Ok (one context unit, i)
+reading_one context i None = Err NotFound
 
--- a sequential flat file is read whole from its begin and leaves the position there; else one unit, which is then
--- the position
+-- a sequential flat file is read whole from its begin, and leaves the position there; else one unit is read
 abbrev pub reading_flat : List Unit → ℕ → FaduId → Context → Result (List Element × ℕ) TreeError
 reading_flat units p Begin context = Ok (whole context units, 0)
-reading_flat units p End context = Err NotFound
-reading_flat units p id context = reading_one units context (located (length units) (standing (length units) p) id)
+reading_flat units p id context = let i = meant (length units) p id in reading_one context i (unit_there units i)
 
 abbrev pub reading : Constraint → List Unit → ℕ → FaduId → Context → Result (List Element × ℕ) TreeError
-reading Unstructured units p id context = reading_whole units id context
-reading SequentialFlat units p id context = reading_flat units p id context
+reading Unstructured units p id context = reading_whole units id
+reading SequentialFlat units p id context = reading_flat units (standing (length units) p) id context
 
 -- F-READ: the context is looked at before the identity
 abbrev pub shown : FileTree → ℕ → FaduId → Context → Result (List Element × ℕ) TreeError

@@ -10,20 +10,26 @@ use Rattle.vf_tree.specs.declared.errors.TreeError.{TreeError}
 use Rattle.vf_tree.specs.declared.errors.TreeError.TheVariants.{Outside, NotFound}
 use Rattle.vf_tree.specs.FileTree.{FileTree}
 
--- the position of unit i, where there is one
+-- the position that each identity means, in a sequential flat file of n units at position p; 0 and n + 1 are no units
+abbrev pub meant : (n p : ℕ) → FaduId → ℕ
+meant n p Begin = 0
+meant n p End = n + 1
+meant n p First = 1
+meant n p Last = n
+meant n p Current = p
+meant n p Next = p + 1
+meant n p Previous = p - 1
+meant n p (Number k) = k
+
+-- the position of a unit, which has to be there
 abbrev pub unit_at : ℕ → ℕ → Result ℕ TreeError
 unit_at n i = if nat_le 1 i && nat_le i n then Ok i else Err NotFound
 
--- in a sequential flat file of n units at position p; a unit before the first or behind the last isn't found
+-- begin and end are positions of every file; any other identity means a unit
 abbrev pub located : (n p : ℕ) → FaduId → Result ℕ TreeError
 located n p Begin = Ok 0
 located n p End = Ok (n + 1)
-located n p First = unit_at n 1
-located n p Last = unit_at n n
-located n p Current = unit_at n p
-located n p Next = unit_at n (p + 1)
-located n p Previous = unit_at n (p - 1)
-located n p (Number k) = unit_at n k
+located n p id = unit_at n (meant n p id)
 
 -- a position that was kept while units went away counts as the end
 abbrev pub standing : (n p : ℕ) → ℕ

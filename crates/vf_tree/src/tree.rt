@@ -1,6 +1,10 @@
 ghost use Rattle.std.specs.Prelude.{◌≡◌, ◌+◌, ◌≤◌, IfOk, length};
 ghost use Rattle.vf_tree.specs.FileTree.{IsFile, new_file, octets_in, parts_in};
 
+mod actions;
+mod identities;
+mod reads;
+
 use std::alloc::Global;
 use std::marker::Model;
 use std::rc::Rc;

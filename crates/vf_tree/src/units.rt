@@ -111,3 +111,13 @@ pub(crate) fn parts_of_units(units: &[DataUnit]) -> u32
     }
     parts
 }
+
+#[tactic(auto, using(crate::proofs::Sizes::length_parts))]
+/// The number of units.
+pub(crate) fn count(units: &[DataUnit]) -> u32
+    requires { parts_in units.now ≤ 262144 }
+    ensures number { result ≡ length units.now }
+    ensures within { result ≤ 262144 }
+{
+    units.len() as u32
+}
