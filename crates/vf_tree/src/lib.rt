@@ -2,8 +2,12 @@
 #![tactic(auto)]
 
 mod errors;
+mod limits;
 mod tree;
 mod units;
 
 pub use errors::TreeError;
 pub use tree::Tree;
+
+#[cfg(test)]
+mod tests;

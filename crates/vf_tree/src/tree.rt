@@ -4,6 +4,7 @@ ghost use Rattle.vf_tree.specs.FileTree.{IsFile, new_file, octets_in, parts_in};
 mod actions;
 mod identities;
 mod reads;
+mod room;
 
 use std::alloc::Global;
 use std::marker::Model;

@@ -37,12 +37,7 @@ impl Tree {
     /// is as before.
     ///
     /// `Outside` where the file is sequential flat, `NotFound` where the identity isn't begin or first.
-    pub fn replace(
-        &mut self,
-        alloc: Global,
-        id: FaduId,
-        unit: DataUnit,
-    ) -> Result<u32, TreeError>
+    pub fn replace(&mut self, alloc: Global, id: FaduId, unit: DataUnit) -> Result<u32, TreeError>
         requires { LeavesFile (replaced self.old id unit) }
         ensures { Performs (replaced self.old id unit) self.old self.new result }
     {
@@ -64,12 +59,7 @@ impl Tree {
     /// file is as before.
     ///
     /// `Outside` where the file is sequential flat, `NotFound` where the identity isn't begin or first.
-    pub fn extend(
-        &mut self,
-        alloc: Global,
-        id: FaduId,
-        unit: DataUnit,
-    ) -> Result<u32, TreeError>
+    pub fn extend(&mut self, alloc: Global, id: FaduId, unit: DataUnit) -> Result<u32, TreeError>
         requires { LeavesFile (extended self.old id unit) }
         ensures { Performs (extended self.old id unit) self.old self.new result }
     {

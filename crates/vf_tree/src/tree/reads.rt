@@ -93,11 +93,7 @@ fn unit_at(units: &[DataUnit], position: u32) -> Option<&DataUnit>
     units.get((position - 1) as usize)
 }
 
-fn whole(
-    alloc: Global,
-    units: &[DataUnit],
-    context: Context,
-) -> Result<Vec<Element>, NoMemory>
+fn whole(alloc: Global, units: &[DataUnit], context: Context) -> Result<Vec<Element>, NoMemory>
     ensures { IfOk result (λ shown. shown.items ≡ whole_meant context units.now) }
 {
     let mut shown = Vec::new(alloc);
