@@ -2,6 +2,7 @@
 
 use crate::{Tree, TreeError};
 use std::alloc::Global;
+use std::process::Abort;
 use std::test::Fail;
 use vf_base::{Constraint, Context, DataUnit, Element, FaduId, NoMemory, Octets, Sequence};
 
@@ -93,13 +94,13 @@ fn actions_follow_the_table(rt: HostRuntime) -> Result<(), Fail> {
             let flat = flat(&rt, alloc, units)?;
             let inserted = if id == FaduId::End { inserted } else { "-" };
             let erased = if id == FaduId::Begin { "0" } else { "-" };
-            assert_acts(&rt, &flat, id, [inserted, "o", "o", erased])?;
+            assert_acts(&rt, alloc, &flat, id, [inserted, "o", "o", erased])?;
             let answers = if whole {
                 ["o", "Z0", extended, "0"]
             } else {
                 ["o", "-", "-", "-"]
             };
-            assert_acts(&rt, &plain, id, answers)?;
+            assert_acts(&rt, alloc, &plain, id, answers)?;
         }
     }
     Ok(())
@@ -155,8 +156,13 @@ fn files_end_at_their_limits(rt: HostRuntime) -> Result<(), Fail> {
 }
 
 /// Answers of insert, replace, extend and erase, each tried on a tree that shares the units of this one.
-fn assert_acts(rt: &HostRuntime, tree: &Tree, id: FaduId, answers: [&str; 4]) -> Result<(), Fail> {
-    let alloc = rt.alloc();
+fn assert_acts(
+    rt: &impl Abort,
+    alloc: Global,
+    tree: &Tree,
+    id: FaduId,
+    answers: [&str; 4],
+) -> Result<(), Fail> {
     let before = read(alloc, tree, 0, FaduId::Begin, Context::UA)?;
     for (action, answer) in answers.iter().enumerate() {
         let mut other = tree.share()?;
@@ -182,7 +188,7 @@ fn assert_acts(rt: &HostRuntime, tree: &Tree, id: FaduId, answers: [&str; 4]) ->
 }
 
 fn act(
-    rt: &HostRuntime,
+    rt: &impl Abort,
     alloc: Global,
     tree: &mut Tree,
     action: usize,
@@ -297,7 +303,7 @@ fn unit(alloc: Global, number: u32) -> Result<DataUnit, NoMemory> {
 }
 
 /// A sequential flat file of so many units.
-fn flat(rt: &HostRuntime, alloc: Global, count: u32) -> Result<Tree, Fail> {
+fn flat(rt: &impl Abort, alloc: Global, count: u32) -> Result<Tree, Fail> {
     let mut tree = Tree::empty(alloc, Constraint::SequentialFlat)?;
     for number in 0..count {
         let mut units = Vec::new(alloc);
@@ -312,7 +318,7 @@ fn flat(rt: &HostRuntime, alloc: Global, count: u32) -> Result<Tree, Fail> {
 }
 
 /// An unstructured file: new, or of the unit before this number.
-fn unstructured(rt: &HostRuntime, alloc: Global, count: u32) -> Result<Tree, Fail> {
+fn unstructured(rt: &impl Abort, alloc: Global, count: u32) -> Result<Tree, Fail> {
     let mut tree = Tree::empty(alloc, Constraint::Unstructured)?;
     if count > 0 {
         let unit = unit(alloc, count - 1)?;
