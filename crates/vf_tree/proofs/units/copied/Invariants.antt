@@ -1,4 +1,4 @@
-use Rattle.std.proofs.Common.{◌≡◌, ◌++◌, take, drop}
+use Rattle.std.proofs.Common.{◌≡◌, take}
 use Rattle.vf_tree.proofs.units.copied.Given as goal
 
 abbrev pub invariant-loop-unit : goal.invariant-loop-unit

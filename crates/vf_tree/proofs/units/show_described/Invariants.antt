@@ -1,4 +1,4 @@
-use Rattle.std.proofs.Common.{◌≡◌, ◌++◌, take, drop}
+use Rattle.std.proofs.Common.{◌≡◌, ◌++◌, drop}
 use Rattle.vf_tree.specs.Contexts.{described}
 use Rattle.vf_tree.proofs.units.show_described.Given as goal
 

@@ -1,4 +1,4 @@
-use Rattle.std.proofs.Common.{◌≡◌, ◌++◌, take, drop}
+use Rattle.std.proofs.Common.{◌≡◌, ◌++◌, drop}
 use Rattle.vf_tree.specs.FileTree.{strings}
 use Rattle.vf_tree.proofs.units.show_strings.Given as goal
 

@@ -1,4 +1,4 @@
-use Rattle.std.proofs.Common.{◌≡◌, ◌++◌, take, drop}
+use Rattle.std.proofs.Common.{◌≡◌, ◌++◌, take}
 use Rattle.vf_tree.proofs.units.show_unit.Given as goal
 
 abbrev pub invariant-loop-element : goal.invariant-loop-element
