@@ -67,7 +67,5 @@ fn fits(doc: &DocType, octets: &Octets) -> bool
 {
     let count = octets.len();
     let longest = doc.longest as usize;
-    count <= 65_536
-        && (longest == 0 || count <= longest)
-        && (!doc.is_fixed || count == longest)
+    count <= 65_536 && (longest == 0 || count <= longest) && (!doc.is_fixed || count == longest)
 }

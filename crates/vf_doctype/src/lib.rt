@@ -9,3 +9,6 @@ mod units;
 
 pub use doc_type::DocType;
 pub use errors::DocError;
+
+#[cfg(test)]
+mod tests;
