@@ -1,0 +1,4 @@
+pub mod Actions
+pub mod Contexts
+pub mod FileTree
+pub mod Identities

@@ -1,0 +1,13 @@
+//! Files as trees of FADUs (ISO 8571-2, file model): their data units, the actions on them, and what is shown.
+#![tactic(auto)]
+
+mod errors;
+mod limits;
+mod tree;
+mod units;
+
+pub use errors::TreeError;
+pub use tree::Tree;
+
+#[cfg(test)]
+mod tests;
