@@ -1,8 +1,8 @@
 //! One end of a transport connection as a filter of standard input, for what stands in bench/ and peers/.
 //!
-//! `say EXPONENT` writes a CR and then the packets of its input, in TSDUs of 65,536 octets, as a calling end that
-//! was answered with TPDUs of 2^EXPONENT octets. `hear COUNT` hears such a stream as the called end, in pieces of
-//! COUNT octets, and writes how many units came, how many octets they hold and how many octets are held.
+//! `say EXPONENT` writes a CC and then the packets of its input, in TSDUs of 65,536 octets, as a called end that was
+//! asked for TPDUs of 2^EXPONENT octets. `hear COUNT` hears such a stream as the calling end, in pieces of COUNT
+//! octets, and writes how many units came, how many octets they hold and how many octets are held.
 #![tactic(auto)]
 
 use std::alloc::Global;
@@ -17,8 +17,8 @@ const LIMIT: usize = 1 << 25;
 /// The octets of a TSDU that is said.
 const TSDU: usize = 65_536;
 
-/// The octets of a CC in its packet, up to the exponent of its TPDU size.
-const CC: [u8; 13] = [3, 0, 0, 14, 9, 0xD0, 0, 1, 0, 1, 0, 0xC0, 1];
+/// The octets of a CR in its packet, up to the exponent of its TPDU size.
+const CR: [u8; 13] = [3, 0, 0, 14, 9, 0xE0, 0, 0, 0, 1, 0, 0xC0, 1];
 
 /// What the words ask for.
 #[derive(Drop)]
@@ -37,12 +37,11 @@ fn command_of(name: &str, number: &str) -> Option<Command> {
 
 /// The stream that says these octets.
 fn say(alloc: Global, exponent: u8, octets: &[u8]) -> Result<Vec<u8>, TpktError> {
-    let mut stream = Vec::new(alloc);
-    let mut tpkt = Tpkt::calling(alloc, &mut stream)?;
+    let mut tpkt = Tpkt::called(alloc)?;
     let mut units = Vec::new(alloc);
-    let mut answers = Vec::new(alloc);
-    tpkt.feed(&CC, &mut units, &mut answers)?;
-    tpkt.feed(&[exponent], &mut units, &mut answers)?;
+    let mut stream = Vec::new(alloc);
+    tpkt.feed(&CR, &mut units, &mut stream)?;
+    tpkt.feed(&[exponent], &mut units, &mut stream)?;
     let mut rest = octets;
     while !rest.is_empty() {
         let (tsdu, others) = rest.split_at(rest.len().min(TSDU));
@@ -54,11 +53,11 @@ fn say(alloc: Global, exponent: u8, octets: &[u8]) -> Result<Vec<u8>, TpktError>
     Ok(stream)
 }
 
-/// What a called end hears in pieces of so many octets.
+/// What a calling end hears in pieces of so many octets.
 fn hear(alloc: Global, count: usize, stream: &[u8]) -> Result<Vec<u8>, TpktError> {
-    let mut tpkt = Tpkt::called(alloc)?;
-    let mut units = Vec::new(alloc);
     let mut answers = Vec::new(alloc);
+    let mut tpkt = Tpkt::calling(alloc, &mut answers)?;
+    let mut units = Vec::new(alloc);
     let mut heard: u64 = 0;
     let mut octets: u64 = 0;
     let mut rest = stream;
