@@ -1,0 +1,4 @@
+pub mod Clash
+pub mod Counts
+pub mod Holders
+pub mod Place

@@ -1,0 +1,13 @@
+//! Concurrency control of ISO 8571: which holders of a file exclude what others ask for.
+#![tactic(auto)]
+
+mod clash;
+mod conflict;
+mod counts;
+mod held;
+mod holder;
+
+pub use conflict::{Conflict, GrantError};
+pub use counts::HeldCounts;
+pub use held::Held;
+pub use holder::Holder;
