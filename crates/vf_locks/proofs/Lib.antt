@@ -1,1 +1,3 @@
 mod Order
+mod Ordered
+mod Counted

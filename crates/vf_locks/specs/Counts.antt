@@ -27,5 +27,5 @@ abbrev pub how_many : List Held → ℕ → ℕ → ℕ
 how_many helds action control = count_by (λ (held : Held). has_number control (slice_get held.controls.each action)) helds
 
 -- these for each action and each control, in the order of their numbers
-abbrev pub numbers_of : List Held → List (List ℕ)
+unfoldable pub numbers_of : List Held → List (List ℕ)
 numbers_of helds = map (λ action. map (how_many helds action) control_numbers) action_numbers

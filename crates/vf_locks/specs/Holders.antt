@@ -48,3 +48,7 @@ granted holder controls helds = in_order (record { holder = holder; controls = c
 -- once the one holder stands in the place of the other, with its controls
 abbrev pub passed : Holder → Holder → List Held → List Held
 passed from to helds = option_map_or (λ controls. granted to controls (others from helds)) (controls_of from helds) helds
+
+-- the first that isn't this holder
+abbrev pub first_other : Holder → List Held → Option Holder
+first_other holder helds = option_map (λ (held : Held). held.holder) (find (λ (held : Held). not (is_same held.holder holder)) helds)

@@ -36,8 +36,8 @@ each_row change controls [] rows = rows
 each_row change controls (action ∷ actions) [] = []
 each_row change controls (action ∷ actions) (row ∷ rows) = option_map_or (λ control. change control row) (slice_get controls action) row ∷ each_row change controls actions rows
 
-abbrev pub raised : List Control → List (List ℕ) → List (List ℕ)
+unfoldable pub raised : List Control → List (List ℕ) → List (List ℕ)
 raised controls numbers = each_row raised_row controls action_numbers numbers
 
-abbrev pub lowered : List Control → List (List ℕ) → List (List ℕ)
+unfoldable pub lowered : List Control → List (List ℕ) → List (List ℕ)
 lowered controls numbers = each_row lowered_row controls action_numbers numbers

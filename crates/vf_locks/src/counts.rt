@@ -10,6 +10,7 @@ pub struct HeldCounts {
 }
 
 /// The numbers with one holder more that has the controls.
+#[tactic(auto, unfolding(crate::specs::Place::raised))]
 pub fn with_one_more(numbers: [[u64; 4]; 8], controls: &Controls) -> [[u64; 4]; 8]
     requires { All (All (λ number. number < 2 ^ 64 - 1)) numbers }
     ensures { result ≡ raised controls.now.each numbers }
@@ -42,6 +43,7 @@ fn row_with_one_more(row: [u64; 4], control: Control) -> [u64; 4]
 }
 
 /// The numbers with one holder less that has the controls.
+#[tactic(auto, unfolding(crate::specs::Place::lowered))]
 pub fn with_one_less(numbers: [[u64; 4]; 8], controls: &Controls) -> [[u64; 4]; 8]
     ensures { result ≡ lowered controls.now.each numbers }
 {

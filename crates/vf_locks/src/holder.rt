@@ -1,7 +1,7 @@
 ghost use Rattle.std.specs.Prelude.{◌≡◌, IfOk};
 ghost use Rattle.std.specs.Cmp.Lexicographic.{slice_cmp};
 ghost use Rattle.std.specs.Ordering.{nat_cmp, ordering_then};
-ghost use Rattle.vf_locks.specs.Holders.{holder_cmp};
+ghost use Rattle.vf_locks.specs.Holders.{holder_cmp, is_same as same_holder};
 
 use std::alloc::Global;
 use std::cmp::Ordering;
@@ -49,6 +49,13 @@ impl Holder {
                 },
             ) => compare_dockets(identity, *activity, second, *later),
         }
+    }
+
+    /// Whether the two are one holder.
+    pub fn is_same(&self, other: &Holder) -> bool
+        ensures { result ≡ same_holder self.now other.now }
+    {
+        self.compare(other).is_eq()
     }
 }
 

@@ -4,8 +4,10 @@
 mod clash;
 mod conflict;
 mod counts;
+mod file_holders;
 mod held;
 mod holder;
+mod search;
 
 pub use conflict::{Conflict, GrantError};
 pub use counts::HeldCounts;

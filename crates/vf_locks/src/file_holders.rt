@@ -1,0 +1,137 @@
+ghost use Rattle.std.specs.Prelude.{◌≡◌, [], IsOk, IsSome, OnOk, OnErr, Ok, Err, None};
+ghost use Rattle.vf_locks.specs.Counts.{numbers_of};
+ghost use Rattle.vf_locks.specs.Holders.{IsOrdered, controls_of, granted, in_order, others, passed};
+ghost use Rattle.vf_locks.specs.Place.{place_of};
+
+use crate::counts::{with_one_less, with_one_more};
+use crate::search::search;
+use crate::{Held, HeldCounts, Holder};
+use std::alloc::Global;
+use std::marker::Model;
+use vf_base::{Controls, NoMemory};
+
+/// The holders of one file in their order, with the numbers of their controls.
+#[derive(Drop)]
+pub struct FileHolders {
+    standing: Vec<Held>,
+    counts: HeldCounts,
+}
+
+impl Model for FileHolders {
+    ghost use Rattle.std.specs.Prelude.{◌≡◌, List};
+    ghost use Rattle.vf_locks.specs.declared.held.Held.{Held};
+    ghost use Rattle.vf_locks.specs.Counts.{numbers_of};
+    ghost use Rattle.vf_locks.specs.Holders.{IsOrdered};
+
+    ghost Value = { List Held };
+
+    ghost view = { λ holders. holders.standing.items };
+
+    ghost invariant = { λ holders. IsOrdered holders.standing.items × (holders.counts.numbers ≡ numbers_of holders.standing.items) };
+}
+
+impl FileHolders {
+    /// No holders; the allocator is kept for those that come.
+    pub fn new(alloc: Global) -> FileHolders
+        ensures { result ≡ [] }
+    {
+        FileHolders {
+            standing: Vec::new(alloc),
+            counts: HeldCounts {
+                numbers: [[0; 4]; 8],
+            },
+        }
+    }
+
+    pub fn counts(&self) -> &HeldCounts
+        ensures { result.now.numbers ≡ numbers_of self.now }
+    {
+        &self.counts
+    }
+
+    pub fn as_slice(&self) -> &[Held]
+        ensures holders { result.now ≡ self.now }
+        ensures ordered { IsOrdered self.now }
+    {
+        self.standing.as_slice()
+    }
+
+    /// The controls in the place of the holder's own, or beside those of the others; without memory nothing changes.
+    pub fn grant(
+        &mut self,
+        alloc: Global,
+        holder: &Holder,
+        wanted: &Controls,
+    ) -> Result<(), NoMemory>
+        ensures ok { OnOk result (self.new ≡ granted holder.now wanted.now self.old) }
+        ensures err { OnErr result (self.new ≡ self.old) }
+        ensures stands { IsSome (controls_of holder.now self.old) → IsOk result }
+    {
+        match search(self.as_slice(), holder) {
+            Ok(place) => {
+                self.replace(place, holder, wanted);
+                Ok(())
+            }
+            Err(place) => {
+                self.insert(alloc, place, holder, wanted)?;
+                Ok(())
+            }
+        }
+    }
+
+    /// Without the holder.
+    pub fn release(&mut self, holder: &Holder)
+        ensures { self.new ≡ others holder.now self.old }
+    {
+        if let Ok(place) = search(self.as_slice(), holder) {
+            self.remove(place, holder);
+        }
+    }
+
+    fn replace(&mut self, place: usize, holder: &Holder, wanted: &Controls)
+        requires { place_of holder.now self.old ≡ Ok place }
+        ensures { self.new ≡ granted holder.now wanted.now self.old }
+    {
+        let held = self.standing[place].controls;
+        let numbers = with_one_less(self.counts.numbers, &held);
+        self.standing[place].controls = *wanted;
+        self.counts = HeldCounts {
+            numbers: with_one_more(numbers, wanted),
+        };
+    }
+
+    fn insert(
+        &mut self,
+        alloc: Global,
+        place: usize,
+        holder: &Holder,
+        wanted: &Controls,
+    ) -> Result<(), NoMemory>
+        requires { place_of holder.now self.old ≡ Err place }
+        ensures ok { OnOk result (self.new ≡ granted holder.now wanted.now self.old) }
+        ensures err { OnErr result (self.new ≡ self.old) }
+    {
+        let holder = holder.copy(alloc)?;
+        self.standing.insert(
+            place,
+            Held {
+                holder,
+                controls: *wanted,
+            },
+        )?;
+        self.counts = HeldCounts {
+            numbers: with_one_more(self.counts.numbers, wanted),
+        };
+        Ok(())
+    }
+
+    fn remove(&mut self, place: usize, holder: &Holder)
+        requires { place_of holder.now self.old ≡ Ok place }
+        ensures { self.new ≡ others holder.now self.old }
+    {
+        let held = self.standing.remove(place);
+        self.counts = HeldCounts {
+            numbers: with_one_less(self.counts.numbers, &held.controls),
+        };
+    }
+}
