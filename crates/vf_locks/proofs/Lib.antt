@@ -1,3 +1,4 @@
 mod Order
 mod Ordered
 mod Counted
+mod Searched

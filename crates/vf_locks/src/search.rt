@@ -22,12 +22,8 @@ pub fn search(standing: &[Held], holder: &Holder) -> Result<usize, usize>
 pub fn first_other<'a>(standing: &'a [Held], holder: &Holder) -> Option<&'a Holder>
     ensures { option_copied result ≡ other_than holder.now standing.now }
 {
-    for held in standing {
-        if !held.holder.is_same(holder) {
-            return Some(&held.holder);
-        }
-    }
-    None
+    let other = standing.iter().find(|held| !held.holder.is_same(holder))?;
+    Some(&other.holder)
 }
 
 /// The first other holder that stands against what this one wants, and the lowest action on which it does.
