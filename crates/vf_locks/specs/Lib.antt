@@ -2,3 +2,4 @@ pub mod Clash
 pub mod Counts
 pub mod Holders
 pub mod Place
+pub mod Table

@@ -1,14 +1,16 @@
 ghost use Rattle.std.specs.Prelude.{◌≡◌, [], IsOk, IsSome, OnOk, OnErr, Ok, Err, None};
+ghost use Rattle.std.specs.Option.{option_map};
+ghost use Rattle.vf_locks.specs.Clash.{conflict};
 ghost use Rattle.vf_locks.specs.Counts.{numbers_of};
 ghost use Rattle.vf_locks.specs.Holders.{IsOrdered, controls_of, granted, in_order, others, passed};
 ghost use Rattle.vf_locks.specs.Place.{place_of};
 
 use crate::counts::{with_one_less, with_one_more};
-use crate::search::search;
+use crate::search::{first_against, search};
 use crate::{Held, HeldCounts, Holder};
 use std::alloc::Global;
 use std::marker::Model;
-use vf_base::{Controls, NoMemory};
+use vf_base::{Action, Controls, NoMemory};
 
 /// The holders of one file in their order, with the numbers of their controls.
 #[derive(Drop)]
@@ -86,6 +88,36 @@ impl FileHolders {
         if let Ok(place) = search(self.as_slice(), holder) {
             self.remove(place, holder);
         }
+    }
+
+    /// The holder `to` in the place of `from`, with its controls.
+    pub fn pass(&mut self, from: &Holder, to: Holder)
+        requires stands { IsSome (controls_of from.now self.old) }
+        requires free { controls_of to self.old ≡ None }
+        ensures { self.new ≡ passed from.now to self.old }
+    {
+        let Ok(place) = search(self.standing.as_slice(), from) else {
+            unreachable!()
+        };
+        let held = self.standing.remove(place);
+        let Err(place) = search(self.standing.as_slice(), &to) else {
+            unreachable!()
+        };
+        let controls = held.controls;
+        let _ = self.standing.insert(
+            place,
+            Held {
+                holder: to,
+                controls,
+            },
+        );
+    }
+
+    /// The first other holder that stands against what this one wants, and the lowest action on which it does.
+    pub fn first_against(&self, holder: &Holder, wanted: &Controls) -> Option<(&Holder, Action)>
+        ensures { option_map (λ found. record { holder = found.0.now; action = found.1 }) result ≡ conflict holder.now wanted.now self.now }
+    {
+        first_against(self.standing.as_slice(), holder, wanted)
     }
 
     fn replace(&mut self, place: usize, holder: &Holder, wanted: &Controls)

@@ -7,9 +7,11 @@ mod counts;
 mod file_holders;
 mod held;
 mod holder;
+mod locks;
 mod search;
 
 pub use conflict::{Conflict, GrantError};
 pub use counts::HeldCounts;
 pub use held::Held;
 pub use holder::Holder;
+pub use locks::Locks;
