@@ -1,13 +1,13 @@
 -- The numbers of controls, with one holder more or less.
-use Rattle.std.proofs.Common.{◌≡◌, ◌<◌, ◌≤◌, ◌^◌, ℕ, zero, suc, ◌+◌, ◌-◌, Bool, true, false, cond, List, [], ◌∷◌, length, Option, None, Some, Ok, Err, All, refl, ap, sym, subst, ◌∙◌, slice_get, slice_set, slice_index, slice_index_or, insert, remove, map, count_by, arith}
+use Rattle.std.proofs.Common.{◌≡◌, ◌<◌, ◌≤◌, ◌^◌, ℕ, zero, suc, ◌+◌, ◌-◌, Bool, true, false, cond, not, find, is_some, true≢false, List, [], ◌∷◌, length, Option, None, Some, Ok, Err, All, refl, ap, sym, subst, ◌∙◌, slice_get, slice_set, slice_index, slice_index_or, insert, remove, map, count_by, arith}
 use Rattle.std.proofs.lemmas.List.Sums.{count_by-le-length}
 use Rattle.std.proofs.lemmas.List.Elements.{All-cons, All-nil}
 use Rattle.std.proofs.lemmas.List.Edits.{length-remove}
-use Rattle.std.specs.Option.{option_map_or}
+use Rattle.std.specs.Option.{option_map, option_map_or}
 use Rattle.vf_base.specs.declared.action.Control.{Control}
 use Rattle.vf_base.specs.declared.action.Control.TheVariants.{NotRequired, Shared, Exclusive, NoAccess}
 use Rattle.vf_locks.specs.Counts.{action_numbers, control_numbers, has_number, how_many, numbers_of}
-use Rattle.vf_locks.specs.Holders.{IsOrdered, controls_of, granted, in_order, others}
+use Rattle.vf_locks.specs.Holders.{IsOrdered, controls_of, granted, in_order, is_same, others, passed}
 use Rattle.vf_locks.specs.Place.{lowered, lowered_row, place_of, raised, raised_row}
 use Rattle.vf_base.specs.declared.action.Controls.{Controls}
 use Rattle.vf_locks.specs.declared.held.Held.{Held}
@@ -174,3 +174,48 @@ module _ (holder : Holder) (hs : List Held) (place : ℕ) (numbers : List (List 
 
   pub bounded : length hs < 9223372036854775808 → All (All (λ n. n < 18446744073709551615)) numbers
   bounded few = subst (All (All (λ n. n < 18446744073709551615))) (sym whole.1) (numbers_bounded hs few)
+
+none_left : (holder other : Holder) (hs : List Held) → controls_of holder hs ≡ None → controls_of holder (others other hs) ≡ None
+none_left holder other [] none = refl
+none_left holder other (x ∷ xs) none = by (is_same x.holder holder) refl (not (is_same x.holder other)) (none_left holder other xs)
+  where
+    by : (b : Bool) → is_same x.holder holder ≡ b → (keeps : Bool) → (controls_of holder xs ≡ None → controls_of holder (others other xs) ≡ None)
+        → controls_of holder (cond keeps (x ∷ others other xs) (others other xs)) ≡ None
+    by true is keeps rest = absurd (true≢false (sym (ap (λ b. is_some (option_map (λ (held : Held). held.controls) (cond b (Some x) (find (λ (held : Held). is_same held.holder holder) xs)))) is) ∙ ap is_some none))
+    by false is true rest =
+        (λ i. option_map (λ (held : Held). held.controls) (cond (is i) (Some x) (find (λ (held : Held). is_same held.holder holder) (others other xs))))
+        ∙ rest ((λ i. option_map (λ (held : Held). held.controls) (cond (sym is i) (Some x) (find (λ (held : Held). is_same held.holder holder) xs))) ∙ none)
+    by false is false rest = rest ((λ i. option_map (λ (held : Held). held.controls) (cond (sym is i) (Some x) (find (λ (held : Held). is_same held.holder holder) xs))) ∙ none)
+
+-- one holder in the place of another
+module _ (holder : Holder) (hs : List Held) (place : ℕ) (numbers : List (List ℕ)) (whole : IsWhole numbers hs) (is : place_of holder hs ≡ Ok place)
+    (d : Held) (same : d ≡ slice_index_or hs place d) (to : Holder) where
+  pub ordered_without : IsOrdered (remove hs place)
+  ordered_without = (whole_removed holder hs place numbers whole is d same).0
+
+  pub free_without : controls_of to hs ≡ None → (at : ℕ) → place_of to (remove hs place) ≡ Ok at → ⊥
+  free_without free at there =
+      let standing = stands_at to (remove hs place) at ordered_without there in
+      let none : controls_of to (remove hs place) ≡ None = subst (λ rest. controls_of to rest ≡ None) (sym (removed_others holder hs place numbers whole is)) (none_left to holder hs free) in
+      true≢false (ap is_some (sym standing.1.controls ∙ none))
+
+  module _ (at : ℕ) (absent : place_of to (remove hs place) ≡ Err at) where
+    pub whole_passed : IsWhole numbers (insert (remove hs place) at (record { holder = to; controls = d.controls }))
+    whole_passed =
+        let found = stands_at holder hs place whole.0 is in
+        let held : d ≡ found.0 = same ∙ found.1.found d in
+        let gone = whole_removed holder hs place numbers whole is d same in
+        let new : Held = record { holder = to; controls = d.controls } in
+        let back : raised d.controls.each (lowered d.controls.each numbers) ≡ numbers
+        = (λ i. raised (held i).controls.each (gone.1 i)) ∙ sym (numbers_of-in_order found.0 (remove hs place)) ∙ ap numbers_of found.1.back ∙ sym whole.1 in
+        let all = whole_inserted to (remove hs place) at (lowered d.controls.each numbers) gone absent new refl in
+        (all.0, sym back ∙ all.1)
+
+    pub inserted_passed : insert (remove hs place) at (record { holder = to; controls = d.controls }) ≡ passed holder to hs
+    inserted_passed =
+        let found = stands_at holder hs place whole.0 is in
+        let held : d ≡ found.0 = same ∙ found.1.found d in
+        let gone = whole_removed holder hs place numbers whole is d same in
+        inserted_granted to (remove hs place) at (lowered d.controls.each numbers) gone absent (record { holder = to; controls = d.controls }) refl
+        ∙ (λ i. granted to (held i).controls (sym found.1.rest i))
+        ∙ (λ i. option_map_or (λ controls. granted to controls (others holder hs)) (sym found.1.controls i) hs)
