@@ -2,3 +2,5 @@ mod Order
 mod Ordered
 mod Counted
 mod Searched
+mod Unshown
+mod Forgotten

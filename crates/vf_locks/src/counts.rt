@@ -1,5 +1,6 @@
 ghost use Rattle.std.specs.Prelude.{◌≡◌, ◌-◌, ◌<◌, ◌^◌, All};
 ghost use Rattle.vf_locks.specs.Place.{lowered, lowered_row, raised, raised_row};
+ghost use Rattle.vf_locks.specs.Shown.{row_shows, shows};
 
 use vf_base::{Control, Controls};
 
@@ -70,5 +71,25 @@ fn row_with_one_less(row: [u64; 4], control: Control) -> [u64; 4]
         Control::Shared => [a, b.saturating_sub(1), c, d],
         Control::Exclusive => [a, b, c.saturating_sub(1), d],
         Control::NoAccess => [a, b, c, d.saturating_sub(1)],
+    }
+}
+
+/// Whether some holder has a control that clashes with one that is wanted, going by the numbers alone.
+pub fn show_clash(numbers: &[[u64; 4]; 8], wanted: &Controls) -> bool
+    ensures { result ≡ shows numbers.now wanted.now.each }
+{
+    let mut pairs = numbers.iter().zip(wanted.each.iter());
+    pairs.any(|(row, control)| row_shows_clash(row, *control))
+}
+
+fn row_shows_clash(row: &[u64; 4], wanted: Control) -> bool
+    ensures { result ≡ row_shows row.now wanted }
+{
+    let [_, shared, exclusive, no_access] = *row;
+    match wanted {
+        Control::NotRequired => false,
+        Control::Shared => exclusive > 0 || no_access > 0,
+        Control::Exclusive => shared > 0 || exclusive > 0 || no_access > 0,
+        Control::NoAccess => shared > 0 || exclusive > 0,
     }
 }

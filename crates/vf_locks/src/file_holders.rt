@@ -1,11 +1,11 @@
-ghost use Rattle.std.specs.Prelude.{◌≡◌, [], IsOk, IsSome, OnOk, OnErr, Ok, Err, None};
+ghost use Rattle.std.specs.Prelude.{◌≡◌, [], IsOk, IsSome, OnOk, OnErr, Ok, Err, None, option_copied};
 ghost use Rattle.std.specs.Option.{option_map};
 ghost use Rattle.vf_locks.specs.Clash.{conflict};
 ghost use Rattle.vf_locks.specs.Counts.{numbers_of};
 ghost use Rattle.vf_locks.specs.Holders.{IsOrdered, controls_of, granted, in_order, others, passed};
 ghost use Rattle.vf_locks.specs.Place.{place_of};
 
-use crate::counts::{with_one_less, with_one_more};
+use crate::counts::{show_clash, with_one_less, with_one_more};
 use crate::search::{first_against, search};
 use crate::{Held, HeldCounts, Holder};
 use std::alloc::Global;
@@ -56,6 +56,16 @@ impl FileHolders {
         ensures ordered { IsOrdered self.now }
     {
         self.standing.as_slice()
+    }
+
+    /// The controls of the holder, where it stands.
+    pub fn controls(&self, holder: &Holder) -> Option<&Controls>
+        ensures { option_copied result ≡ controls_of holder.now self.now }
+    {
+        match search(self.standing.as_slice(), holder) {
+            Ok(place) => Some(&self.standing[place].controls),
+            Err(_) => None,
+        }
     }
 
     /// The controls in the place of the holder's own, or beside those of the others; without memory nothing changes.
@@ -117,6 +127,9 @@ impl FileHolders {
     pub fn first_against(&self, holder: &Holder, wanted: &Controls) -> Option<(&Holder, Action)>
         ensures { option_map (λ found. record { holder = found.0.now; action = found.1 }) result ≡ conflict holder.now wanted.now self.now }
     {
+        if !show_clash(&self.counts.numbers, wanted) {
+            return None;
+        }
         first_against(self.standing.as_slice(), holder, wanted)
     }
 

@@ -9,6 +9,8 @@ mod held;
 mod holder;
 mod locks;
 mod search;
+#[cfg(test)]
+mod tests;
 
 pub use conflict::{Conflict, GrantError};
 pub use counts::HeldCounts;

@@ -1,4 +1,6 @@
-ghost use Rattle.std.specs.Prelude.{◌≡◌, ◌↔◌, [], None, IfErr, IsOk, IsSome, OnOk, OnErr, option_copied};
+ghost use Rattle.std.specs.Prelude.{◌≡◌, ◌↔◌, [], None, IfErr, IsOk, IsSome, OnOk, OnErr, List, ℕ, if◌then◌else◌, nat_eq, option_copied};
+ghost use Rattle.std.specs.Cmp.Lexicographic.{pointwise};
+ghost use Rattle.indexmap.specs.IndexMap.{get};
 ghost use Rattle.vf_locks.specs.Clash.{conflict};
 ghost use Rattle.vf_locks.specs.Holders.{controls_of, first_other as other_than, granted, others, passed};
 ghost use Rattle.vf_locks.specs.Table.{IsAsBefore, IsCause, IsWith, counts_of, held};
@@ -87,6 +89,7 @@ impl Locks {
         if let Some(holders) = self.by_file.get_mut(file) {
             holders.release(holder);
         }
+        self.forget_empty(file);
     }
 
     /// The holder `to` stands on the file in the place of `from`, with its controls.
@@ -117,6 +120,26 @@ impl Locks {
             return None;
         }
         Some(holders.counts())
+    }
+
+    /// The controls of the holder on the file; `None` exactly where it doesn't stand there.
+    pub fn controls(&self, file: &Name, holder: &Holder) -> Option<&Controls>
+        ensures { option_copied result ≡ controls_of holder.now (held file.now self.now) }
+    {
+        let holders = self.by_file.get(file)?;
+        holders.controls(holder)
+    }
+
+    /// Gives up the file's entry where no holder is left.
+    fn forget_empty(&mut self, file: &Name)
+        ensures { IsAsBefore self.old self.new }
+    {
+        let Some(holders) = self.by_file.get(file) else {
+            return;
+        };
+        if holders.as_slice().is_empty() {
+            take_out(&mut self.by_file, file);
+        }
     }
 
     fn put(
@@ -153,6 +176,12 @@ impl Locks {
         self.by_file.insert(name, holders)?;
         Ok(())
     }
+}
+
+fn take_out(by_file: &mut IndexMap<Name, FileHolders>, file: &Name)
+    ensures { (other : List ℕ) → get (pointwise nat_eq) by_file.new other ≡ (if pointwise nat_eq file.now other then None else get (pointwise nat_eq) by_file.old other) }
+{
+    let _ = by_file.swap_remove(file);
 }
 
 /// The clash on the action with the holder, where there is memory to name it.
