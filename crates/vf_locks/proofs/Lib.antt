@@ -1,0 +1,6 @@
+mod Order
+mod Ordered
+mod Counted
+mod Searched
+mod Unshown
+mod Forgotten

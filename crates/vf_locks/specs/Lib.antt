@@ -1,0 +1,6 @@
+pub mod Clash
+pub mod Counts
+pub mod Holders
+pub mod Place
+pub mod Shown
+pub mod Table

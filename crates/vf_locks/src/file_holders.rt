@@ -1,0 +1,182 @@
+ghost use Rattle.std.specs.Prelude.{◌≡◌, [], IsOk, IsSome, OnOk, OnErr, Ok, Err, None, option_copied};
+ghost use Rattle.std.specs.Option.{option_map};
+ghost use Rattle.vf_locks.specs.Clash.{conflict};
+ghost use Rattle.vf_locks.specs.Counts.{numbers_of};
+ghost use Rattle.vf_locks.specs.Holders.{IsOrdered, controls_of, granted, in_order, others, passed};
+ghost use Rattle.vf_locks.specs.Place.{place_of};
+
+use crate::counts::{show_clash, with_one_less, with_one_more};
+use crate::search::{first_against, search};
+use crate::{Held, HeldCounts, Holder};
+use std::alloc::Global;
+use std::marker::Model;
+use vf_base::{Action, Controls, NoMemory};
+
+/// The holders of one file in their order, with the numbers of their controls.
+#[derive(Drop)]
+pub struct FileHolders {
+    standing: Vec<Held>,
+    counts: HeldCounts,
+}
+
+impl Model for FileHolders {
+    ghost use Rattle.std.specs.Prelude.{◌≡◌, List};
+    ghost use Rattle.vf_locks.specs.declared.held.Held.{Held};
+    ghost use Rattle.vf_locks.specs.Counts.{numbers_of};
+    ghost use Rattle.vf_locks.specs.Holders.{IsOrdered};
+
+    ghost Value = { List Held };
+
+    ghost view = { λ holders. holders.standing.items };
+
+    ghost invariant = { λ holders. IsOrdered holders.standing.items × (holders.counts.numbers ≡ numbers_of holders.standing.items) };
+}
+
+impl FileHolders {
+    /// No holders; the allocator is kept for those that come.
+    pub fn new(alloc: Global) -> FileHolders
+        ensures { result ≡ [] }
+    {
+        FileHolders {
+            standing: Vec::new(alloc),
+            counts: HeldCounts {
+                numbers: [[0; 4]; 8],
+            },
+        }
+    }
+
+    pub fn counts(&self) -> &HeldCounts
+        ensures { result.now.numbers ≡ numbers_of self.now }
+    {
+        &self.counts
+    }
+
+    pub fn as_slice(&self) -> &[Held]
+        ensures holders { result.now ≡ self.now }
+        ensures ordered { IsOrdered self.now }
+    {
+        self.standing.as_slice()
+    }
+
+    /// The controls of the holder, where it stands.
+    pub fn controls(&self, holder: &Holder) -> Option<&Controls>
+        ensures { option_copied result ≡ controls_of holder.now self.now }
+    {
+        match search(self.standing.as_slice(), holder) {
+            Ok(place) => Some(&self.standing[place].controls),
+            Err(_) => None,
+        }
+    }
+
+    /// The controls in the place of the holder's own, or beside those of the others; without memory nothing changes.
+    pub fn grant(
+        &mut self,
+        alloc: Global,
+        holder: &Holder,
+        wanted: &Controls,
+    ) -> Result<(), NoMemory>
+        ensures ok { OnOk result (self.new ≡ granted holder.now wanted.now self.old) }
+        ensures err { OnErr result (self.new ≡ self.old) }
+        ensures stands { IsSome (controls_of holder.now self.old) → IsOk result }
+    {
+        match search(self.as_slice(), holder) {
+            Ok(place) => {
+                self.replace(place, holder, wanted);
+                Ok(())
+            }
+            Err(place) => {
+                self.insert(alloc, place, holder, wanted)?;
+                Ok(())
+            }
+        }
+    }
+
+    /// Without the holder.
+    pub fn release(&mut self, holder: &Holder)
+        ensures { self.new ≡ others holder.now self.old }
+    {
+        if let Ok(place) = search(self.as_slice(), holder) {
+            self.remove(place, holder);
+        }
+    }
+
+    /// The holder `to` in the place of `from`, with its controls.
+    pub fn pass(&mut self, from: &Holder, to: Holder)
+        requires stands { IsSome (controls_of from.now self.old) }
+        requires free { controls_of to self.old ≡ None }
+        ensures { self.new ≡ passed from.now to self.old }
+    {
+        let Ok(place) = search(self.standing.as_slice(), from) else {
+            unreachable!()
+        };
+        let held = self.standing.remove(place);
+        let Err(place) = search(self.standing.as_slice(), &to) else {
+            unreachable!()
+        };
+        let controls = held.controls;
+        let _ = self.standing.insert(
+            place,
+            Held {
+                holder: to,
+                controls,
+            },
+        );
+    }
+
+    /// The first other holder that stands against what this one wants, and the lowest action on which it does.
+    pub fn first_against(&self, holder: &Holder, wanted: &Controls) -> Option<(&Holder, Action)>
+        ensures { option_map (λ found. record { holder = found.0.now; action = found.1 }) result ≡ conflict holder.now wanted.now self.now }
+    {
+        if !show_clash(&self.counts.numbers, wanted) {
+            return None;
+        }
+        first_against(self.standing.as_slice(), holder, wanted)
+    }
+
+    fn replace(&mut self, place: usize, holder: &Holder, wanted: &Controls)
+        requires { place_of holder.now self.old ≡ Ok place }
+        ensures { self.new ≡ granted holder.now wanted.now self.old }
+    {
+        let held = self.standing[place].controls;
+        let numbers = with_one_less(self.counts.numbers, &held);
+        self.standing[place].controls = *wanted;
+        self.counts = HeldCounts {
+            numbers: with_one_more(numbers, wanted),
+        };
+    }
+
+    fn insert(
+        &mut self,
+        alloc: Global,
+        place: usize,
+        holder: &Holder,
+        wanted: &Controls,
+    ) -> Result<(), NoMemory>
+        requires { place_of holder.now self.old ≡ Err place }
+        ensures ok { OnOk result (self.new ≡ granted holder.now wanted.now self.old) }
+        ensures err { OnErr result (self.new ≡ self.old) }
+    {
+        let holder = holder.copy(alloc)?;
+        self.standing.insert(
+            place,
+            Held {
+                holder,
+                controls: *wanted,
+            },
+        )?;
+        self.counts = HeldCounts {
+            numbers: with_one_more(self.counts.numbers, wanted),
+        };
+        Ok(())
+    }
+
+    fn remove(&mut self, place: usize, holder: &Holder)
+        requires { place_of holder.now self.old ≡ Ok place }
+        ensures { self.new ≡ others holder.now self.old }
+    {
+        let held = self.standing.remove(place);
+        self.counts = HeldCounts {
+            numbers: with_one_less(self.counts.numbers, &held.controls),
+        };
+    }
+}
