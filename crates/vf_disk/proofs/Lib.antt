@@ -1,0 +1,4 @@
+pub mod Patch
+pub mod Images
+pub mod Elapse
+pub mod Calls

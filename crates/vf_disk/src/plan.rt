@@ -1,0 +1,75 @@
+//! Which calls of a disk in memory fail.
+ghost use Rattle.std.specs.Prelude.{◌≡◌, Some, IfOk, OnOk};
+ghost use Rattle.vf_base.specs.Faults.{HasRisen, counted};
+
+use vf_base::Failed;
+
+/// How a call goes.
+#[derive(Clone, Copy, Debug, PartialEq, Eq)]
+pub(crate) enum Fate {
+    Good,
+    /// It fails, and a crash may leave it made.
+    Fails,
+    /// It fails behind a stop.
+    Stopped,
+}
+
+/// The calls that fail: those of these numbers, from 1, and after a stop all.
+#[derive(Drop)]
+pub(crate) struct Plan {
+    pub(crate) failing: Vec<u64>,
+    pub(crate) calls: u64,
+    pub(crate) until_stop: Option<u32>,
+    pub(crate) faults: u64,
+}
+
+impl Plan {
+    pub(crate) fn new(failing: Vec<u64>) -> Plan
+        ensures { result.faults ≡ 0 }
+    {
+        Plan {
+            failing,
+            calls: 0,
+            until_stop: None,
+            faults: 0,
+        }
+    }
+
+    /// Counts a call that changes nothing.
+    pub(crate) fn looks(&mut self) -> Fate
+        ensures { self.new.faults ≡ self.old.faults }
+    {
+        self.calls = self.calls.saturating_add(1);
+        if self.until_stop == Some(0) {
+            return Fate::Stopped;
+        }
+        if self.failing.contains(&self.calls) {
+            Fate::Fails
+        } else {
+            Fate::Good
+        }
+    }
+
+    /// Counts a write, a cut or a sync.
+    pub(crate) fn changes(&mut self) -> Fate
+        ensures { self.new.faults ≡ self.old.faults }
+    {
+        let fate = self.looks();
+        match self.until_stop {
+            None | Some(0) => fate,
+            Some(left) => {
+                self.until_stop = Some(left - 1);
+                if left == 1 { Fate::Fails } else { fate }
+            }
+        }
+    }
+
+    /// Counts a fault.
+    pub(crate) fn fail(&mut self) -> Failed
+        ensures count { self.new.faults ≡ counted self.old.faults }
+        ensures risen { HasRisen self.old.faults self.new.faults }
+    {
+        self.faults = self.faults.saturating_add(1);
+        Failed
+    }
+}
