@@ -6,7 +6,9 @@ use Rattle.std.proofs.lemmas.Bool.Decides.{nat_tests}
 use Rattle.vf_disk.specs.Disk.{Torn, Shortened, Follows, Within, LeavesShown, overwritten}
 use Rattle.vf_disk.specs.declared.step.Step.{Step}
 use Rattle.vf_disk.specs.declared.step.Step.TheVariants.{Wrote, CutTo, Synced}
-use Rattle.vf_disk.specs.Memory.{State, IsImage, settled, after, state_of, lengthened, is_within, is_torn}
+use Rattle.vf_disk.specs.Memory.{State, IsImage, settled, after, state_of, lengthened, is_within, is_torn, filled_in, filled, left_by}
+use Rattle.vf_disk.specs.declared.crash_form.CrashForm.{CrashForm}
+use Rattle.vf_disk.specs.declared.crash_form.CrashForm.TheVariants.{Keep, Lose, Fill}
 use Rattle.vf_disk.proofs.Patch.{patched, same_front, same_back, length-patched, patched_before, patched_in, patched_behind}
 
 -- what holds of the state behind any calls
@@ -105,11 +107,15 @@ module _ (s : State) (at : ℕ) (octets : List ℕ) (good : Bool) where
 
   pub wrote_follows : IsSound s → at ≤ s.greatest → Follows (Torn at (length octets)) (IsImage s) (IsImage (after s (Wrote at octets good)))
   wrote_follows sound low image new = elim (cases_lt (length image) at) [
-    | inl short ↦ (image, record {
+    | inl short ↦ (
+      image,
+      record {
         no_shorter = new.no_shorter;
         no_longer = omega arith;
         stays = λ place lt out. new.stays place lt (still place (at, length octets) s.ranges (outside place at (length octets) (inl (omega (arith, new.no_shorter)))) out);
-      }, record { before = refl; behind = refl; no_shorter = omega arith; no_longer = omega arith })
+      },
+      record { before = refl; behind = refl; no_shorter = omega arith; no_longer = omega arith },
+    )
     | inr le ↦ torn sound low image new le
   ]
     where
@@ -123,28 +129,31 @@ module _ (s : State) (at : ℕ) (octets : List ℕ) (good : Bool) where
           let before = take s.greatest whole in
           let size : length before ≡ min s.greatest (length image) = omega (arith, length-take s.greatest whole, long) in
           let head : (place : ℕ) → place < at → get_or before place 0 ≡ get_or image place 0 = λ place lt.
-            get_or-take s.greatest whole place 0 (omega (arith, low)) ∙ patched_before at m s.synced image in_base le place lt in
-          (before, record {
-            no_shorter = omega (arith, size, sound.order, new.no_shorter);
-            no_longer = omega (arith, size);
-            stays = λ place lt out. elim (cases_lt place at) [
-              | inl here ↦ head place here ∙ new.stays place lt (still place (at, length octets) s.ranges (outside place at (length octets) (inl here)) out)
-              | inr past ↦ get_or-take s.greatest whole place 0 (omega (arith, sound.order)) ∙ elim (cases_lt place m) [
-                | inl inside ↦ patched_in at m s.synced image in_base le place past inside
-                | inr outer ↦ patched_behind at m s.synced image in_base le place past outer ∙ new.stays place lt (still place (at, length octets) s.ranges (outside place at (length octets) (inr (omega arith))) out)
-              ]
-            ];
-          }, record {
-            before = same_front at image before le (omega (arith, size)) (λ place lt. sym (head place lt));
-            behind = elim (cases_lt s.greatest (length image)) [
-              | inl longer ↦ drop_all (at + length octets) image (omega (arith, new.no_longer)) ∙ sym (drop_all (at + length octets) before (omega (arith, size, new.no_longer)))
-              | inr within ↦
-                  same_back (at + length octets) image whole (sym long) (λ place ge. sym (patched_behind at m s.synced image in_base le place (omega arith) (omega arith)))
-                  ∙ ap (λ (l : List ℕ). drop (at + length octets) l) (sym (take_all s.greatest whole (omega (arith, long))))
-            ];
-            no_shorter = omega (arith, size);
-            no_longer = omega (arith, size, new.no_longer);
-          })
+          get_or-take s.greatest whole place 0 (omega (arith, low)) ∙ patched_before at m s.synced image in_base le place lt in (
+            before,
+            record {
+              no_shorter = omega (arith, size, sound.order, new.no_shorter);
+              no_longer = omega (arith, size);
+              stays = λ place lt out. elim (cases_lt place at) [
+                | inl here ↦ head place here ∙ new.stays place lt (still place (at, length octets) s.ranges (outside place at (length octets) (inl here)) out)
+                | inr past ↦ get_or-take s.greatest whole place 0 (omega (arith, sound.order)) ∙ elim (cases_lt place m) [
+                  | inl inside ↦ patched_in at m s.synced image in_base le place past inside
+                  | inr outer ↦ patched_behind at m s.synced image in_base le place past outer ∙ new.stays place lt (still place (at, length octets) s.ranges (outside place at (length octets) (inr (omega arith))) out)
+                ]
+              ];
+            },
+            record {
+              before = same_front at image before le (omega (arith, size)) (λ place lt. sym (head place lt));
+              behind = elim (cases_lt s.greatest (length image)) [
+                | inl longer ↦ drop_all (at + length octets) image (omega (arith, new.no_longer)) ∙ sym (drop_all (at + length octets) before (omega (arith, size, new.no_longer)))
+                | inr within ↦
+                    same_back (at + length octets) image whole (sym long) (λ place ge. sym (patched_behind at m s.synced image in_base le place (omega arith) (omega arith)))
+                    ∙ ap (λ (l : List ℕ). drop (at + length octets) l) (sym (take_all s.greatest whole (omega (arith, long))))
+              ];
+              no_shorter = omega (arith, size);
+              no_longer = omega (arith, size, new.no_longer);
+            },
+          )
 
 -- behind a cut
 module _ (s : State) (to : ℕ) (good : Bool) where
@@ -180,24 +189,31 @@ module _ (s : State) (to : ℕ) (good : Bool) where
     | inl lt ↦
         let in_image : to ≤ length image = omega (arith, new.no_shorter) in
         let before = patched to s.least s.synced image in
-        let size = length-patched to s.least s.synced image sound.base in_image in
-        (before, record {
-          no_shorter = omega (arith, size);
-          no_longer = omega (arith, size, new.no_longer, sound.order);
-          stays = λ place here out. elim (cases_lt place to) [
-            | inl front ↦ patched_before to s.least s.synced image sound.base in_image place front ∙ new.stays place (omega arith) out
-            | inr back ↦ patched_in to s.least s.synced image sound.base in_image place back here
-          ];
-        }, record {
-          front = same_front to image before in_image (omega (arith, size)) (λ place here. sym (patched_before to s.least s.synced image sound.base in_image place here));
-          no_shorter = omega arith;
-          no_longer = omega (arith, size);
-        })
-    | inr ge ↦ (image, record {
+        let size = length-patched to s.least s.synced image sound.base in_image in (
+          before,
+          record {
+            no_shorter = omega (arith, size);
+            no_longer = omega (arith, size, new.no_longer, sound.order);
+            stays = λ place here out. elim (cases_lt place to) [
+              | inl front ↦ patched_before to s.least s.synced image sound.base in_image place front ∙ new.stays place (omega arith) out
+              | inr back ↦ patched_in to s.least s.synced image sound.base in_image place back here
+            ];
+          },
+          record {
+            front = same_front to image before in_image (omega (arith, size)) (λ place here. sym (patched_before to s.least s.synced image sound.base in_image place here));
+            no_shorter = omega arith;
+            no_longer = omega (arith, size);
+          },
+        )
+    | inr ge ↦ (
+      image,
+      record {
         no_shorter = omega (arith, new.no_shorter);
         no_longer = new.no_longer;
         stays = λ place lt out. new.stays place (omega arith) out;
-      }, record { front = refl; no_shorter = omega arith; no_longer = omega arith })
+      },
+      record { front = refl; no_shorter = omega arith; no_longer = omega arith },
+    )
   ]
 
 -- behind a sync
@@ -227,3 +243,68 @@ goes_on s (step ∷ steps) sound = goes_on (after s step) steps (step_sound s st
 pub is_sound : (first : List ℕ) (steps : List Step) → IsSound (state_of first steps)
 is_sound first steps = goes_on (settled first) steps (settled_sound first)
 
+synced_image : (s : State) → IsSound s → IsImage s s.synced
+synced_image s sound = record { no_shorter = sound.base; no_longer = sound.room; stays = λ place lt out. refl }
+
+-- octets of one kind in a range keep the length and the other octets
+fills : (octet : ℕ) (image : List ℕ) (at count : ℕ)
+    → (length (filled_in octet image (at, count)) ≡ length image)
+    × ((place : ℕ) → place < length image → (place < at) ⊎ (at + count ≤ place) → get_or (filled_in octet image (at, count)) place 0 ≡ get_or image place 0)
+fills octet image at count = (long, stays)
+  where
+    size : ℕ
+    size = min count (length image - at)
+
+    middle : List ℕ
+    middle = replicate (min count (length image - at)) octet
+
+    flat : filled_in octet image (at, count) ≡ take at image ++ (replicate (min count (length image - at)) octet ++ drop (at + count) image)
+    flat = append_assoc (take at image) (replicate (min count (length image - at)) octet) (drop (at + count) image)
+
+    wide : length (replicate (min count (length image - at)) octet) ≡ min count (length image - at)
+    wide = length-replicate {A = ℕ} (min count (length image - at)) octet
+
+    long : length (filled_in octet image (at, count)) ≡ length image
+    long = ap length flat ∙ omega (
+      arith,
+      length-append (take at image) (replicate (min count (length image - at)) octet ++ drop (at + count) image),
+      length-append (replicate (min count (length image - at)) octet) (drop (at + count) image),
+      wide,
+      length-take at image,
+      length-drop (at + count) image,
+    )
+
+    stays : (place : ℕ) → place < length image → (place < at) ⊎ (at + count ≤ place) → get_or (filled_in octet image (at, count)) place 0 ≡ get_or image place 0
+    stays place lt (inl before) =
+        ap (λ (l : List ℕ). get_or l place 0) flat
+        ∙ get_or_append_left (take at image) (replicate (min count (length image - at)) octet ++ drop (at + count) image) 0 place (omega (arith, length-take at image))
+        ∙ get_or-take at image place 0 before
+    stays place lt (inr behind) =
+        let whole : min count (length image - at) ≡ count = omega arith in
+        let to : at + count + (place - at - count) ≡ place = omega arith in
+        ap (λ (l : List ℕ). get_or l place 0) flat
+        ∙ get_or-append_right (take at image) (replicate (min count (length image - at)) octet ++ drop (at + count) image) at place 0 (length-take-le at image (omega arith)) (omega arith)
+        ∙ get_or-append_right (replicate (min count (length image - at)) octet) (drop (at + count) image) count (place - at) 0 (wide ∙ whole) (omega arith)
+        ∙ get_or-drop (at + count) image (place - at - count) 0
+        ∙ ap (λ (k : ℕ). get_or image k 0) to
+
+fills_all : (octet : ℕ) (ranges : List (ℕ × ℕ)) (image : List ℕ)
+    → (length (filled octet ranges image) ≡ length image)
+    × ((place : ℕ) → place < length image → is_torn place ranges ≡ false → get_or (filled octet ranges image) place 0 ≡ get_or image place 0)
+fills_all octet [] image = (refl, λ place lt out. refl)
+fills_all octet ((at, count) ∷ ranges) image =
+    let before = fills_all octet ranges image in
+    let one = fills octet (filled octet ranges image) at count in
+    (one.0 ∙ before.0, λ place lt out. one.1 place (omega (arith, before.0)) (not_within place at count ranges out) ∙ before.1 place lt (was place (at, count) ranges out))
+
+-- each form of a crash leaves an image
+pub form_image : (form : CrashForm) (s : State) → IsSound s → IsImage s (left_by form s)
+form_image Keep s sound = sound.made
+form_image Lose s sound = synced_image s sound
+form_image (Fill octet) s sound =
+    let all = fills_all octet s.ranges s.made in
+    record {
+      no_shorter = omega (arith, all.0, sound.made.no_shorter);
+      no_longer = omega (arith, all.0, sound.made.no_longer);
+      stays = λ place lt out. all.1 place (omega (arith, sound.made.no_shorter)) out ∙ sound.made.stays place lt out;
+    }

@@ -2,3 +2,4 @@ pub mod Patch
 pub mod Images
 pub mod Elapse
 pub mod Calls
+pub mod Forms

@@ -1,3 +1,5 @@
 pub mod Disk
 pub mod Memory
 pub mod Moments
+pub mod Replay
+pub mod Laws

@@ -1,5 +1,5 @@
 -- The moments of a disk in memory: this one is one of those since an earlier one, and the only one since itself.
-use Rattle.std.specs.Prelude.{◌≡◌, ℕ, ◌≤◌, List, length, take, Some}
+use Rattle.std.specs.Prelude.{◌≡◌, ℕ, ◌≤◌, List, length, take, Option, None, Some}
 use Rattle.std.proofs.Common.{sym, ap, subst, arith}
 use Rattle.std.proofs.lemmas.List.{take_all}
 use Rattle.vf_disk.specs.declared.step.Step.{Step}
@@ -18,3 +18,7 @@ only_memory disk image left =
 -- what a read gives has the length that the disk tells
 pub measured_memory : (disk : Memory) (octets : List ℕ) → Some (state disk).shown ≡ Some octets → length octets ≡ length (state disk).shown
 measured_memory disk octets same = let alike : (state disk).shown ≡ octets = cc in ap length (sym alike)
+
+-- a disk that doesn't tell its octets
+pub measured_none : (octets : List ℕ) (size : ℕ) → None ≡ Some octets → length octets ≡ size
+measured_none octets size none = cc

@@ -1,12 +1,14 @@
 ghost use Rattle.std.specs.Prelude.{◌≡◌, ◌+◌, ◌<◌, ◌≤◌, [], ◌∷◌, ◌++◌, List, ℕ, Some, IfOk, IsErr, OnOk, OnErr, length, true, false};
 ghost use Rattle.vf_base.specs.Faults.{HasRisen, NeverFalls};
 ghost use Rattle.vf_disk.specs.Disk.{greatest_length, Torn, Shortened, Follows, Within, LeavesShown, Gives, Writes, Cuts, length_written, length_cut, Elapses};
-ghost use Rattle.vf_disk.specs.Memory.{IsImage, LeftSince, Memory, state, state_of};
+ghost use Rattle.vf_disk.specs.Memory.{IsImage, LeftSince, Memory, left_by, state, state_of};
 ghost use Rattle.vf_disk.specs.Moments.{measured_memory, counts_memory, only_memory};
 
 use crate::overwrite::overwrite;
 use crate::plan::{Fate, Plan};
-use crate::{Disk, Step};
+use crate::replay::{last_sync, make_all, mark_all, shown_by};
+use crate::step::copy_steps;
+use crate::{CrashForm, Disk, Step};
 use std::alloc::Global;
 use std::marker::Model;
 use vf_base::{Failed, NoMemory, Octets};
@@ -56,6 +58,71 @@ impl MemoryDisk {
         ensures { result ≡ self.now.lacked }
     {
         self.lacked
+    }
+
+    /// What a read gives.
+    pub fn octets(&self) -> &[u8]
+        ensures { result.now ≡ (state self.now).shown }
+    {
+        self.octets.as_slice()
+    }
+
+    /// Lets the `call`-th write, cut or sync from now, and every call after it, fail. A crash may leave that call
+    /// made; those after it leave no trace.
+    pub fn stop(&mut self, call: u32)
+        requires { 0 < call }
+        ensures { self.new ≡ self.old }
+    {
+        self.plan.until_stop = Some(call);
+    }
+
+    /// The disk that a crash leaves, all of it synced and with no failure planned.
+    pub fn crash(self, form: CrashForm) -> Result<MemoryDisk, NoMemory>
+        ensures left { IfOk result (λ disk. disk ≡ record { first = left_by form (state self); steps = []; faults = 0; lacked = false }) }
+        ensures image { IfOk result (λ disk. IsImage (state self) disk.first) }
+    {
+        let image = self.image(form)?;
+        let disk = MemoryDisk::of(self.alloc, &image, Vec::new(self.alloc))?;
+        Ok(disk)
+    }
+
+    /// The image that a crash leaves.
+    fn image(&self, form: CrashForm) -> Result<Vec<u8>, NoMemory>
+        ensures { IfOk result (λ image. image.items ≡ left_by form (state self.now)) }
+    {
+        let steps = self.steps.as_slice();
+        let (front, back) = steps.split_at(last_sync(steps));
+        let mut image = shown_by(self.alloc, self.first.as_slice(), front)?;
+        match form {
+            CrashForm::Keep => {
+                make_all(&mut image, back)?;
+                Ok(image)
+            }
+            CrashForm::Lose => Ok(image),
+            CrashForm::Fill(octet) => {
+                make_all(&mut image, back)?;
+                mark_all(&mut image, octet, back);
+                Ok(image)
+            }
+        }
+    }
+
+    /// A disk that holds the same and has made the same calls; what fails of its calls to come is the same too.
+    pub fn copy(&self, alloc: Global) -> Result<MemoryDisk, NoMemory>
+        ensures { IfOk result (λ disk. disk ≡ self.now) }
+    {
+        let first = self.first.copy(alloc)?;
+        let steps = copy_steps(alloc, self.steps.as_slice())?;
+        let octets = self.octets.as_slice().to_vec(alloc)?;
+        let plan = self.plan.copy(alloc)?;
+        Ok(MemoryDisk {
+            alloc,
+            first,
+            steps,
+            octets,
+            plan,
+            lacked: self.lacked,
+        })
     }
 
     /// Counts a fault for want of memory.

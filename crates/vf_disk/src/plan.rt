@@ -2,7 +2,8 @@
 ghost use Rattle.std.specs.Prelude.{◌≡◌, Some, IfOk, OnOk};
 ghost use Rattle.vf_base.specs.Faults.{HasRisen, counted};
 
-use vf_base::Failed;
+use std::alloc::Global;
+use vf_base::{Failed, NoMemory};
 
 /// How a call goes.
 #[derive(Clone, Copy, Debug, PartialEq, Eq)]
@@ -33,6 +34,19 @@ impl Plan {
             until_stop: None,
             faults: 0,
         }
+    }
+
+    /// An equal plan.
+    pub(crate) fn copy(&self, alloc: Global) -> Result<Plan, NoMemory>
+        ensures { IfOk result (λ plan. plan.faults ≡ self.now.faults) }
+    {
+        let failing = self.failing.as_slice().to_vec(alloc)?;
+        Ok(Plan {
+            failing,
+            calls: self.calls,
+            until_stop: self.until_stop,
+            faults: self.faults,
+        })
     }
 
     /// Counts a call that changes nothing.
