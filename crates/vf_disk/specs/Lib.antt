@@ -3,3 +3,4 @@ pub mod Memory
 pub mod Moments
 pub mod Replay
 pub mod Laws
+pub mod Value
