@@ -1,6 +1,6 @@
 -- A disk in memory (profile): what it held at first and the calls since, from which follows, for each moment, what
 -- a read gives and what a crash may leave.
-use Rattle.std.specs.Prelude.{◌≡◌, ℕ, ◌+◌, ◌-◌, ◌<◌, ◌≤◌, min, max, Bool, true, false, ◌&&◌, nat_le, nat_lt, List, [], ◌∷◌, ◌++◌, length, take, drop, replicate, fold, slice_index, Option, None, Some, if◌then◌else◌}
+use Rattle.std.specs.Prelude.{◌≡◌, ◌⊎◌, ℕ, ◌+◌, ◌-◌, ◌<◌, ◌≤◌, min, max, Bool, true, false, ◌&&◌, nat_le, nat_lt, List, [], ◌∷◌, ◌++◌, length, take, drop, replicate, fold, slice_index, Option, None, Some, if◌then◌else◌}
 use Rattle.std.specs.List.{list_any}
 use Rattle.vf_disk.specs.Disk.{overwritten}
 use Rattle.vf_disk.specs.declared.crash_form.CrashForm.{CrashForm}
@@ -85,8 +85,9 @@ left_by (Fill octet) s = filled octet s.ranges s.made
 pub record Memory : Type 0 where
   pub first : List ℕ
   pub steps : List Step
+  pub until_stop : Option ℕ  -- the number of writes, cuts and syncs up to and with the stopped one, where a stop is planned
   pub faults : ℕ
-  pub lacked : Bool
+  pub lacked : Bool  -- a call found no memory
 
 abbrev pub state : Memory → State
 state disk = state_of disk.first disk.steps
@@ -95,3 +96,20 @@ state disk = state_of disk.first disk.steps
 abbrev pub LeftSince : Memory → ℕ → List ℕ → Type 0
 LeftSince disk moment image =
     (count : ℕ) × (moment ≤ count) × (count ≤ length disk.steps) × IsImage (state_of disk.first (take count disk.steps)) image
+
+abbrev pub counted_down : Option ℕ → Option ℕ
+counted_down None = None
+counted_down (Some left) = Some (left - 1)
+
+-- the call at hand is the stopped one or stands behind it
+abbrev pub is_stopped : Option ℕ → Bool
+is_stopped None = false
+is_stopped (Some left) = nat_le left 1
+
+-- The disk keeps what a call did, also where it failed, but for calls behind a stop and for want of memory. A stop
+-- comes nearer by one, and a call that it reaches fails.
+pub record Keeps (old new : Memory) (more : List Step) (good : Bool) : Type 0 where
+  pub first : new.first ≡ old.first
+  pub steps : (new.steps ≡ old.steps ++ more) ⊎ ((new.steps ≡ old.steps) × ((old.until_stop ≡ Some 0) ⊎ (new.lacked ≡ true)))
+  pub nearer : new.until_stop ≡ counted_down old.until_stop
+  pub stops : is_stopped old.until_stop ≡ true → good ≡ false

@@ -1,7 +1,8 @@
-ghost use Rattle.std.specs.Prelude.{◌≡◌, ◌+◌, ◌<◌, ◌≤◌, [], ◌∷◌, ◌++◌, List, ℕ, Some, IfOk, IsErr, OnOk, OnErr, length, true, false};
+ghost use Rattle.std.specs.Prelude.{◌≡◌, ◌+◌, ◌<◌, ◌≤◌, [], ◌∷◌, ◌++◌, List, ℕ, Some, IfOk, IsErr, OnOk, OnErr, length, None, is_ok, if◌then◌else◌, true, false};
 ghost use Rattle.vf_base.specs.Faults.{HasRisen, NeverFalls};
 ghost use Rattle.vf_disk.specs.Disk.{greatest_length, Torn, Shortened, Follows, Within, LeavesShown, Gives, Writes, Cuts, length_written, length_cut, Elapses};
-ghost use Rattle.vf_disk.specs.Memory.{IsImage, LeftSince, Memory, left_by, state, state_of};
+ghost use Rattle.vf_disk.specs.Memory.{IsImage, Keeps, LeftSince, Memory, left_by, state, state_of};
+ghost use Rattle.vf_disk.specs.declared.step.Step.TheVariants.{Wrote, CutTo, Synced};
 ghost use Rattle.vf_disk.specs.Moments.{measured_memory, counts_memory, only_memory};
 
 use crate::overwrite::overwrite;
@@ -30,7 +31,7 @@ impl Model for MemoryDisk {
 
     ghost Value = { Memory };
 
-    ghost view = { λ disk. record { first = disk.first; steps = disk.steps.items; faults = disk.plan.faults; lacked = disk.lacked } };
+    ghost view = { λ disk. record { first = disk.first; steps = disk.steps.items; until_stop = disk.plan.until_stop; faults = disk.plan.faults; lacked = disk.lacked } };
 
     ghost invariant = { λ disk. disk.octets.items ≡ (state_of disk.first disk.steps.items).shown };
 }
@@ -39,7 +40,7 @@ impl MemoryDisk {
     /// A disk that holds these octets as synced. The calls of `len`, `read`, `write_at`, `cut` and `sync` of the
     /// numbers in `failing`, counted together from 1, fail.
     pub fn of(alloc: Global, octets: &[u8], failing: Vec<u64>) -> Result<MemoryDisk, NoMemory>
-        ensures { IfOk result (λ disk. disk ≡ record { first = octets.now; steps = []; faults = 0; lacked = false }) }
+        ensures { IfOk result (λ disk. disk ≡ record { first = octets.now; steps = []; until_stop = None; faults = 0; lacked = false }) }
     {
         let first = Octets::of(alloc, octets)?;
         let octets = octets.to_vec(alloc)?;
@@ -71,14 +72,14 @@ impl MemoryDisk {
     /// made; those after it leave no trace.
     pub fn stop(&mut self, call: u32)
         requires { 0 < call }
-        ensures { self.new ≡ self.old }
+        ensures { self.new ≡ record self.old { until_stop = Some call } }
     {
         self.plan.until_stop = Some(call);
     }
 
     /// The disk that a crash leaves, all of it synced and with no failure planned.
     pub fn crash(self, form: CrashForm) -> Result<MemoryDisk, NoMemory>
-        ensures left { IfOk result (λ disk. disk ≡ record { first = left_by form (state self); steps = []; faults = 0; lacked = false }) }
+        ensures left { IfOk result (λ disk. disk ≡ record { first = left_by form (state self); steps = []; until_stop = None; faults = 0; lacked = false }) }
         ensures image { IfOk result (λ disk. IsImage (state self) disk.first) }
     {
         let image = self.image(form)?;
@@ -129,6 +130,7 @@ impl MemoryDisk {
     fn lack(&mut self) -> Failed
         ensures first { self.new.first ≡ self.old.first }
         ensures steps { self.new.steps ≡ self.old.steps }
+        ensures stop { self.new.until_stop ≡ self.old.until_stop }
         ensures risen { HasRisen self.old.faults self.new.faults }
         ensures lacked { self.new.lacked ≡ true }
     {
@@ -182,7 +184,18 @@ impl Disk for MemoryDisk {
         Ok(())
     }
 
-    fn write_at(&mut self, at: u64, octets: &[u8]) -> Result<(), Failed> {
+    fn write_at(&mut self, at: u64, octets: &[u8]) -> Result<(), Failed>
+        requires { at ≤ length (state self.old).shown }
+        ensures shown { Writes (Some (state self.old).shown) (Some (state self.new).shown) at octets.now result }
+        ensures size { length (state self.new).shown ≡ length_written (length (state self.old).shown) at (length octets.now) result }
+        ensures crash { Follows (Torn at (length octets.now)) (IsImage (state self.old)) (IsImage (state self.new)) }
+        ensures long { greatest_length < at + length octets.now → IsErr result × (Some (state self.new).shown ≡ Some (state self.old).shown) × Within (IsImage (state self.old)) (IsImage (state self.new)) }
+        ensures time { Elapses (length self.old.steps) (length self.new.steps) (LeftSince self.old) (LeftSince self.new) (IsImage (state self.new)) }
+        ensures ok { OnOk result (self.new.faults ≡ self.old.faults) }
+        ensures falls { NeverFalls self.old.faults self.new.faults }
+        ensures failed { OnErr result (HasRisen self.old.faults self.new.faults) }
+        ensures kept { at + length octets.now ≤ greatest_length → Keeps self.old self.new (Wrote at octets.now (is_ok result) ∷ []) (is_ok result) }
+    {
         let fate = self.plan.changes();
         if fate == Fate::Stopped || octets.len() as u64 > 9_223_372_036_854_775_807 - at {
             return Err(self.plan.fail());
@@ -210,7 +223,17 @@ impl Disk for MemoryDisk {
         Ok(())
     }
 
-    fn cut(&mut self, to: u64) -> Result<(), Failed> {
+    fn cut(&mut self, to: u64) -> Result<(), Failed>
+        requires { to ≤ length (state self.old).shown }
+        ensures shown { Cuts (Some (state self.old).shown) (Some (state self.new).shown) to result }
+        ensures size { length (state self.new).shown ≡ length_cut (length (state self.old).shown) to result }
+        ensures crash { Follows (Shortened to) (IsImage (state self.old)) (IsImage (state self.new)) }
+        ensures time { Elapses (length self.old.steps) (length self.new.steps) (LeftSince self.old) (LeftSince self.new) (IsImage (state self.new)) }
+        ensures ok { OnOk result (self.new.faults ≡ self.old.faults) }
+        ensures falls { NeverFalls self.old.faults self.new.faults }
+        ensures failed { OnErr result (HasRisen self.old.faults self.new.faults) }
+        ensures kept { Keeps self.old self.new (CutTo to (is_ok result) ∷ []) (is_ok result) }
+    {
         let fate = self.plan.changes();
         if fate == Fate::Stopped {
             return Err(self.plan.fail());
@@ -226,7 +249,17 @@ impl Disk for MemoryDisk {
         Ok(())
     }
 
-    fn sync(&mut self) -> Result<(), Failed> {
+    fn sync(&mut self) -> Result<(), Failed>
+        ensures durable { OnOk result (LeavesShown (Some (state self.new).shown) (IsImage (state self.new))) }
+        ensures shown { Some (state self.new).shown ≡ Some (state self.old).shown }
+        ensures size { length (state self.new).shown ≡ length (state self.old).shown }
+        ensures crash { Within (IsImage (state self.old)) (IsImage (state self.new)) }
+        ensures time { Elapses (length self.old.steps) (length self.new.steps) (LeftSince self.old) (LeftSince self.new) (IsImage (state self.new)) }
+        ensures ok { OnOk result (self.new.faults ≡ self.old.faults) }
+        ensures falls { NeverFalls self.old.faults self.new.faults }
+        ensures failed { OnErr result (HasRisen self.old.faults self.new.faults) }
+        ensures kept { Keeps self.old self.new (if is_ok result then Synced ∷ [] else []) (is_ok result) }
+    {
         if self.plan.changes() != Fate::Good {
             return Err(self.plan.fail());
         }

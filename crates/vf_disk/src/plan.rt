@@ -1,5 +1,6 @@
 //! Which calls of a disk in memory fail.
-ghost use Rattle.std.specs.Prelude.{◌≡◌, Some, IfOk, OnOk};
+ghost use Rattle.std.specs.Prelude.{◌≡◌, ◌↔◌, false, None, Some, IfOk};
+ghost use Rattle.vf_disk.specs.Memory.{counted_down, is_stopped};
 ghost use Rattle.vf_base.specs.Faults.{HasRisen, counted};
 
 use std::alloc::Global;
@@ -26,7 +27,8 @@ pub(crate) struct Plan {
 
 impl Plan {
     pub(crate) fn new(failing: Vec<u64>) -> Plan
-        ensures { result.faults ≡ 0 }
+        ensures faults { result.faults ≡ 0 }
+        ensures stop { result.until_stop ≡ None }
     {
         Plan {
             failing,
@@ -38,7 +40,7 @@ impl Plan {
 
     /// An equal plan.
     pub(crate) fn copy(&self, alloc: Global) -> Result<Plan, NoMemory>
-        ensures { IfOk result (λ plan. plan.faults ≡ self.now.faults) }
+        ensures { IfOk result (λ plan. (plan.faults ≡ self.now.faults) × (plan.until_stop ≡ self.now.until_stop)) }
     {
         let failing = self.failing.as_slice().to_vec(alloc)?;
         Ok(Plan {
@@ -51,7 +53,9 @@ impl Plan {
 
     /// Counts a call that changes nothing.
     pub(crate) fn looks(&mut self) -> Fate
-        ensures { self.new.faults ≡ self.old.faults }
+        ensures faults { self.new.faults ≡ self.old.faults }
+        ensures stop { self.new.until_stop ≡ self.old.until_stop }
+        ensures stopped { (result ≡ Fate.Stopped) ↔ (self.old.until_stop ≡ Some 0) }
     {
         self.calls = self.calls.saturating_add(1);
         if self.until_stop == Some(0) {
@@ -66,20 +70,28 @@ impl Plan {
 
     /// Counts a write, a cut or a sync.
     pub(crate) fn changes(&mut self) -> Fate
-        ensures { self.new.faults ≡ self.old.faults }
+        ensures faults { self.new.faults ≡ self.old.faults }
+        ensures nearer { self.new.until_stop ≡ counted_down self.old.until_stop }
+        ensures stopped { (result ≡ Fate.Stopped) ↔ (self.old.until_stop ≡ Some 0) }
+        ensures good { result ≡ Fate.Good → is_stopped self.old.until_stop ≡ false }
     {
         let fate = self.looks();
         match self.until_stop {
             None | Some(0) => fate,
+            Some(1) => {
+                self.until_stop = Some(0);
+                Fate::Fails
+            }
             Some(left) => {
                 self.until_stop = Some(left - 1);
-                if left == 1 { Fate::Fails } else { fate }
+                fate
             }
         }
     }
 
     /// Counts a fault.
     pub(crate) fn fail(&mut self) -> Failed
+        ensures stop { self.new.until_stop ≡ self.old.until_stop }
         ensures count { self.new.faults ≡ counted self.old.faults }
         ensures risen { HasRisen self.old.faults self.new.faults }
     {

@@ -9,7 +9,7 @@ mod two_values;
 #[test]
 fn a_disk_in_memory_gives_what_was_written(rt: HostRuntime) -> Result<(), Fail> {
     let alloc = rt.alloc();
-    let mut disk = MemoryDisk::of(alloc, b"abc", [4].to_vec(alloc)?)?;
+    let mut disk = MemoryDisk::of(alloc, b"abc", [5].to_vec(alloc)?)?;
     assert!(rt; works(&mut disk));
     let mut disk = disk.copy(alloc)?;
     assert!(rt; disk.octets() == b"aXY".as_slice() && !disk.lacked());
