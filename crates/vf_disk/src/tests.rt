@@ -49,3 +49,93 @@ fn works<D: Disk>(disk: &mut D) -> bool {
     let _ = disk.sync();
     octets == *b"YZ" && disk.cut(3).is_ok() && disk.sync().is_ok()
 }
+
+/// A call on a disk in memory.
+#[derive(Clone, Copy)]
+enum Call {
+    Write(u64, &'static [u8]),
+    Cut(u64),
+    Sync,
+}
+
+/// Calls on a disk that holds `abcd`, of which the numbers in `failing` fail and the last is stopped, and what each
+/// form of a crash leaves.
+#[derive(Clone, Copy)]
+struct Case {
+    failing: &'static [u64],
+    calls: &'static [Call],
+    keep: &'static [u8],
+    lose: &'static [u8],
+    fill: &'static [u8],
+}
+
+const PAST_THE_END: Case = Case {
+    failing: &[],
+    calls: &[Call::Write(3, b"XY")],
+    keep: b"abcXY",
+    lose: b"abcd",
+    fill: b"abc..",
+};
+
+const OVERLAPPING: Case = Case {
+    failing: &[],
+    calls: &[Call::Write(0, b"XY"), Call::Write(1, b"Z"), Call::Sync],
+    keep: b"XZcd",
+    lose: b"abcd",
+    fill: b"..cd",
+};
+
+const CUT_AND_WRITTEN: Case = Case {
+    failing: &[],
+    calls: &[Call::Cut(2), Call::Write(2, b"Z")],
+    keep: b"abZ",
+    lose: b"abcd",
+    fill: b"ab.",
+};
+
+const FAILED: Case = Case {
+    failing: &[1, 2],
+    calls: &[Call::Write(3, b"XY"), Call::Sync, Call::Write(0, b"Z")],
+    keep: b"ZbcXY",
+    lose: b"abcd",
+    fill: b".bc..",
+};
+
+const SYNCED: Case = Case {
+    failing: &[],
+    calls: &[Call::Write(0, b"X"), Call::Sync, Call::Cut(1)],
+    keep: b"X",
+    lose: b"Xbcd",
+    fill: b"X",
+};
+
+#[test]
+fn crashes_leave_their_images(rt: HostRuntime) -> Result<(), Fail> {
+    let alloc = rt.alloc();
+    for case in [PAST_THE_END, OVERLAPPING, CUT_AND_WRITTEN, FAILED, SYNCED] {
+        let mut disk = MemoryDisk::of(alloc, b"abcd", case.failing.to_vec(alloc)?)?;
+        run(&mut disk, case.calls);
+        let lost = disk.copy(alloc)?.crash(CrashForm::Lose)?;
+        assert!(rt; lost.octets() == case.lose);
+        let filled = disk.copy(alloc)?.crash(CrashForm::Fill(b'.'))?;
+        assert!(rt; filled.octets() == case.fill);
+        let kept = disk.crash(CrashForm::Keep)?;
+        assert!(rt; kept.octets() == case.keep);
+    }
+    Ok(())
+}
+
+/// Makes the calls, with a stop at the last.
+fn run(disk: &mut MemoryDisk, calls: &[Call]) {
+    for (place, call) in calls.iter().enumerate() {
+        if place + 1 == calls.len() {
+            disk.stop(1);
+        }
+        let length = disk.octets().len() as u64;
+        let _ = match call {
+            Call::Write(at, octets) => disk.write_at((*at).min(length), octets),
+            Call::Cut(to) => disk.cut((*to).min(length)),
+            Call::Sync => disk.sync(),
+        };
+    }
+}
