@@ -1,0 +1,5 @@
+pub mod Patch
+pub mod Images
+pub mod Elapse
+pub mod Calls
+pub mod Forms

@@ -1,0 +1,6 @@
+pub mod Disk
+pub mod Memory
+pub mod Moments
+pub mod Replay
+pub mod Laws
+pub mod Value

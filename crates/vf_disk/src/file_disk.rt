@@ -1,0 +1,174 @@
+//! A disk over a real file: the trusted edge, which tells its length and nothing of content.
+ghost use Rattle.std.specs.Prelude.{None, ◌≡◌, ◌≤◌};
+ghost use Rattle.vf_base.specs.Faults.{HasRisen};
+ghost use Rattle.vf_disk.specs.Disk.{greatest_length};
+ghost use Rattle.vf_disk.specs.Moments.{measured_none};
+
+use crate::Disk;
+use std::os::unix::fs::FileExt;
+use std::{fs, io};
+use vf_base::Failed;
+
+const GREATEST_LENGTH: u64 = 9_223_372_036_854_775_807;
+
+/// A disk over a file that nobody else writes. After a sync that failed each later one fails too, since the system
+/// may have dropped what it could not write.
+#[derive(Drop)]
+pub struct FileDisk {
+    file: fs::File,
+    length: u64,
+    resized: bool,
+    unsure: bool,
+    broken: bool,
+    faults: u64,
+    ghost bound: { length ≤ greatest_length },
+}
+
+impl FileDisk {
+    /// Opens the file, and makes it where it is missing; a file that was made stands in its folder on the disk.
+    pub fn open(rt: &HostRuntime, path: &str) -> io::Result<FileDisk> {
+        let file = open_or_make(rt, path)?;
+        let length = file.metadata()?.len();
+        if length > GREATEST_LENGTH {
+            return Err(io::ErrorKind::InvalidInput.into());
+        }
+        Ok(FileDisk {
+            file,
+            length,
+            resized: true,
+            unsure: false,
+            broken: false,
+            faults: 0,
+        })
+    }
+
+    fn fail(&mut self) -> Failed
+        ensures length { self.new.length ≡ self.old.length }
+        ensures risen { HasRisen self.old.faults self.new.faults }
+    {
+        self.faults = self.faults.saturating_add(1);
+        Failed
+    }
+
+    /// A call failed that may have changed the file's length.
+    fn fail_unsure(&mut self) -> Failed
+        ensures length { self.new.length ≡ self.old.length }
+        ensures risen { HasRisen self.old.faults self.new.faults }
+    {
+        self.resized = true;
+        self.unsure = true;
+        self.fail()
+    }
+
+    /// Gives the file the length that the disk tells, and writes all to the disk.
+    fn flush(&mut self) -> io::Result<()>
+        ensures length { self.new.length ≡ self.old.length }
+        ensures faults { self.new.faults ≡ self.old.faults }
+    {
+        if self.unsure {
+            self.file.set_len(self.length)?;
+            self.unsure = false;
+        }
+        if self.resized {
+            self.file.sync_all()?;
+            self.resized = false;
+        } else {
+            self.file.sync_data()?;
+        }
+        Ok(())
+    }
+}
+
+fn open_or_make(rt: &HostRuntime, path: &str) -> io::Result<fs::File> {
+    match fs::OpenOptions::new()
+        .read(true)
+        .write(true)
+        .create_new(true)
+        .open(rt, path)
+    {
+        Ok(file) => {
+            file.sync_all()?;
+            folder_of(rt, path)?.sync_all()?;
+            Ok(file)
+        }
+        Err(error) if error.kind() == io::ErrorKind::AlreadyExists => {
+            fs::OpenOptions::new().read(true).write(true).open(rt, path)
+        }
+        Err(error) => Err(error),
+    }
+}
+
+fn folder_of(rt: &HostRuntime, path: &str) -> io::Result<fs::File> {
+    match path.rsplit_once('/') {
+        Some(("", _)) => fs::File::open(rt, "/"),
+        Some((folder, _)) => fs::File::open(rt, folder),
+        None => fs::File::open(rt, "."),
+    }
+}
+
+impl Disk for FileDisk {
+    ghost shown = { λ disk. None };
+
+    ghost size = { λ disk. disk.length };
+
+    ghost may_leave = { λ disk image. ⊥ };
+
+    ghost moment = { λ disk. 0 };
+
+    ghost left_since = { λ disk since image. ⊥ };
+
+    ghost fault_count = { λ disk. disk.faults };
+
+    ghost measured = { λ disk octets none. measured_none octets disk.length none };
+
+    ghost counts_now = { λ disk since image le none. none };
+
+    ghost only_now = { λ disk image none. none };
+
+    fn len(&mut self) -> Result<u64, Failed> {
+        Ok(self.length)
+    }
+
+    fn read(&mut self, at: u64, into: &mut [u8]) -> Result<(), Failed> {
+        if self.file.read_exact_at(into, at).is_err() {
+            return Err(self.fail());
+        }
+        Ok(())
+    }
+
+    fn write_at(&mut self, at: u64, octets: &[u8]) -> Result<(), Failed> {
+        let count = octets.len() as u64;
+        if count > GREATEST_LENGTH - at {
+            return Err(self.fail());
+        }
+        if self.file.write_all_at(octets, at).is_err() {
+            return Err(self.fail_unsure());
+        }
+        if at + count > self.length {
+            self.length = at + count;
+            self.resized = true;
+        }
+        Ok(())
+    }
+
+    fn cut(&mut self, to: u64) -> Result<(), Failed> {
+        if self.file.set_len(to).is_err() {
+            return Err(self.fail_unsure());
+        }
+        self.length = to;
+        self.resized = true;
+        Ok(())
+    }
+
+    fn sync(&mut self) -> Result<(), Failed> {
+        if self.broken || self.flush().is_err() {
+            self.broken = true;
+            return Err(self.fail());
+        }
+        Ok(())
+    }
+
+    fn faults(&self) -> u64 {
+        self.faults
+    }
+}

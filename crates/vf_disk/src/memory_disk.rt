@@ -1,0 +1,275 @@
+ghost use Rattle.std.specs.Prelude.{◌≡◌, ◌+◌, ◌<◌, ◌≤◌, [], ◌∷◌, ◌++◌, List, ℕ, Some, IfOk, IsErr, OnOk, OnErr, length, None, is_ok, if◌then◌else◌, true, false};
+ghost use Rattle.vf_base.specs.Faults.{HasRisen, NeverFalls};
+ghost use Rattle.vf_disk.specs.Disk.{greatest_length, Torn, Shortened, Follows, Within, LeavesShown, Gives, Writes, Cuts, length_written, length_cut, Elapses};
+ghost use Rattle.vf_disk.specs.Memory.{IsImage, Keeps, LeftSince, Memory, left_by, state, state_of};
+ghost use Rattle.vf_disk.specs.declared.step.Step.TheVariants.{Wrote, CutTo, Synced};
+ghost use Rattle.vf_disk.specs.Moments.{measured_memory, counts_memory, only_memory};
+
+use crate::overwrite::overwrite;
+use crate::plan::{Fate, Plan};
+use crate::replay::{last_sync, make_all, mark_all, shown_by};
+use crate::step::copy_steps;
+use crate::{CrashForm, Disk, Step};
+use std::alloc::Global;
+use std::marker::Model;
+use vf_base::{Failed, NoMemory, Octets};
+
+/// A disk in memory, which keeps its calls. Calls fail by a plan, or for want of memory.
+#[derive(Drop)]
+pub struct MemoryDisk {
+    alloc: Global,
+    first: Octets,
+    steps: Vec<Step>,
+    octets: Vec<u8>,
+    plan: Plan,
+    lacked: bool,
+}
+
+impl Model for MemoryDisk {
+    ghost use Rattle.std.specs.Prelude.{◌≡◌};
+    ghost use Rattle.vf_disk.specs.Memory.{Memory, state_of};
+
+    ghost Value = { Memory };
+
+    ghost view = { λ disk. record { first = disk.first; steps = disk.steps.items; until_stop = disk.plan.until_stop; faults = disk.plan.faults; lacked = disk.lacked } };
+
+    ghost invariant = { λ disk. disk.octets.items ≡ (state_of disk.first disk.steps.items).shown };
+}
+
+impl MemoryDisk {
+    /// A disk that holds these octets as synced. The calls of `len`, `read`, `write_at`, `cut` and `sync` of the
+    /// numbers in `failing`, counted together from 1, fail.
+    pub fn of(alloc: Global, octets: &[u8], failing: Vec<u64>) -> Result<MemoryDisk, NoMemory>
+        ensures { IfOk result (λ disk. disk ≡ record { first = octets.now; steps = []; until_stop = None; faults = 0; lacked = false }) }
+    {
+        let first = Octets::of(alloc, octets)?;
+        let octets = octets.to_vec(alloc)?;
+        Ok(MemoryDisk {
+            alloc,
+            first,
+            steps: Vec::new(alloc),
+            octets,
+            plan: Plan::new(failing),
+            lacked: false,
+        })
+    }
+
+    /// A call failed because it found no memory. It failed as any other does.
+    pub fn lacked(&self) -> bool
+        ensures { result ≡ self.now.lacked }
+    {
+        self.lacked
+    }
+
+    /// What a read gives.
+    pub fn octets(&self) -> &[u8]
+        ensures { result.now ≡ (state self.now).shown }
+    {
+        self.octets.as_slice()
+    }
+
+    /// Lets the `call`-th write, cut or sync from now, and every call after it, fail. A crash may leave that call
+    /// made; those after it leave no trace.
+    pub fn stop(&mut self, call: u32)
+        requires { 0 < call }
+        ensures { self.new ≡ record self.old { until_stop = Some call } }
+    {
+        self.plan.until_stop = Some(call);
+    }
+
+    /// The disk that a crash leaves, all of it synced and with no failure planned.
+    pub fn crash(self, form: CrashForm) -> Result<MemoryDisk, NoMemory>
+        ensures left { IfOk result (λ disk. disk ≡ record { first = left_by form (state self); steps = []; until_stop = None; faults = 0; lacked = false }) }
+        ensures image { IfOk result (λ disk. IsImage (state self) disk.first) }
+    {
+        let image = self.image(form)?;
+        let disk = MemoryDisk::of(self.alloc, &image, Vec::new(self.alloc))?;
+        Ok(disk)
+    }
+
+    /// The image that a crash leaves.
+    fn image(&self, form: CrashForm) -> Result<Vec<u8>, NoMemory>
+        ensures { IfOk result (λ image. image.items ≡ left_by form (state self.now)) }
+    {
+        let steps = self.steps.as_slice();
+        let (front, back) = steps.split_at(last_sync(steps));
+        let mut image = shown_by(self.alloc, self.first.as_slice(), front)?;
+        match form {
+            CrashForm::Keep => {
+                make_all(&mut image, back)?;
+                Ok(image)
+            }
+            CrashForm::Lose => Ok(image),
+            CrashForm::Fill(octet) => {
+                make_all(&mut image, back)?;
+                mark_all(&mut image, octet, back);
+                Ok(image)
+            }
+        }
+    }
+
+    /// A disk that holds the same and has made the same calls; what fails of its calls to come is the same too.
+    pub fn copy(&self, alloc: Global) -> Result<MemoryDisk, NoMemory>
+        ensures { IfOk result (λ disk. disk ≡ self.now) }
+    {
+        let first = self.first.copy(alloc)?;
+        let steps = copy_steps(alloc, self.steps.as_slice())?;
+        let octets = self.octets.as_slice().to_vec(alloc)?;
+        let plan = self.plan.copy(alloc)?;
+        Ok(MemoryDisk {
+            alloc,
+            first,
+            steps,
+            octets,
+            plan,
+            lacked: self.lacked,
+        })
+    }
+
+    /// Counts a fault for want of memory.
+    fn lack(&mut self) -> Failed
+        ensures first { self.new.first ≡ self.old.first }
+        ensures steps { self.new.steps ≡ self.old.steps }
+        ensures stop { self.new.until_stop ≡ self.old.until_stop }
+        ensures risen { HasRisen self.old.faults self.new.faults }
+        ensures lacked { self.new.lacked ≡ true }
+    {
+        self.lacked = true;
+        self.plan.fail()
+    }
+}
+
+/// Puts a call behind the others; without memory they stay as they are.
+fn keep(steps: &mut Vec<Step>, step: Step) -> Result<(), NoMemory>
+    ensures ok { OnOk result (steps.new.items ≡ steps.old.items ++ step ∷ []) }
+    ensures err { OnErr result (steps.new.items ≡ steps.old.items) }
+{
+    steps.push(step)?;
+    Ok(())
+}
+
+impl Disk for MemoryDisk {
+    ghost shown = { λ disk. Some (state disk).shown };
+
+    ghost size = { λ disk. length (state disk).shown };
+
+    ghost may_leave = { λ disk. IsImage (state disk) };
+
+    ghost moment = { λ disk. length disk.steps };
+
+    ghost left_since = { LeftSince };
+
+    ghost fault_count = { λ disk. disk.faults };
+
+    ghost measured = { measured_memory };
+
+    ghost counts_now = { counts_memory };
+
+    ghost only_now = { only_memory };
+
+    fn len(&mut self) -> Result<u64, Failed> {
+        match self.plan.looks() {
+            Fate::Good => Ok(self.octets.len() as u64),
+            Fate::Fails | Fate::Stopped => Err(self.plan.fail()),
+        }
+    }
+
+    fn read(&mut self, at: u64, into: &mut [u8]) -> Result<(), Failed> {
+        if self.plan.looks() != Fate::Good {
+            return Err(self.plan.fail());
+        }
+        let at = at as usize;
+        let count = into.len();
+        into.copy_from_slice(&self.octets[at..at + count]);
+        Ok(())
+    }
+
+    fn write_at(&mut self, at: u64, octets: &[u8]) -> Result<(), Failed>
+        requires { at ≤ length (state self.old).shown }
+        ensures shown { Writes (Some (state self.old).shown) (Some (state self.new).shown) at octets.now result }
+        ensures size { length (state self.new).shown ≡ length_written (length (state self.old).shown) at (length octets.now) result }
+        ensures crash { Follows (Torn at (length octets.now)) (IsImage (state self.old)) (IsImage (state self.new)) }
+        ensures long { greatest_length < at + length octets.now → IsErr result × (Some (state self.new).shown ≡ Some (state self.old).shown) × Within (IsImage (state self.old)) (IsImage (state self.new)) }
+        ensures time { Elapses (length self.old.steps) (length self.new.steps) (LeftSince self.old) (LeftSince self.new) (IsImage (state self.new)) }
+        ensures ok { OnOk result (self.new.faults ≡ self.old.faults) }
+        ensures falls { NeverFalls self.old.faults self.new.faults }
+        ensures failed { OnErr result (HasRisen self.old.faults self.new.faults) }
+        ensures kept { at + length octets.now ≤ greatest_length → Keeps self.old self.new (Wrote at octets.now (is_ok result) ∷ []) (is_ok result) }
+    {
+        let fate = self.plan.changes();
+        if fate == Fate::Stopped || octets.len() as u64 > 9_223_372_036_854_775_807 - at {
+            return Err(self.plan.fail());
+        }
+        let good = fate == Fate::Good;
+        let Ok(kept) = Octets::of(self.alloc, octets) else {
+            return Err(self.lack());
+        };
+        let before = self.steps.len();
+        let step = Step::Wrote {
+            at,
+            octets: kept,
+            good,
+        };
+        let Ok(()) = keep(&mut self.steps, step) else {
+            return Err(self.lack());
+        };
+        if !good {
+            return Err(self.plan.fail());
+        }
+        if overwrite(&mut self.octets, at as usize, octets).is_err() {
+            self.steps.truncate(before);
+            return Err(self.lack());
+        }
+        Ok(())
+    }
+
+    fn cut(&mut self, to: u64) -> Result<(), Failed>
+        requires { to ≤ length (state self.old).shown }
+        ensures shown { Cuts (Some (state self.old).shown) (Some (state self.new).shown) to result }
+        ensures size { length (state self.new).shown ≡ length_cut (length (state self.old).shown) to result }
+        ensures crash { Follows (Shortened to) (IsImage (state self.old)) (IsImage (state self.new)) }
+        ensures time { Elapses (length self.old.steps) (length self.new.steps) (LeftSince self.old) (LeftSince self.new) (IsImage (state self.new)) }
+        ensures ok { OnOk result (self.new.faults ≡ self.old.faults) }
+        ensures falls { NeverFalls self.old.faults self.new.faults }
+        ensures failed { OnErr result (HasRisen self.old.faults self.new.faults) }
+        ensures kept { Keeps self.old self.new (CutTo to (is_ok result) ∷ []) (is_ok result) }
+    {
+        let fate = self.plan.changes();
+        if fate == Fate::Stopped {
+            return Err(self.plan.fail());
+        }
+        let good = fate == Fate::Good;
+        let Ok(()) = keep(&mut self.steps, Step::CutTo { length: to, good }) else {
+            return Err(self.lack());
+        };
+        if !good {
+            return Err(self.plan.fail());
+        }
+        self.octets.truncate(to as usize);
+        Ok(())
+    }
+
+    fn sync(&mut self) -> Result<(), Failed>
+        ensures durable { OnOk result (LeavesShown (Some (state self.new).shown) (IsImage (state self.new))) }
+        ensures shown { Some (state self.new).shown ≡ Some (state self.old).shown }
+        ensures size { length (state self.new).shown ≡ length (state self.old).shown }
+        ensures crash { Within (IsImage (state self.old)) (IsImage (state self.new)) }
+        ensures time { Elapses (length self.old.steps) (length self.new.steps) (LeftSince self.old) (LeftSince self.new) (IsImage (state self.new)) }
+        ensures ok { OnOk result (self.new.faults ≡ self.old.faults) }
+        ensures falls { NeverFalls self.old.faults self.new.faults }
+        ensures failed { OnErr result (HasRisen self.old.faults self.new.faults) }
+        ensures kept { Keeps self.old self.new (if is_ok result then Synced ∷ [] else []) (is_ok result) }
+    {
+        if self.plan.changes() != Fate::Good {
+            return Err(self.plan.fail());
+        }
+        let Ok(()) = keep(&mut self.steps, Step::Synced) else {
+            return Err(self.lack());
+        };
+        Ok(())
+    }
+
+    fn faults(&self) -> u64 {
+        self.plan.faults
+    }
+}
