@@ -6,5 +6,6 @@ pub mod Memory
 pub mod Moment
 pub mod Name
 pub mod Oid
+pub mod Plans
 pub mod Script
 pub mod Streams

@@ -2,23 +2,27 @@
 use Rattle.std.specs.Prelude.{◌≡◌, ℕ, Bool, false, List, ◌∷◌, map, reverse}
 use Rattle.vf_base.specs.Dial.{Call, Talk, Hears, OnNewest, says}
 use Rattle.vf_base.specs.Faults.{counted}
+use Rattle.vf_base.specs.Plans.{FailurePlan}
 
--- a source: the octets that are left, and the number of calls that failed
+-- a source: the octets that are left, the calls that are to fail, and the number of those that failed
 pub record Slice : Type 0 where
   pub left : List ℕ
+  pub plan : FailurePlan
   pub faults : ℕ
 
--- a sink: the octets that were taken, and the number of calls that failed
+-- a sink: the octets that were taken, the calls that are to fail, and the number of those that failed
 pub record Taken : Type 0 where
   pub octets : List ℕ
+  pub plan : FailurePlan
   pub faults : ℕ
 
--- a dial: what it tells, whether a connection stands, the number of those that were lost or not had, and the
--- number of calls that failed
+-- a dial: what it tells, whether a connection stands, the number of those that were lost or not had, the calls
+-- that are to fail, and the number of those that failed
 pub record Dialled : Type 0 where
   pub talk : Talk
   pub stands : Bool
   pub lost : ℕ
+  pub plan : FailurePlan
   pub faults : ℕ
 
 -- a dial behind a call that failed, or behind the end of a stream

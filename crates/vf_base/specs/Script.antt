@@ -2,6 +2,7 @@
 use Rattle.std.specs.Prelude.{◌≡◌, ℕ, Bool, true, false, nat_eq, List, [], map, if◌then◌else◌}
 use Rattle.std.specs.List.{flat_map, IsDistinct}
 use Rattle.vf_base.specs.Links.{Story, has_arrived, has_note}
+use Rattle.vf_base.specs.Plans.{FailurePlan}
 use Rattle.vf_base.specs.declared.events.ScriptEvent.{ScriptEvent}
 use Rattle.vf_base.specs.declared.events.ScriptEvent.TheVariants as script
 use Rattle.vf_base.specs.declared.events.Piece.{Piece}
@@ -17,6 +18,8 @@ pub record Script : Type 0 where
   pub shut : List (ℕ × ℕ)
   pub failed : List (ℕ × ℕ)
   pub last : ℕ
+  pub plan : FailurePlan
+  pub send_plan : FailurePlan
   pub faults : ℕ
   pub send_faults : ℕ
 

@@ -1,6 +1,7 @@
-ghost use Rattle.std.specs.Prelude.{◌≡◌, ◌<◌, ◌≤◌, ℕ, Bool, true, false, is_ok, Option, length, IfOk, OnOk, OnErr, if◌then◌else◌};
+ghost use Rattle.std.specs.Prelude.{◌≡◌, ◌<◌, ◌≤◌, ℕ, Bool, true, false, is_ok, is_err, Option, length, IfOk, OnOk, OnErr, if◌then◌else◌};
 ghost use Rattle.vf_base.specs.Faults.{HasRisen, NeverFalls, counted};
 ghost use Rattle.vf_base.specs.Dial.{Talk, Connects, Says, Reads, goes_on};
+ghost use Rattle.vf_base.specs.Plans.{FailurePlan, FailsAsPlanned, FailsWherePlanned};
 
 use crate::Failed;
 
@@ -18,9 +19,13 @@ pub trait Dial {
     /// The number of calls that failed.
     ghost fault_count: { Self → ℕ };
 
+    /// The calls of `connect`, `read` and `send` that are to fail, where the dial tells them.
+    ghost plan: { Self → Option FailurePlan };
+
     fn connect(&mut self) -> Result<(), Failed>
         requires { stands self.old ≡ false }
         ensures talk { Connects (told self.old) (told self.new) result }
+        ensures plan { FailsWherePlanned (plan self.old) (plan self.new) (is_err result) }
         ensures stands { stands self.new ≡ is_ok result }
         ensures lost { lost_count self.new ≡ (if is_ok result then lost_count self.old else counted (lost_count self.old)) }
         ensures ok { OnOk result (fault_count self.new ≡ fault_count self.old) }
@@ -33,6 +38,7 @@ pub trait Dial {
         requires room { 0 < length into.old }
         ensures within { IfOk result (λ count. count ≤ length into.new) }
         ensures talk { Reads (told self.old) (told self.new) into.new result }
+        ensures plan { FailsAsPlanned (plan self.old) (plan self.new) (is_err result) }
         ensures stands { stands self.new ≡ goes_on result }
         ensures lost { lost_count self.new ≡ (if goes_on result then lost_count self.old else counted (lost_count self.old)) }
         ensures ok { OnOk result (fault_count self.new ≡ fault_count self.old) }
@@ -43,6 +49,7 @@ pub trait Dial {
     fn send(&mut self, octets: &[u8]) -> Result<(), Failed>
         requires { stands self.old ≡ true }
         ensures talk { Says (told self.old) (told self.new) octets.now result }
+        ensures plan { FailsWherePlanned (plan self.old) (plan self.new) (is_err result) }
         ensures stands { stands self.new ≡ is_ok result }
         ensures lost { lost_count self.new ≡ (if is_ok result then lost_count self.old else counted (lost_count self.old)) }
         ensures ok { OnOk result (fault_count self.new ≡ fault_count self.old) }
@@ -52,6 +59,7 @@ pub trait Dial {
     /// Ends the connection, where one stands.
     fn close(&mut self)
         ensures talk { told self.new ≡ told self.old }
+        ensures plan { plan self.new ≡ plan self.old }
         ensures stands { stands self.new ≡ false }
         ensures lost { lost_count self.new ≡ lost_count self.old }
         ensures count { fault_count self.new ≡ fault_count self.old };

@@ -1,6 +1,7 @@
-ghost use Rattle.std.specs.Prelude.{◌≡◌, ℕ, Bool, Option, OnOk, OnErr};
+ghost use Rattle.std.specs.Prelude.{◌≡◌, ℕ, Bool, Option, is_err, OnOk, OnErr};
 ghost use Rattle.vf_base.specs.Faults.{HasRisen, NeverFalls};
 ghost use Rattle.vf_base.specs.Links.{Story, Nexts, Fills, Rises, Turns, Counts, Sends, Shuts};
+ghost use Rattle.vf_base.specs.Plans.{FailurePlan, FailsAsPlanned, FailsWherePlanned, has_failed};
 
 use crate::{Failed, LinkEvent, LinkFault};
 use std::alloc::Global;
@@ -25,10 +26,18 @@ pub trait Links {
     /// The number of sends that failed.
     ghost send_fault_count: { Self → ℕ };
 
+    /// The calls of `next` that are to fail, where the object tells them.
+    ghost plan: { Self → Option FailurePlan };
+
+    /// The calls of `send` that are to fail, where the object tells them.
+    ghost send_plan: { Self → Option FailurePlan };
+
     /// The next event. `piece` is cleared, and filled with the octets that came.
     fn next(&mut self, alloc: Global, piece: &mut Vec<u8>) -> Result<LinkEvent, LinkFault>
         ensures piece { Fills piece.new.items result }
         ensures story { Nexts (told self.old) (told self.new) piece.new.items result }
+        ensures plan { FailsAsPlanned (plan self.old) (plan self.new) (has_failed result) }
+        ensures send_plan { send_plan self.new ≡ send_plan self.old }
         ensures link { Rises (last_link self.old) (last_link self.new) result }
         ensures turns { Turns (turns self.old) (turns self.new) (through self.new) result }
         ensures count { Counts (fault_count self.old) (fault_count self.new) result }
@@ -38,6 +47,8 @@ pub trait Links {
     /// Sends octets on a link: all of them, or a front of them where it fails.
     fn send(&mut self, link: u32, octets: &[u8]) -> Result<(), Failed>
         ensures story { Sends (told self.old) (told self.new) link octets.now result }
+        ensures plan { plan self.new ≡ plan self.old }
+        ensures send_plan { FailsWherePlanned (send_plan self.old) (send_plan self.new) (is_err result) }
         ensures link { last_link self.new ≡ last_link self.old }
         ensures turns { turns self.new ≡ turns self.old }
         ensures through { through self.new ≡ through self.old }
@@ -49,6 +60,8 @@ pub trait Links {
     /// Ends a link.
     fn shut(&mut self, link: u32)
         ensures story { Shuts (told self.old) (told self.new) link }
+        ensures plan { plan self.new ≡ plan self.old }
+        ensures send_plan { send_plan self.new ≡ send_plan self.old }
         ensures link { last_link self.new ≡ last_link self.old }
         ensures turns { turns self.new ≡ turns self.old }
         ensures through { through self.new ≡ through self.old }

@@ -1,7 +1,7 @@
 //! A source and a sink in memory, with planned failures.
 ghost use Rattle.std.specs.Prelude.{◌≡◌, [], Some};
 
-use crate::plan::Plan;
+use crate::plan::{Plan, fail};
 use crate::{Failed, Sink, Source};
 use std::alloc::Global;
 use std::marker::Model;
@@ -11,6 +11,7 @@ use std::marker::Model;
 pub struct SliceSource<'a> {
     octets: &'a [u8],
     plan: Plan,
+    faults: u64,
 }
 
 impl<'a> Model for SliceSource<'a> {
@@ -18,17 +19,17 @@ impl<'a> Model for SliceSource<'a> {
 
     ghost Value = { Slice };
 
-    ghost view = { λ source. record { left = source.octets.now; faults = source.plan.faults } };
+    ghost view = { λ source. record { left = source.octets.now; plan = source.plan; faults = source.faults } };
 }
 
 impl<'a> SliceSource<'a> {
     pub fn new(octets: &'a [u8], failing: Vec<u64>) -> SliceSource<'a>
-        ensures octets { result.left ≡ octets.now }
-        ensures faults { result.faults ≡ 0 }
+        ensures { result ≡ record { left = octets.now; plan = record { failing = failing.items; calls = 0 }; faults = 0 } }
     {
         SliceSource {
             octets,
             plan: Plan::new(failing),
+            faults: 0,
         }
     }
 }
@@ -38,9 +39,11 @@ impl<'a> Source for SliceSource<'a> {
 
     ghost fault_count = { λ source. source.faults };
 
+    ghost plan = { λ source. Some source.plan };
+
     fn read(&mut self, into: &mut [u8]) -> Result<usize, Failed> {
         if self.plan.fails() {
-            return Err(self.plan.fail());
+            return Err(fail(&mut self.faults));
         }
         let count = into.len().min(self.octets.len());
         let (front, rest) = self.octets.split_at(count);
@@ -50,7 +53,7 @@ impl<'a> Source for SliceSource<'a> {
     }
 
     fn faults(&self) -> u64 {
-        self.plan.faults
+        self.faults
     }
 }
 
@@ -59,6 +62,7 @@ impl<'a> Source for SliceSource<'a> {
 pub struct VecSink {
     octets: Vec<u8>,
     plan: Plan,
+    faults: u64,
 }
 
 impl Model for VecSink {
@@ -66,17 +70,17 @@ impl Model for VecSink {
 
     ghost Value = { Taken };
 
-    ghost view = { λ sink. record { octets = sink.octets.items; faults = sink.plan.faults } };
+    ghost view = { λ sink. record { octets = sink.octets.items; plan = sink.plan; faults = sink.faults } };
 }
 
 impl VecSink {
     pub fn new(alloc: Global, failing: Vec<u64>) -> VecSink
-        ensures octets { result.octets ≡ [] }
-        ensures faults { result.faults ≡ 0 }
+        ensures { result ≡ record { octets = []; plan = record { failing = failing.items; calls = 0 }; faults = 0 } }
     {
         VecSink {
             octets: Vec::new(alloc),
             plan: Plan::new(failing),
+            faults: 0,
         }
     }
 
@@ -93,19 +97,21 @@ impl Sink for VecSink {
 
     ghost fault_count = { λ sink. sink.faults };
 
+    ghost plan = { λ sink. Some sink.plan };
+
     fn write(&mut self, octets: &[u8]) -> Result<(), Failed> {
         if self.plan.fails() {
             let (front, _) = octets.split_at(octets.len() / 2);
             let _ = self.octets.extend_from_slice(front);
-            return Err(self.plan.fail());
+            return Err(fail(&mut self.faults));
         }
         if self.octets.extend_from_slice(octets).is_err() {
-            return Err(self.plan.fail());
+            return Err(fail(&mut self.faults));
         }
         Ok(())
     }
 
     fn faults(&self) -> u64 {
-        self.plan.faults
+        self.faults
     }
 }

@@ -3,7 +3,7 @@ ghost use Rattle.vf_base.specs.Dial.{Hears, says, after_connect, next_of};
 ghost use Rattle.vf_base.specs.Memory.{Said, Heard, after_loss, said};
 ghost use Rattle.vf_base.specs.Faults.{HasRisen, counted};
 
-use crate::plan::Plan;
+use crate::plan::{Plan, fail};
 use crate::{Dial, Failed, NoMemory, Octets};
 use std::alloc::Global;
 use std::marker::Model;
@@ -86,6 +86,7 @@ pub struct ScriptDial {
     stands: bool,
     lost: u64,
     plan: Plan,
+    faults: u64,
 }
 
 impl Model for ScriptDial {
@@ -98,7 +99,8 @@ impl Model for ScriptDial {
       talk = record { calls = option_to_list dial.last ++ reverse dial.earlier.items; coming = reverse dial.coming.items };
       stands = dial.stands;
       lost = dial.lost;
-      faults = dial.plan.faults;
+      plan = dial.plan;
+      faults = dial.faults;
     } };
 
     ghost invariant = { λ dial. dial.stands ≡ true → is_some dial.last ≡ true };
@@ -110,7 +112,7 @@ impl ScriptDial {
         mut heard: Vec<Octets>,
         failing: Vec<u64>,
     ) -> Result<ScriptDial, NoMemory>
-        ensures { IfOk result (λ dial. dial ≡ record { talk = record { calls = []; coming = heard.items }; stands = false; lost = 0; faults = 0 }) }
+        ensures { IfOk result (λ dial. dial ≡ record { talk = record { calls = []; coming = heard.items }; stands = false; lost = 0; plan = record { failing = failing.items; calls = 0 }; faults = 0 }) }
     {
         heard.reverse();
         Ok(ScriptDial {
@@ -121,6 +123,7 @@ impl ScriptDial {
             stands: false,
             lost: 0,
             plan: Plan::new(failing),
+            faults: 0,
         })
     }
 
@@ -186,7 +189,7 @@ impl ScriptDial {
     {
         self.stands = false;
         self.lost = self.lost.saturating_add(1);
-        self.plan.fail()
+        fail(&mut self.faults)
     }
 }
 
@@ -198,6 +201,8 @@ impl Dial for ScriptDial {
     ghost lost_count = { λ dial. dial.lost };
 
     ghost fault_count = { λ dial. dial.faults };
+
+    ghost plan = { λ dial. Some dial.plan };
 
     fn connect(&mut self) -> Result<(), Failed> {
         if self.plan.fails() || self.begin().is_err() {
@@ -238,7 +243,7 @@ impl Dial for ScriptDial {
     }
 
     fn faults(&self) -> u64 {
-        self.plan.faults
+        self.faults
     }
 }
 

@@ -4,7 +4,7 @@ ghost use Rattle.vf_base.specs.Faults.{HasRisen};
 ghost use Rattle.vf_base.specs.Links.{after_octets, after_fault, noted, is_script, arrives as arrives_test, has_arrived as arrived_test, has_note as note_test};
 ghost use Rattle.vf_base.specs.Script.{OnceEach, story_of, is_arrival as arrival_test};
 
-use crate::plan::Plan;
+use crate::plan::{Plan, fail};
 use crate::{Failed, LinkEvent, LinkFault, Links, NoMemory, Octets, Piece, ScriptEvent};
 use std::alloc::Global;
 use std::marker::Model;
@@ -20,8 +20,10 @@ pub struct ScriptLinks {
     shut: Vec<(u32, u64)>,
     failed: Vec<(u32, u64)>,
     last: u32,
-    next_plan: Plan,
+    plan: Plan,
     send_plan: Plan,
+    faults: u64,
+    send_faults: u64,
 }
 
 impl Model for ScriptLinks {
@@ -39,8 +41,10 @@ impl Model for ScriptLinks {
       shut = links.shut.items;
       failed = links.failed.items;
       last = links.last;
-      faults = links.next_plan.faults;
-      send_faults = links.send_plan.faults;
+      plan = links.plan;
+      send_plan = links.send_plan;
+      faults = links.faults;
+      send_faults = links.send_faults;
     } };
 
     ghost invariant = { λ links. record {
@@ -63,7 +67,7 @@ impl ScriptLinks {
         failing_send: Vec<u64>,
     ) -> Result<ScriptLinks, NoMemory>
         requires { IsTrue (is_script 0 events.items) }
-        ensures { IfOk result (λ links. links ≡ record { events = []; left = events.items; pieces = []; shut = []; failed = []; last = 0; faults = 0; send_faults = 0 }) }
+        ensures { IfOk result (λ links. links ≡ record { events = []; left = events.items; pieces = []; shut = []; failed = []; last = 0; plan = record { failing = failing_next.items; calls = 0 }; send_plan = record { failing = failing_send.items; calls = 0 }; faults = 0; send_faults = 0 }) }
     {
         let arriving = arriving(events.as_slice());
         let shut = Vec::with_capacity(alloc, arriving)?;
@@ -76,8 +80,10 @@ impl ScriptLinks {
             shut,
             failed,
             last: 0,
-            next_plan: Plan::new(failing_next),
+            plan: Plan::new(failing_next),
             send_plan: Plan::new(failing_send),
+            faults: 0,
+            send_faults: 0,
         })
     }
 
@@ -107,6 +113,8 @@ impl ScriptLinks {
         ensures ok { OnOk result (story_of self.new ≡ after_octets link octets.now (story_of self.old)) }
         ensures err { OnErr result (story_of self.new ≡ story_of self.old) }
         ensures last { self.new.last ≡ self.old.last }
+        ensures plan { self.new.plan ≡ self.old.plan }
+        ensures send_plan { self.new.send_plan ≡ self.old.send_plan }
         ensures faults { self.new.faults ≡ self.old.faults }
         ensures send_faults { self.new.send_faults ≡ self.old.send_faults }
     {
@@ -119,12 +127,14 @@ impl ScriptLinks {
     fn fail(&mut self, link: u32) -> Failed
         ensures story { story_of self.new ≡ after_fault link (story_of self.old) }
         ensures last { self.new.last ≡ self.old.last }
+        ensures plan { self.new.plan ≡ self.old.plan }
+        ensures send_plan { self.new.send_plan ≡ self.old.send_plan }
         ensures faults { self.new.faults ≡ self.old.faults }
         ensures risen { HasRisen self.old.send_faults self.new.send_faults }
     {
         let (events, _) = self.events.as_slice().split_at(self.place);
         note(&mut self.failed, events, link);
-        self.send_plan.fail()
+        fail(&mut self.send_faults)
     }
 }
 
@@ -191,10 +201,14 @@ impl Links for ScriptLinks {
 
     ghost send_fault_count = { λ links. links.send_faults };
 
+    ghost plan = { λ links. Some links.plan };
+
+    ghost send_plan = { λ links. Some links.send_plan };
+
     fn next(&mut self, _alloc: Global, piece: &mut Vec<u8>) -> Result<LinkEvent, LinkFault> {
         piece.clear();
-        if self.next_plan.fails() {
-            let _ = self.next_plan.fail();
+        if self.plan.fails() {
+            let _ = fail(&mut self.faults);
             return Err(LinkFault::Failed);
         }
         let Some(event) = self.events.get(self.place) else {
@@ -248,11 +262,11 @@ impl Links for ScriptLinks {
     }
 
     fn send_faults(&self) -> u64 {
-        self.send_plan.faults
+        self.send_faults
     }
 
     fn faults(&self) -> u64 {
-        self.next_plan.faults
+        self.faults
     }
 }
 
