@@ -300,6 +300,8 @@ mod tests {
 
         ghost fault_count = { λ source. 0 };
 
+        ghost plan = { λ source. None };
+
         fn read(&mut self, into: &mut [u8]) -> Result<usize, Failed> {
             let count = into.len().min(self.end - self.place);
             for place in 0..count {

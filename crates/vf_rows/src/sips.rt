@@ -14,6 +14,8 @@ impl<'a> Source for Sips<'a> {
 
     ghost fault_count = { λ source. source.octets.faults };
 
+    ghost plan = { λ source. None };
+
     fn read(&mut self, into: &mut [u8]) -> Result<usize, Failed> {
         let most = into.len().min(16);
         self.octets.read(&mut into[..most])
