@@ -1,4 +1,4 @@
-ghost use Rattle.std.specs.Prelude.{◌≡◌, ◌↔◌, IfOk, IsErrOf, nat_eq};
+ghost use Rattle.std.specs.Prelude.{◌≡◌, ◌↔◌, ◌⊎◌, IfOk, IfErr, IsErrOf, nat_eq};
 ghost use Rattle.std.specs.List.{list_all};
 ghost use Rattle.std.specs.Hash as fed;
 ghost use Rattle.std.specs.Cmp.Lexicographic.{pointwise, nat_list_eq_equiv};
@@ -35,7 +35,7 @@ impl Name {
         ensures value { IfOk result (λ name. name ≡ octets.now) }
         ensures within { IfOk result (λ name. IsName name) }
         ensures bad { IsErrOf result BaseError.BadName ↔ (IsName octets.now → ⊥) }
-        ensures others { IsErrOf result BaseError.BadOid → ⊥ }
+        ensures others { IfErr result (λ error. (error ≡ BaseError.BadName) ⊎ (error ≡ BaseError.NoMemory)) }
     {
         if !is_name(octets) {
             return Err(BaseError::BadName);

@@ -1,4 +1,4 @@
-ghost use Rattle.std.specs.Prelude.{◌≡◌, ◌↔◌, IfOk, IsErrOf};
+ghost use Rattle.std.specs.Prelude.{◌≡◌, ◌↔◌, ◌⊎◌, IfOk, IfErr, IsErrOf};
 ghost use Rattle.std.specs.List.{list_all};
 ghost use Rattle.vf_base.specs.Oid.{IsOid, is_arc, is_oid as oid_test, is_root};
 
@@ -31,7 +31,7 @@ impl Oid {
         ensures value { IfOk result (λ oid. oid ≡ arcs.now) }
         ensures within { IfOk result (λ oid. IsOid oid) }
         ensures bad { IsErrOf result BaseError.BadOid ↔ (IsOid arcs.now → ⊥) }
-        ensures others { IsErrOf result BaseError.BadName → ⊥ }
+        ensures others { IfErr result (λ error. (error ≡ BaseError.BadOid) ⊎ (error ≡ BaseError.NoMemory)) }
     {
         if !is_oid(arcs) {
             return Err(BaseError::BadOid);
