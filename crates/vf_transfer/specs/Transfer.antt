@@ -1,0 +1,60 @@
+-- A transfer as what happened in it, the latest first (ISO 8571-3, checkpointing and restart), and what of it stands.
+-- Its checks count on from a point: the start of the values, which is 0, or the check at which it was recovered.
+use Rattle.std.specs.Prelude.{ℕ, ◌+◌, ◌-◌, min, max, List, [], ◌∷◌, ◌++◌, length, take}
+use Rattle.vf_base.specs.declared.element.Element.{Element}
+
+pub data Entry : Type 0 where
+  Value : Element → Entry
+  Check : Entry
+  -- of a check, and so of each one before it
+  Acknowledgement : ℕ → Entry
+  -- at a check, or at the point from which the checks count
+  Restart : ℕ → Entry
+
+-- The values that stand: for each check that stands those between the one before and it, and those behind the last.
+pub record Standing : Type 0 where
+  pub closed : List (List Element)
+  pub behind : List Element
+
+-- A restart takes away the values and the checks behind its check.
+abbrev pub standing : ℕ → List Entry → Standing
+standing start [] = record { closed = []; behind = [] }
+standing start (Value element ∷ earlier) =
+    let before = standing start earlier in record before { behind = before.behind ++ element ∷ [] }
+standing start (Check ∷ earlier) =
+    let before = standing start earlier in record { closed = before.closed ++ before.behind ∷ []; behind = [] }
+standing start (Acknowledgement check ∷ earlier) = standing start earlier
+standing start (Restart check ∷ earlier) = record { closed = take (check - start) (standing start earlier).closed; behind = [] }
+
+abbrev pub joined : List (List Element) → List Element
+joined [] = []
+joined (values ∷ others) = values ++ joined others
+
+-- the values that stand, in order
+abbrev pub survivors : ℕ → List Entry → List Element
+survivors start entries = let left = standing start entries in joined left.closed ++ left.behind
+
+-- the number of the last check that stands
+abbrev pub last_check : ℕ → List Entry → ℕ
+last_check start entries = start + length (standing start entries).closed
+
+-- The last check that stands and is acknowledged. A restart takes away what was acknowledged of checks behind its own.
+abbrev pub point : ℕ → List Entry → ℕ
+point start [] = start
+point start (Value element ∷ earlier) = point start earlier
+point start (Check ∷ earlier) = point start earlier
+point start (Acknowledgement check ∷ earlier) = max check (point start earlier)
+point start (Restart check ∷ earlier) = min check (point start earlier)
+
+-- the values that stand before that check
+abbrev pub front : ℕ → List Entry → List Element
+front start entries = joined (take (point start entries - start) (standing start entries).closed)
+
+-- how many of so many values and those of these checks stand before each check
+abbrev pub counts_from : ℕ → List (List Element) → List ℕ
+counts_from before [] = []
+counts_from before (values ∷ closed) = (before + length values) ∷ counts_from (before + length values) closed
+
+-- for each check that stands, how many of the values that stand are before it
+abbrev pub marks : ℕ → List Entry → List ℕ
+marks start entries = counts_from 0 (standing start entries).closed

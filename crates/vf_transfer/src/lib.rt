@@ -1,0 +1,16 @@
+//! Both ends of a transfer (ISO 8571-3): values, checkpoints, acknowledgements and restarts.
+#![tactic(auto)]
+
+mod checks;
+mod errors;
+mod laws;
+mod receiving;
+mod sending;
+
+pub use errors::{TransferError, Unknown};
+pub use laws::next_joins;
+pub use receiving::Receiving;
+pub use sending::Sending;
+
+#[cfg(test)]
+mod tests;
