@@ -1,11 +1,11 @@
 -- What the ends keep, as entries join the transfer.
-use Rattle.std.proofs.Common.{◌≡◌, ℕ, suc, ◌+◌, ◌-◌, ◌≤◌, Bool, true, false, ◌||◌, nat_lt, min, List, [], ◌∷◌, ◌++◌, length, take, Some, slice_get, refl, sym, ap, ◌∙◌, arith, add-one}
+use Rattle.std.proofs.Common.{◌≡◌, ℕ, ◌+◌, ◌-◌, ◌≤◌, false, ◌||◌, nat_lt, min, List, [], ◌∷◌, ◌++◌, length, take, Some, slice_get, refl, sym, ap, ◌∙◌, arith, add-one}
 use Rattle.std.proofs.lemmas.List.{append_assoc, append-nil, length-take-le}
 use Rattle.std.proofs.lemmas.Bool.{lt-ltb}
 use Rattle.std.proofs.lemmas.Option.{get_or_from_slice_get, slice_get_within}
 use Rattle.std.proofs.Math.Seq.{take-suc}
 use Rattle.vf_base.specs.declared.element.Element.{Element}
-use Rattle.vf_transfer.specs.Transfer.{Entry, Value, Check, Restart, standing, survivors, marks, joined, counts_from, front}
+use Rattle.vf_transfer.specs.Transfer.{Entry, Value, Check, Restart, standing, survivors, joined, counts_from, front}
 use Rattle.vf_transfer.specs.Checks.{Checkpoints, Receiver, Sender, RepresentChecks, RepresentsReceived, RepresentsSent, before_check, cut_to, is_unknown, mark, offered, advanced}
 use Rattle.vf_transfer.proofs.Cuts.{joined_append, length_counts, counts_append, take_counts, mark_there, cut_there, take_least}
 

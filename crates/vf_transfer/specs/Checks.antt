@@ -1,5 +1,5 @@
 -- What the two ends of a transfer keep, and which transfers that represents.
-use Rattle.std.specs.Prelude.{◌≡◌, ℕ, zero, suc, ◌+◌, ◌-◌, ◌≤◌, ◌<◌, Bool, ◌||◌, nat_lt, nat_le, min, List, take, length, if◌then◌else◌}
+use Rattle.std.specs.Prelude.{◌≡◌, ℕ, zero, suc, ◌+◌, ◌-◌, Bool, ◌||◌, nat_lt, nat_le, min, List, take, length, if◌then◌else◌}
 use Rattle.std.specs.List.{slice_index}
 use Rattle.vf_base.specs.declared.element.Element.{Element}
 use Rattle.vf_transfer.specs.Transfer.{Entry, survivors, marks, point}

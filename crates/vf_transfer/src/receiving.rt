@@ -51,6 +51,7 @@ impl Receiving {
     pub fn offer(&mut self) -> Result<u32, TransferError>
         requires { offered self.old.checks < 4294967295 }
         ensures number { IfOk result (λ number. number ≡ offered self.old.checks + 1) }
+        ensures more { OnOk result (offered self.new.checks ≡ offered self.old.checks + 1) }
         ensures ok { OnOk result ((entries : List Entry) → RepresentsReceived self.old entries → RepresentsReceived self.new (Check ∷ entries)) }
         ensures window { (result ≡ Err TransferError.Window) ↔ (is_full self.old.checks ≡ true) }
         ensures serials { result ≡ Err TransferError.SerialsSpent → ⊥ }
@@ -67,6 +68,7 @@ impl Receiving {
     /// at which the transfer began.
     pub fn acknowledge(&mut self, point: u32) -> Result<(), Unknown>
         ensures ok { OnOk result ((entries : List Entry) → RepresentsReceived self.old entries → RepresentsReceived self.new (Acknowledgement point ∷ entries)) }
+        ensures same { offered self.new.checks ≡ offered self.old.checks }
         ensures unknown { is_err result ≡ is_unknown point self.old.checks }
         ensures err { OnErr result (self.new ≡ self.old) }
     {
@@ -78,6 +80,7 @@ impl Receiving {
     /// `acknowledge`.
     pub fn restart(&mut self, point: u32) -> Result<(), Unknown>
         ensures ok { OnOk result ((entries : List Entry) → RepresentsReceived self.old entries → RepresentsReceived self.new (Restart point ∷ entries)) }
+        ensures back { OnOk result (offered self.new.checks ≡ point) }
         ensures unknown { is_err result ≡ is_unknown point self.old.checks }
         ensures err { OnErr result (self.new ≡ self.old) }
     {

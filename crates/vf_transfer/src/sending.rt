@@ -66,6 +66,7 @@ impl Sending {
     pub fn offer(&mut self, next_serial: u32) -> Result<u32, TransferError>
         requires { offered self.old.checks < 4294967295 }
         ensures number { IfOk result (λ number. number ≡ offered self.old.checks + 1) }
+        ensures more { OnOk result (offered self.new.checks ≡ offered self.old.checks + 1) }
         ensures ok { OnOk result ((entries : List Entry) → RepresentsSent self.old entries → RepresentsSent self.new (Check ∷ entries)) }
         ensures window { (result ≡ Err TransferError.Window) ↔ (is_full self.old.checks ≡ true) }
         ensures serials { (result ≡ Err TransferError.SerialsSpent) ↔ ((is_full self.old.checks ≡ false) × (next_serial ≡ 1000000)) }
@@ -86,6 +87,7 @@ impl Sending {
     /// below the point at which the transfer began.
     pub fn acknowledge(&mut self, point: u32) -> Result<(), Unknown>
         ensures ok { OnOk result ((entries : List Entry) → RepresentsSent self.old entries → RepresentsSent self.new (Acknowledgement point ∷ entries)) }
+        ensures same { offered self.new.checks ≡ offered self.old.checks }
         ensures unknown { is_err result ≡ is_unknown point self.old.checks }
         ensures elements { self.new.elements ≡ self.old.elements }
         ensures err { OnErr result (self.new ≡ self.old) }
@@ -97,6 +99,7 @@ impl Sending {
     /// Goes back to this check: the values behind it are sent again. `Unknown` as in `acknowledge`.
     pub fn restart(&mut self, point: u32) -> Result<(), Unknown>
         ensures ok { OnOk result ((entries : List Entry) → RepresentsSent self.old entries → RepresentsSent self.new (Restart point ∷ entries)) }
+        ensures back { OnOk result (offered self.new.checks ≡ point) }
         ensures unknown { is_err result ≡ is_unknown point self.old.checks }
         ensures elements { self.new.elements ≡ self.old.elements }
         ensures err { OnErr result (self.new ≡ self.old) }

@@ -1,3 +1,6 @@
+ghost use Rattle.std.specs.Prelude.{◌<◌, ◌≤◌, ◌+◌};
+ghost use Rattle.vf_transfer.specs.Checks.{offered};
+
 use crate::*;
 use std::alloc::Global;
 use std::test::Fail;
@@ -30,7 +33,10 @@ fn are_strings(elements: &[Element], octets: &[u8]) -> bool {
 }
 
 /// Takes these strings and then a check.
-fn takes(receiving: &mut Receiving, alloc: Global, octets: &[u8]) -> Result<u32, TransferError> {
+fn takes(receiving: &mut Receiving, alloc: Global, octets: &[u8]) -> Result<u32, TransferError>
+    requires { offered receiving.old.checks < 9 }
+    ensures { offered receiving.new.checks ≤ offered receiving.old.checks + 1 }
+{
     for octet in octets {
         receiving.value(string(alloc, *octet)?)?;
     }
