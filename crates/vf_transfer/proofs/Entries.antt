@@ -5,7 +5,7 @@ use Rattle.std.proofs.lemmas.Bool.{lt-ltb}
 use Rattle.std.proofs.lemmas.Option.{get_or_from_slice_get, slice_get_within}
 use Rattle.std.proofs.Math.Seq.{take-suc}
 use Rattle.vf_base.specs.declared.element.Element.{Element}
-use Rattle.vf_transfer.specs.Transfer.{Entry, Value, Check, Restart, standing, survivors, joined, counts_from, front}
+use Rattle.vf_transfer.specs.Transfer.{Entry, Value, Check, Restart, standing, survivors, joined, counts_from, front, last_check}
 use Rattle.vf_transfer.specs.Checks.{Checkpoints, Receiver, Sender, RepresentChecks, RepresentsReceived, RepresentsSent, before_check, cut_to, is_unknown, mark, offered, advanced}
 use Rattle.vf_transfer.proofs.Cuts.{joined_append, length_counts, counts_append, take_counts, mark_there, cut_there, take_least}
 
@@ -86,3 +86,7 @@ sends_next sender element entries next same =
       checks = record { marked = same.checks.marked; acknowledged = same.checks.acknowledged };
       values = more ∙ ap (λ values. values ++ element ∷ []) same.values ∙ append_assoc (joined left.closed) left.behind (element ∷ []);
     })
+
+pub offers_last : (checks : Checkpoints) (entries : List Entry) → RepresentChecks checks entries → offered checks ≡ last_check checks.start entries
+offers_last checks entries same =
+    ap (λ n. checks.start + n) (ap (λ (marks : List ℕ). length marks) same.marked ∙ length_counts 0 (standing checks.start entries).closed)

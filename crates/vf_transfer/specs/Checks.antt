@@ -37,6 +37,10 @@ abbrev pub cut_to : ℕ → Checkpoints → Checkpoints
 cut_to check checks =
     record checks { marks = take (check - checks.start) checks.marks; acknowledged = min check checks.acknowledged }
 
+-- what they count on from, and how many may be open, stay
+abbrev pub KeepLimits : Checkpoints → Checkpoints → Type 0
+KeepLimits old new = (new.start ≡ old.start) × (new.window ≡ old.window)
+
 pub record RepresentChecks (checks : Checkpoints) (entries : List Entry) : Type 0 where
   pub marked : checks.marks ≡ marks checks.start entries
   pub acknowledged : checks.acknowledged ≡ point checks.start entries

@@ -1,5 +1,6 @@
 -- A transfer as what happened in it, the latest first (ISO 8571-3, checkpointing and restart), and what of it stands.
--- Its checks count on from a point: the start of the values, which is 0, or the check at which it was recovered.
+-- Its checks count on from a point: the start of the values, which is 0, or the check at which it was recovered. An
+-- entry is what was answered, so that an acknowledgement or a restart is of a check that stands, or of the point.
 use Rattle.std.specs.Prelude.{ℕ, ◌+◌, ◌-◌, min, max, List, [], ◌∷◌, ◌++◌, length, take}
 use Rattle.vf_base.specs.declared.element.Element.{Element}
 

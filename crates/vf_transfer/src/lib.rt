@@ -8,7 +8,7 @@ mod receiving;
 mod sending;
 
 pub use errors::{TransferError, Unknown};
-pub use laws::next_joins;
+pub use laws::{last_is_offered, next_joins};
 pub use receiving::Receiving;
 pub use sending::Sending;
 

@@ -1,5 +1,5 @@
 ghost use Rattle.std.specs.Prelude.{◌≡◌, ◌<◌, ◌+◌, ◌∷◌, [], List, length, is_err, IfOk, OnOk, OnErr, Err, ◌↔◌, true};
-ghost use Rattle.vf_transfer.specs.Checks.{RepresentsReceived, is_full, is_unknown, offered};
+ghost use Rattle.vf_transfer.specs.Checks.{KeepLimits, RepresentsReceived, is_full, is_unknown, offered};
 ghost use Rattle.vf_transfer.specs.Transfer.{Acknowledgement, Check, Entry, Restart, Value, front, marks as marks_of, survivors};
 
 use crate::checks::Checks;
@@ -55,6 +55,7 @@ impl Receiving {
         ensures ok { OnOk result ((entries : List Entry) → RepresentsReceived self.old entries → RepresentsReceived self.new (Check ∷ entries)) }
         ensures window { (result ≡ Err TransferError.Window) ↔ (is_full self.old.checks ≡ true) }
         ensures serials { result ≡ Err TransferError.SerialsSpent → ⊥ }
+        ensures limits { KeepLimits self.old.checks self.new.checks }
         ensures err { OnErr result (self.new ≡ self.old) }
     {
         if self.checks.is_full() {
@@ -70,6 +71,7 @@ impl Receiving {
         ensures ok { OnOk result ((entries : List Entry) → RepresentsReceived self.old entries → RepresentsReceived self.new (Acknowledgement point ∷ entries)) }
         ensures same { offered self.new.checks ≡ offered self.old.checks }
         ensures unknown { is_err result ≡ is_unknown point self.old.checks }
+        ensures limits { KeepLimits self.old.checks self.new.checks }
         ensures err { OnErr result (self.new ≡ self.old) }
     {
         self.checks.acknowledge(point)?;
@@ -82,6 +84,7 @@ impl Receiving {
         ensures ok { OnOk result ((entries : List Entry) → RepresentsReceived self.old entries → RepresentsReceived self.new (Restart point ∷ entries)) }
         ensures back { OnOk result (offered self.new.checks ≡ point) }
         ensures unknown { is_err result ≡ is_unknown point self.old.checks }
+        ensures limits { KeepLimits self.old.checks self.new.checks }
         ensures err { OnErr result (self.new ≡ self.old) }
     {
         let values = self.checks.restart(point)?;

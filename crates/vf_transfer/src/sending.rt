@@ -1,5 +1,5 @@
 ghost use Rattle.std.specs.Prelude.{◌≡◌, ◌<◌, ◌≤◌, ◌+◌, ◌∷◌, [], List, is_err, IfOk, OnOk, OnErr, Err, ◌↔◌, true, false, slice_get, option_copied};
-ghost use Rattle.vf_transfer.specs.Checks.{RepresentsSent, is_full, is_unknown, offered};
+ghost use Rattle.vf_transfer.specs.Checks.{KeepLimits, RepresentsSent, is_full, is_unknown, offered};
 ghost use Rattle.vf_transfer.specs.Transfer.{Acknowledgement, Check, Entry, Restart};
 
 use crate::checks::Checks;
@@ -71,6 +71,7 @@ impl Sending {
         ensures window { (result ≡ Err TransferError.Window) ↔ (is_full self.old.checks ≡ true) }
         ensures serials { (result ≡ Err TransferError.SerialsSpent) ↔ ((is_full self.old.checks ≡ false) × (next_serial ≡ 1000000)) }
         ensures elements { self.new.elements ≡ self.old.elements }
+        ensures limits { KeepLimits self.old.checks self.new.checks }
         ensures err { OnErr result (self.new ≡ self.old) }
     {
         if self.checks.is_full() {
@@ -90,6 +91,7 @@ impl Sending {
         ensures same { offered self.new.checks ≡ offered self.old.checks }
         ensures unknown { is_err result ≡ is_unknown point self.old.checks }
         ensures elements { self.new.elements ≡ self.old.elements }
+        ensures limits { KeepLimits self.old.checks self.new.checks }
         ensures err { OnErr result (self.new ≡ self.old) }
     {
         self.checks.acknowledge(point)?;
@@ -102,6 +104,7 @@ impl Sending {
         ensures back { OnOk result (offered self.new.checks ≡ point) }
         ensures unknown { is_err result ≡ is_unknown point self.old.checks }
         ensures elements { self.new.elements ≡ self.old.elements }
+        ensures limits { KeepLimits self.old.checks self.new.checks }
         ensures err { OnErr result (self.new ≡ self.old) }
     {
         let values = self.checks.restart(point)?;
