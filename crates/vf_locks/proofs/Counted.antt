@@ -1,5 +1,5 @@
 -- The numbers of controls, with one holder more or less.
-use Rattle.std.proofs.Common.{◌≡◌, ◌<◌, ◌≤◌, ◌^◌, ℕ, zero, suc, ◌+◌, ◌-◌, Bool, true, false, cond, not, find, is_some, true≢false, List, [], ◌∷◌, length, Option, None, Some, Ok, Err, All, refl, ap, sym, subst, ◌∙◌, slice_get, slice_set, slice_index, slice_index_or, insert, remove, map, count_by, arith}
+use Rattle.std.proofs.Common.{◌≡◌, ◌<◌, ◌≤◌, ℕ, ◌+◌, Bool, true, false, cond, not, find, is_some, true≢false, List, [], ◌∷◌, length, Option, None, Some, Ok, Err, All, refl, ap, sym, subst, ◌∙◌, slice_get, slice_set, slice_index_or, insert, remove, map, arith}
 use Rattle.std.proofs.lemmas.List.Sums.{count_by-le-length}
 use Rattle.std.proofs.lemmas.List.Elements.{All-cons, All-nil}
 use Rattle.std.proofs.lemmas.List.Edits.{length-remove}

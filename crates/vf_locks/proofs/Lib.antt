@@ -4,3 +4,5 @@ mod Counted
 mod Searched
 mod Unshown
 mod Forgotten
+mod Entries
+mod Told

@@ -1,21 +1,21 @@
 -- Lists of holders in order: where a holder stands, and what one more or less does.
-use Rattle.std.proofs.Common.{◌≡◌, ◌≤◌, ◌<◌, ℕ, zero, suc, ◌+◌, Bool, true, false, cond, ◌&&◌, not, List, [], ◌∷◌, length, Option, None, Some, Ok, Err, Result, refl, ap, sym, subst, ◌∙◌, true≢false, is_ok, slice_get, slice_index_or, slice_set, insert, remove, filter, find, count_by, arith}
+use Rattle.std.proofs.Common.{◌≡◌, ◌≤◌, ◌<◌, ℕ, suc, ◌+◌, Bool, true, false, cond, ◌&&◌, not, List, [], ◌∷◌, length, Option, None, Some, Ok, Err, Result, refl, ap, sym, subst, ◌∙◌, true≢false, is_ok, slice_index_or, slice_set, insert, remove, filter, find, count_by, arith}
 use Rattle.std.specs.Cmp.{first_so, second_so}
 use Rattle.std.proofs.lemmas.List.Sums.{sum_by-cons}
 use Rattle.std.specs.List.{list_all}
-use Rattle.std.specs.Option.{option_map}
+use Rattle.std.specs.Option.{option_map, option_map_or}
 use Rattle.std.specs.Result.{result_unwrap_or}
-use Rattle.std.specs.Ordering.{is_eq, is_lt, ordering_reverse}
+use Rattle.std.specs.Ordering.{is_eq, is_lt}
 use Rattle.std.specs.declared.cmp.Ordering.{Ordering}
 use Rattle.std.specs.declared.cmp.Ordering.TheVariants.{Less, Equal, Greater}
 use Rattle.vf_base.specs.declared.action.Controls.{Controls}
-use Rattle.vf_locks.specs.Holders.{holder_cmp, is_same, stands_before, IsOrdered, others, controls_of, in_order}
-use Rattle.vf_locks.specs.Place.{place_by, place_of, later_place}
+use Rattle.vf_locks.specs.Holders.{holder_cmp, is_same, stands_before, IsOrdered, others, controls_of, in_order, granted, passed}
+use Rattle.vf_locks.specs.Place.{place_by, place_of}
 use Rattle.vf_locks.specs.declared.held.Held.{Held}
 use Rattle.vf_locks.specs.declared.holder.Holder.{Holder}
 use Rattle.vf_locks.proofs.Order.{holder_total, less_from, reversed, same_from_equal}
 
-abbrev before : Holder → Held → Bool
+abbrev pub before : Holder → Held → Bool
 before holder held = stands_before holder held.holder
 
 abbrev differs : Holder → Held → Bool
@@ -30,7 +30,7 @@ others_behind holder (x ∷ xs) all =
     let rest = others_behind holder xs (second_so (before holder x) (list_all (before holder) xs) all) in
     λ i. cond (not (is_eq (behind i))) (x ∷ rest i) (others holder xs)
 
-controls_behind : (holder : Holder) (hs : List Held) → list_all (before holder) hs ≡ true → controls_of holder hs ≡ None
+pub controls_behind : (holder : Holder) (hs : List Held) → list_all (before holder) hs ≡ true → controls_of holder hs ≡ None
 controls_behind holder [] all = refl
 controls_behind holder (x ∷ xs) all =
     let here = less_from (holder_cmp holder x.holder) (first_so (before holder x) (list_all (before holder) xs) all) in
@@ -47,7 +47,7 @@ first_in_order h (x ∷ xs) all =
     λ i. cond (is_lt (behind i)) (x ∷ in_order h xs) (h ∷ x ∷ xs)
 
 -- what stands behind one that stands behind the holder
-all_behind : (holder other : Holder) (hs : List Held) → holder_cmp holder other ≡ Less → list_all (before other) hs ≡ true → list_all (before holder) hs ≡ true
+pub all_behind : (holder other : Holder) (hs : List Held) → holder_cmp holder other ≡ Less → list_all (before other) hs ≡ true → list_all (before holder) hs ≡ true
 all_behind holder other [] ahead all = refl
 all_behind holder other (x ∷ xs) ahead all =
     let here = less_from (holder_cmp other x.holder) (first_so (before other x) (list_all (before other) xs) all) in
@@ -202,6 +202,14 @@ ordered_in_order h (x ∷ xs) ordered differ =
 -- what a grant leaves stands in order
 pub ordered_granted : (h : Held) (hs : List Held) → IsOrdered hs → IsOrdered (in_order h (others h.holder hs))
 ordered_granted h hs ordered = ordered_in_order h (others h.holder hs) (ordered_others h.holder hs ordered) (all_pass (differs h.holder) hs)
+
+-- and so does what a pass leaves
+pub ordered_passed : (from to : Holder) (hs : List Held) → IsOrdered hs → IsOrdered (passed from to hs)
+ordered_passed from to hs ordered = by (controls_of from hs)
+  where
+    by : (controls : Option Controls) → IsOrdered (option_map_or (λ controls. granted to controls (others from hs)) controls hs)
+    by None = ordered
+    by (Some controls) = ordered_granted (record { holder = to; controls = controls }) (others from hs) (ordered_others from hs ordered)
 
 -- one more is counted once, wherever it stands
 pub count_by-in_order : (p : Held → Bool) (h : Held) (hs : List Held) → count_by p (in_order h hs) ≡ count_by p hs + cond (p h) 1 0

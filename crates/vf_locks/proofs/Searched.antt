@@ -1,13 +1,13 @@
 -- What a binary search finds in a list of holders in order.
-use Rattle.std.proofs.Common.{◌≡◌, ◌≤◌, ◌<◌, ℕ, zero, suc, ◌+◌, Bool, true, false, ◌&&◌, List, [], ◌∷◌, length, Ok, Err, Result, HoldsAt, refl, ap, sym, subst, ◌∙◌, true≢false, get_or, arith}
+use Rattle.std.proofs.Common.{◌≡◌, ◌≤◌, ◌<◌, ℕ, zero, suc, Bool, true, List, [], ◌∷◌, length, Ok, Err, Result, HoldsAt, refl, ap, sym, subst, ◌∙◌, get_or, arith}
 use Rattle.std.specs.Cmp.{first_so, second_so}
-use Rattle.std.specs.List.{list_all, AllWithin}
+use Rattle.std.specs.List.{list_all}
 use Rattle.std.specs.List.Sorted.{IsBinarySearchResult, IsNonDecreasingBy, IsPartitionPoint, IsSearchInRange}
-use Rattle.std.specs.Ordering.{is_eq, is_gt, is_lt, ordering_index, ordering_reverse}
+use Rattle.std.specs.Ordering.{ordering_index}
 use Rattle.std.specs.declared.cmp.Ordering.{Ordering}
 use Rattle.std.specs.declared.cmp.Ordering.TheVariants.{Less, Equal, Greater}
 use Rattle.vf_locks.specs.Holders.{holder_cmp, stands_before, IsOrdered}
-use Rattle.vf_locks.specs.Place.{place_by, place_of, later_place}
+use Rattle.vf_locks.specs.Place.{place_by, place_of}
 use Rattle.vf_locks.specs.declared.held.Held.{Held}
 use Rattle.vf_locks.specs.declared.holder.Holder.{Holder}
 use Rattle.vf_locks.proofs.Order.{holder_total, less_from, reversed, same_from_equal}

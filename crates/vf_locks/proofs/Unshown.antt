@@ -1,15 +1,14 @@
 -- Where the numbers show no clash, no holder stands against what is wanted.
-use Rattle.std.proofs.Common.{◌≡◌, ◌≤◌, ◌<◌, ℕ, zero, suc, ◌+◌, Bool, true, false, cond, not, ◌||◌, List, [], ◌∷◌, length, Option, None, Some, refl, ap, sym, subst, ◌∙◌, true≢false, slice_get, slice_index, get_or, count_by, filter, map, is_some, ltb, unwrap_or, option_and_then, arith}
+use Rattle.std.proofs.Common.{◌≡◌, ◌≤◌, ◌<◌, ℕ, zero, suc, ◌+◌, Bool, true, false, cond, not, ◌||◌, List, [], ◌∷◌, length, Option, None, Some, refl, ap, sym, subst, ◌∙◌, true≢false, slice_get, slice_index, get_or, count_by, map, is_some, ltb, unwrap_or, option_and_then, arith}
 use Rattle.std.specs.Option.{option_or}
 use Rattle.std.proofs.lemmas.Bool.{ltb-false}
 use Rattle.std.specs.List.{list_any, position_from, zip}
 use Rattle.std.proofs.lemmas.List.Sums.{sum_by-cons}
-use Rattle.vf_base.specs.declared.action.Action.{Action}
 use Rattle.vf_base.specs.declared.action.Control.{Control}
 use Rattle.vf_base.specs.declared.action.Control.TheVariants.{NotRequired, Shared, Exclusive, NoAccess}
 use Rattle.vf_base.specs.declared.action.Controls.{Controls}
 use Rattle.vf_locks.specs.Clash.{actions, clash, conflict, first_against, lowest_clash, against}
-use Rattle.vf_locks.specs.Counts.{action_numbers, control_number, control_numbers, has_number, how_many, numbers_of}
+use Rattle.vf_locks.specs.Counts.{control_number, control_numbers, has_number, how_many, numbers_of}
 use Rattle.vf_locks.specs.Holders.{is_same, others}
 use Rattle.vf_locks.specs.Shown.{row_shows, shows}
 use Rattle.vf_locks.specs.declared.held.Held.{Held}

@@ -1,5 +1,5 @@
 -- When the controls of two holders clash (ISO 8571-2, concurrency control), and what stands against a request.
-use Rattle.std.specs.Prelude.{ℕ, Bool, true, false, ◌&&◌, ◌||◌, List, [], ◌∷◌, Option, None, Some, slice_get, option_and_then}
+use Rattle.std.specs.Prelude.{Bool, true, false, ◌&&◌, ◌||◌, List, [], ◌∷◌, Option, None, slice_get, option_and_then}
 use Rattle.std.specs.List.{position_from, zip}
 use Rattle.std.specs.Option.{option_map, option_or}
 use Rattle.vf_base.specs.declared.action.Action.{Action}

@@ -1,8 +1,7 @@
 -- How many holders of a file have each control on each action.
-use Rattle.std.specs.Prelude.{ℕ, ◌+◌, ◌-◌, ◌==◌, Bool, false, List, [], ◌∷◌, Option, None, Some, count_by, map, slice_get, slice_index, slice_set}
+use Rattle.std.specs.Prelude.{ℕ, ◌==◌, Bool, false, List, [], ◌∷◌, Option, None, Some, count_by, map, slice_get}
 use Rattle.vf_base.specs.declared.action.Control.{Control}
 use Rattle.vf_base.specs.declared.action.Control.TheVariants.{NotRequired, Shared, Exclusive, NoAccess}
-use Rattle.vf_base.specs.declared.action.Controls.{Controls}
 use Rattle.vf_locks.specs.declared.held.Held.{Held}
 
 -- the numbers of the actions and of the controls (ISO 8571-4)

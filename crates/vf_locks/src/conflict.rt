@@ -33,6 +33,21 @@ pub enum GrantError {
     NoMemory,
 }
 
+impl GrantError {
+    /// The same cause; a name's octets are shared.
+    pub fn copy(&self, alloc: Global) -> Result<GrantError, NoMemory>
+        ensures { IfOk result (λ error. error ≡ self.now) }
+    {
+        match self {
+            GrantError::Clash(conflict) => {
+                let conflict = conflict.copy(alloc)?;
+                Ok(GrantError::Clash(conflict))
+            }
+            GrantError::NoMemory => Ok(GrantError::NoMemory),
+        }
+    }
+}
+
 impl From<NoMemory> for GrantError {
     ghost use Rattle.std.specs.Prelude.{◌≡◌};
     ghost use Rattle.vf_locks.specs.declared.conflict.GrantError.TheVariants as errors;

@@ -1,4 +1,4 @@
-ghost use Rattle.std.specs.Prelude.{◌≡◌, [], IsOk, IsSome, OnOk, OnErr, Ok, Err, None, option_copied};
+ghost use Rattle.std.specs.Prelude.{◌≡◌, [], IfOk, IsOk, IsSome, OnOk, OnErr, Ok, Err, None, option_copied};
 ghost use Rattle.std.specs.Option.{option_map};
 ghost use Rattle.vf_locks.specs.Clash.{conflict};
 ghost use Rattle.vf_locks.specs.Counts.{numbers_of};
@@ -43,6 +43,17 @@ impl FileHolders {
                 numbers: [[0; 4]; 8],
             },
         }
+    }
+
+    /// The same holders with the same numbers.
+    pub fn copy(&self, alloc: Global) -> Result<FileHolders, NoMemory>
+        ensures { IfOk result (λ holders. holders ≡ self.now) }
+    {
+        let standing = copy_all(alloc, self.standing.as_slice())?;
+        Ok(FileHolders {
+            standing,
+            counts: self.counts,
+        })
     }
 
     pub fn counts(&self) -> &HeldCounts
@@ -179,4 +190,15 @@ impl FileHolders {
             numbers: with_one_less(self.counts.numbers, &held.controls),
         };
     }
+}
+
+fn copy_all(alloc: Global, standing: &[Held]) -> Result<Vec<Held>, NoMemory>
+    ensures { IfOk result (λ made. made.items ≡ standing.now) }
+{
+    let mut made = Vec::with_capacity(alloc, standing.len())?;
+    for held in standing {
+        let held = held.copy(alloc)?;
+        made.push(held)?;
+    }
+    Ok(made)
 }

@@ -7,6 +7,7 @@ mod counts;
 mod file_holders;
 mod held;
 mod holder;
+mod laws;
 mod locks;
 mod search;
 #[cfg(test)]
@@ -16,4 +17,5 @@ pub use conflict::{Conflict, GrantError};
 pub use counts::HeldCounts;
 pub use held::Held;
 pub use holder::Holder;
+pub use laws::{stay_ordered, told_by_controls};
 pub use locks::Locks;

@@ -1,13 +1,13 @@
-ghost use Rattle.std.specs.Prelude.{◌≡◌, ◌↔◌, [], None, IfErr, IsOk, IsSome, OnOk, OnErr, List, ℕ, if◌then◌else◌, nat_eq, option_copied};
+ghost use Rattle.std.specs.Prelude.{◌≡◌, ◌↔◌, [], None, IfErr, IfOk, IsOk, IsSome, OnOk, OnErr, List, ℕ, if◌then◌else◌, nat_eq, option_copied};
 ghost use Rattle.std.specs.Cmp.Lexicographic.{pointwise};
 ghost use Rattle.indexmap.specs.IndexMap.{get};
 ghost use Rattle.vf_locks.specs.Clash.{conflict};
-ghost use Rattle.vf_locks.specs.Holders.{controls_of, first_other as other_than, granted, others, passed};
+ghost use Rattle.vf_locks.specs.Holders.{IsOrdered, controls_of, first_other as other_than, granted, others, passed};
 ghost use Rattle.vf_locks.specs.Table.{IsAsBefore, IsCause, IsWith, counts_of, held};
 
 use crate::file_holders::FileHolders;
 use crate::search::first_other;
-use crate::{Conflict, GrantError, HeldCounts, Holder};
+use crate::{Conflict, GrantError, Held, HeldCounts, Holder};
 use indexmap::IndexMap;
 use std::alloc::Global;
 use std::marker::Model;
@@ -36,6 +36,14 @@ impl Locks {
         Locks {
             by_file: IndexMap::new(alloc),
         }
+    }
+
+    /// The same holders of the same files; names' octets are shared.
+    pub fn copy(&self, alloc: Global) -> Result<Locks, NoMemory>
+        ensures { IfOk result (λ locks. locks ≡ self.now) }
+    {
+        let by_file = copy_table(alloc, &self.by_file)?;
+        Ok(Locks { by_file })
     }
 
     /// Whether `grant` would find no clash; memory is taken only to name the holder of one.
@@ -111,6 +119,17 @@ impl Locks {
         first_other(holders.as_slice(), holder)
     }
 
+    /// The holders of the file with their controls: parties by rising link, then dockets by identity and activity.
+    pub fn holders(&self, file: &Name) -> &[Held]
+        ensures holders { result.now ≡ held file.now self.now }
+        ensures ordered { IsOrdered (held file.now self.now) }
+    {
+        match self.by_file.get(file) {
+            Some(holders) => holders.as_slice(),
+            None => &[],
+        }
+    }
+
     /// How many holders of the file have each control on each action; `None` exactly where it has no holder.
     pub fn counts(&self, file: &Name) -> Option<&HeldCounts>
         ensures { option_copied result ≡ counts_of (held file.now self.now) }
@@ -176,6 +195,21 @@ impl Locks {
         self.by_file.insert(name, holders)?;
         Ok(())
     }
+}
+
+fn copy_table(
+    alloc: Global,
+    by_file: &IndexMap<Name, FileHolders>,
+) -> Result<IndexMap<Name, FileHolders>, NoMemory>
+    ensures { IfOk result (λ made. made.entries ≡ by_file.now.entries) }
+{
+    let mut made = IndexMap::with_capacity(alloc, by_file.len())?;
+    for (name, holders) in by_file.iter() {
+        let name = name.copy(alloc)?;
+        let holders = holders.copy(alloc)?;
+        made.insert(name, holders)?;
+    }
+    Ok(made)
 }
 
 fn take_out(by_file: &mut IndexMap<Name, FileHolders>, file: &Name)

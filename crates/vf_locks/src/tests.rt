@@ -53,12 +53,10 @@ fn stands_first(locks: &Locks, alloc: Global, who: (u8, u32)) -> Result<bool, Ba
     let file = Name::of(alloc, b"f")?;
     let first = holder(alloc, who)?;
     let asking = Holder::Party { link: 5 };
-    let Err(GrantError::Clash(conflict)) = locks.allows(
-        alloc,
-        &file,
-        &asking,
-        &controls(SHARED, EXCLUSIVE),
-    ) else {
+    let Err(error) = locks.allows(alloc, &file, &asking, &controls(SHARED, EXCLUSIVE)) else {
+        return Ok(false);
+    };
+    let Ok(GrantError::Clash(conflict)) = error.copy(alloc) else {
         return Ok(false);
     };
     let Some(other) = locks.first_other(&file, &asking) else {
@@ -93,6 +91,19 @@ fn passes(
     }
     locks.pass(&file, &from, to);
     Ok(locks.controls(&file, &from).is_none())
+}
+
+/// A copy of the locks, and whether each holder that it lends of the file is that of the locks, with its controls.
+fn copied(locks: &Locks, alloc: Global) -> Result<(Locks, bool), Fail> {
+    let file = Name::of(alloc, b"f")?;
+    let made = locks.copy(alloc)?;
+    let mut same = true;
+    for (held, other) in locks.holders(&file).iter().zip(made.holders(&file)) {
+        let held = held.copy(alloc)?;
+        same = same && held.holder.is_same(&other.holder) && held.controls == other.controls;
+    }
+    same = same && locks.holders(&file).len() == made.holders(&file).len();
+    Ok((made, same))
 }
 
 /// The numbers of the controls on deletion.
@@ -136,6 +147,8 @@ fn holders_stand_in_their_order(rt: HostRuntime) -> Result<(), Fail> {
     }
     assert!(rt; passes(&mut locks, alloc, (0, 7), (b'c', 1))?);
     assert!(rt; passes(&mut locks, alloc, (b'c', 1), (0, 8))?);
+    let (mut locks, same) = copied(&locks, alloc)?;
+    assert!(rt; same);
     for who in [(0, 3), (0, 8), (b'a', 2), (b'a', 9), (b'b', 1)] {
         assert!(rt; stands_first(&locks, alloc, who)?);
         assert!(rt; releases(&mut locks, alloc, who)?);

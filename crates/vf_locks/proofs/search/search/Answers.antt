@@ -1,4 +1,4 @@
-use Rattle.std.proofs.Common.{◌≡◌, rules, refl}
+use Rattle.std.proofs.Common.{rules}
 use Rattle.std.proofs.lemmas.Fn.{always_returns_same}
 use Rattle.vf_locks.specs.Holders.{holder_cmp}
 use Rattle.vf_locks.specs.declared.held.Held.{Held}

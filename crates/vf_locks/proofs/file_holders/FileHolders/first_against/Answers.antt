@@ -1,4 +1,4 @@
-use Rattle.std.proofs.Common.{◌≡◌, ◌∙◌, ap, sym}
+use Rattle.std.proofs.Common.{◌∙◌, ap, sym}
 use Rattle.vf_locks.proofs.Unshown.{unshown}
 use Rattle.vf_locks.specs.Clash.{conflict}
 use Rattle.vf_locks.proofs.file_holders.FileHolders.first_against.Goals as goal

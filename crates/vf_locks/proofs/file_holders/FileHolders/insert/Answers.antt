@@ -1,6 +1,6 @@
-use Rattle.std.proofs.Common.{◌≡◌, ◌∙◌, ap, sym, subst, arith, Ok, Err, None, refl}
+use Rattle.std.proofs.Common.{◌≡◌, ◌∙◌, ap, sym, subst, arith, Err}
 use Rattle.vf_locks.proofs.Counted.{IsWhole, bounded, inserted_granted, whole_inserted, within_inserted}
-use Rattle.vf_locks.specs.Holders.{granted, others}
+use Rattle.vf_locks.specs.Holders.{granted}
 use Rattle.vf_locks.specs.Place.{place_of}
 use Rattle.vf_locks.specs.declared.held.Held.{Held}
 use Rattle.vf_locks.proofs.file_holders.FileHolders.insert.Goals as goal

@@ -1,7 +1,4 @@
-use Rattle.std.proofs.Common.{◌≡◌, [], ◌∷◌, List, ℕ, sym, subst}
-use Rattle.vf_locks.specs.Counts.{numbers_of}
-use Rattle.vf_locks.specs.Holders.{IsOrdered}
-use Rattle.vf_locks.specs.declared.held.Held.{Held}
+use Rattle.std.proofs.Common.{sym, subst}
 use Rattle.vf_locks.proofs.Counted.{IsWhole, none_whole}
 use Rattle.vf_locks.proofs.file_holders.FileHolders.new.Goals as goal
 

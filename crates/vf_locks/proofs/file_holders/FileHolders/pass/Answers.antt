@@ -1,8 +1,8 @@
-use Rattle.std.proofs.Common.{◌≡◌, ◌∙◌, ◌<◌, ap, sym, subst, arith, Ok, Err, None, is_ok, is_some, true, true≢false, insert, remove, List}
+use Rattle.std.proofs.Common.{◌≡◌, ◌∙◌, ap, sym, subst, arith, Ok, Err, is_some, true≢false, insert, remove}
 use Rattle.std.specs.Prelude.{if◌then◌else◌}
-use Rattle.vf_locks.proofs.Counted.{IsWhole, free_without, inserted_passed, ordered_without, whole_passed, within_removed}
+use Rattle.vf_locks.proofs.Counted.{IsWhole, free_without, inserted_passed, ordered_without, whole_passed}
 use Rattle.vf_locks.proofs.Ordered.{absent_at}
-use Rattle.vf_locks.specs.Holders.{IsOrdered, controls_of, passed}
+use Rattle.vf_locks.specs.Holders.{controls_of, passed}
 use Rattle.vf_locks.specs.Place.{place_of}
 use Rattle.vf_locks.specs.declared.held.Held.{Held}
 use Rattle.vf_locks.proofs.file_holders.FileHolders.pass.Goals as goal

@@ -1,6 +1,6 @@
-use Rattle.std.proofs.Common.{◌≡◌, ◌∙◌, ap, sym, subst, arith, Ok, Err, None, refl}
-use Rattle.vf_locks.proofs.Counted.{IsWhole, bounded, bounded_removed, controls_absent, inserted_granted, others_absent, removed_others, replaced_granted, whole_inserted, whole_removed, whole_replaced, within_inserted, within_removed}
-use Rattle.vf_locks.specs.Holders.{granted, others}
+use Rattle.std.proofs.Common.{◌≡◌, ◌∙◌, ap, arith, Ok}
+use Rattle.vf_locks.proofs.Counted.{bounded_removed, replaced_granted, whole_replaced, within_removed}
+use Rattle.vf_locks.specs.Holders.{granted}
 use Rattle.vf_locks.specs.Place.{place_of}
 use Rattle.vf_locks.proofs.file_holders.FileHolders.replace.Goals as goal
 
