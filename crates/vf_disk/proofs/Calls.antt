@@ -1,5 +1,5 @@
 -- What a crash may leave behind each call of a disk in memory.
-use Rattle.std.proofs.Common.{◌≡◌, ℕ, ◌≤◌, Bool, List, [], ◌∷◌, ◌++◌, length, sym, ◌∙◌, ap, subst, arith, Some}
+use Rattle.std.proofs.Common.{◌≡◌, ℕ, ◌≤◌, Bool, List, [], ◌∷◌, ◌++◌, length, sym, ap, subst, arith, Some}
 use Rattle.vf_disk.specs.Disk.{Torn, Shortened, Follows, Within, LeavesShown}
 use Rattle.vf_disk.specs.declared.step.Step.{Step}
 use Rattle.vf_disk.specs.declared.step.Step.TheVariants.{Wrote, CutTo, Synced}

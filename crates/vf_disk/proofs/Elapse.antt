@@ -1,11 +1,11 @@
 -- How the moments of a disk in memory go on.
-use Rattle.std.proofs.Common.{◌≡◌, ◌⊎◌, inl, inr, ℕ, ◌+◌, ◌<◌, ◌≤◌, List, [], ◌∷◌, ◌++◌, length, take, refl, sym, ◌∙◌, ap, subst, arith, length-append}
+use Rattle.std.proofs.Common.{◌≡◌, inl, inr, ℕ, ◌+◌, ◌≤◌, List, [], ◌∷◌, ◌++◌, length, take, sym, ◌∙◌, ap, subst, arith, length-append}
 use Rattle.std.proofs.lemmas.List.{take_all, take-append-le}
 use Rattle.std.proofs.lemmas.Bool.{cases_lt}
 use Rattle.std.proofs.lemmas.List.Sums.{fold-append}
 use Rattle.vf_disk.specs.Disk.{Elapses}
 use Rattle.vf_disk.specs.declared.step.Step.{Step}
-use Rattle.vf_disk.specs.Memory.{State, IsImage, state_of, after, settled}
+use Rattle.vf_disk.specs.Memory.{IsImage, state_of, after, settled}
 
 abbrev pub Left : List ℕ → List Step → ℕ → List ℕ → Type 0
 Left first steps moment image = (count : ℕ) × (moment ≤ count) × (count ≤ length steps) × IsImage (state_of first (take count steps)) image
@@ -41,3 +41,8 @@ module _ (first : List ℕ) (steps now : List Step) (step : Step) (more : now �
     ];
     stays = λ moment image le left. (left.0, left.1, omega (arith, longer, left.2), subst (λ (s : List Step). IsImage (state_of first s) image) (sym (same_past left.0 left.2)) left.3);
   }
+
+-- the calls without the last one
+pub cut_back : (steps now back : List Step) (step : Step) (count : ℕ) → now ≡ steps ++ step ∷ [] → count ≡ length steps → back ≡ take count now → back ≡ steps
+cut_back steps now back step count more long is =
+    is ∙ ap (λ (l : List Step). take count l) more ∙ take-append-le count steps (step ∷ []) (omega arith) ∙ take_all count steps (omega arith)

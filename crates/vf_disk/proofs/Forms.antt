@@ -1,13 +1,13 @@
 -- The images of the forms of a crash, made from the calls up to the last sync and those behind it.
-use Rattle.std.proofs.Common.{◌≡◌, ℕ, Bool, true, false, ◌&&◌, List, [], ◌∷◌, ◌++◌, length, take, drop, refl, sym, ◌∙◌, ap, subst}
+use Rattle.std.proofs.Common.{◌≡◌, ℕ, true, List, [], ◌∷◌, take, drop, refl, sym, ◌∙◌, ap}
 use Rattle.std.specs.Prelude.{fold}
 use Rattle.std.specs.List.{list_all}
 use Rattle.std.proofs.lemmas.List.{take-append-drop}
 use Rattle.std.proofs.lemmas.List.Sums.{fold-append}
 use Rattle.vf_disk.specs.declared.step.Step.{Step}
 use Rattle.vf_disk.specs.declared.step.Step.TheVariants.{Wrote, CutTo, Synced}
-use Rattle.vf_disk.specs.Memory.{State, settled, after, state_of, filled}
-use Rattle.vf_disk.specs.Replay.{make, mark, is_change}
+use Rattle.vf_disk.specs.Memory.{State, settled, after, state_of, filled, is_change}
+use Rattle.vf_disk.specs.Replay.{make, mark}
 
 made_of : (s : State) (steps : List Step) → list_all is_change steps ≡ true → (fold after s steps).made ≡ fold make s.made steps
 made_of s [] all = refl
@@ -15,7 +15,7 @@ made_of s (Wrote at octets good ∷ steps) all = made_of (after s (Wrote at octe
 made_of s (CutTo to good ∷ steps) all = made_of (after s (CutTo to good)) steps all
 made_of s (Synced ∷ steps) all = cc
 
-synced_of : (s : State) (steps : List Step) → list_all is_change steps ≡ true → (fold after s steps).synced ≡ s.synced
+pub synced_of : (s : State) (steps : List Step) → list_all is_change steps ≡ true → (fold after s steps).synced ≡ s.synced
 synced_of s [] all = refl
 synced_of s (Wrote at octets good ∷ steps) all = synced_of (after s (Wrote at octets good)) steps all
 synced_of s (CutTo to good ∷ steps) all = synced_of (after s (CutTo to good)) steps all
@@ -30,7 +30,7 @@ filled_of octet image s (Synced ∷ steps) all = cc
 
 module _ (first : List ℕ) (steps : List Step) (count : ℕ) (base : List ℕ) (is_base : base ≡ (state_of first (take count steps)).shown)
     (rests : state_of first (take count steps) ≡ settled (state_of first (take count steps)).shown) (changes : list_all is_change (drop count steps) ≡ true) where
-  whole : state_of first steps ≡ fold after (settled base) (drop count steps)
+  pub whole : state_of first steps ≡ fold after (settled base) (drop count steps)
   whole =
       ap (λ (l : List Step). state_of first l) (sym (take-append-drop count steps))
       ∙ fold-append after (settled first) (take count steps) (drop count steps)

@@ -3,3 +3,5 @@ pub mod Images
 pub mod Elapse
 pub mod Calls
 pub mod Forms
+mod Settled
+mod Judged

@@ -1,7 +1,7 @@
 -- What the calls of a disk do to its octets, and what a crash between two syncs may leave of them (profile). What
 -- a crash leaves is an image: the octets that are found at the next start. A disk that can't tell its octets tells
 -- no image either, so that clauses on content and on crashes are empty there.
-use Rattle.std.specs.Prelude.{◌≡◌, ◌⊎◌, ℕ, ◌+◌, ◌-◌, ◌<◌, ◌≤◌, min, max, List, ◌++◌, length, take, drop, replicate, Option, None, Some, Result, Ok, Err}
+use Rattle.std.specs.Prelude.{◌≡◌, ◌⊎◌, ℕ, ◌+◌, ◌≤◌, min, max, List, ◌++◌, length, take, drop, Option, None, Some, Result, Ok, Err}
 use Rattle.vf_base.specs.declared.errors.Failed.{Failed}
 
 -- no disk is longer

@@ -1,5 +1,5 @@
 -- How a run of calls goes on that leaves only certain images.
-use Rattle.std.specs.Prelude.{◌≡◌, ◌⊎◌, ℕ, ◌≤◌, List, Option, Some}
+use Rattle.std.specs.Prelude.{◌≡◌, ℕ, List, Option, Some}
 use Rattle.std.proofs.Common.{inl, inr, ⊎_elim, sym, ◌∙◌, arith}
 use Rattle.vf_disk.specs.Disk.{Elapses, LeavesOnly, LeavesShown}
 

@@ -1,8 +1,9 @@
 -- A disk in memory (profile): what it held at first and the calls since, from which follows, for each moment, what
 -- a read gives and what a crash may leave.
-use Rattle.std.specs.Prelude.{◌≡◌, ◌⊎◌, ℕ, ◌+◌, ◌-◌, ◌<◌, ◌≤◌, min, max, Bool, true, false, ◌&&◌, nat_le, nat_lt, List, [], ◌∷◌, ◌++◌, length, take, drop, replicate, fold, slice_index, Option, None, Some, if◌then◌else◌}
+use Rattle.std.specs.Prelude.{◌≡◌, ◌⊎◌, ℕ, ◌+◌, ◌-◌, ◌<◌, ◌≤◌, min, max, Bool, true, false, not, ◌&&◌, nat_le, nat_lt, List, [], ◌∷◌, ◌++◌, length, take, drop, replicate, fold, slice_index, if◌then◌else◌}
 use Rattle.std.specs.List.{list_any}
 use Rattle.vf_disk.specs.Disk.{overwritten}
+use Rattle.vf_disk.specs.Plans.{StopPlan, change_fails, is_behind, planned}
 use Rattle.vf_disk.specs.declared.crash_form.CrashForm.{CrashForm}
 use Rattle.vf_disk.specs.declared.crash_form.CrashForm.TheVariants.{Keep, Lose, Fill}
 use Rattle.vf_disk.specs.declared.step.Step.{Step}
@@ -85,9 +86,13 @@ left_by (Fill octet) s = filled octet s.ranges s.made
 pub record Memory : Type 0 where
   pub first : List ℕ
   pub steps : List Step
-  pub until_stop : Option ℕ  -- the number of writes, cuts and syncs up to and with the stopped one, where a stop is planned
+  pub plan : StopPlan
   pub faults : ℕ
   pub lacked : Bool  -- a call found no memory
+
+-- a disk that holds these octets as synced, before its first call
+abbrev pub fresh : List ℕ → List ℕ → Memory
+fresh octets failing = record { first = octets; steps = []; plan = planned failing; faults = 0; lacked = false }
 
 abbrev pub state : Memory → State
 state disk = state_of disk.first disk.steps
@@ -97,19 +102,37 @@ abbrev pub LeftSince : Memory → ℕ → List ℕ → Type 0
 LeftSince disk moment image =
     (count : ℕ) × (moment ≤ count) × (count ≤ length disk.steps) × IsImage (state_of disk.first (take count disk.steps)) image
 
-abbrev pub counted_down : Option ℕ → Option ℕ
-counted_down None = None
-counted_down (Some left) = Some (left - 1)
-
--- the call at hand is the stopped one or stands behind it
-abbrev pub is_stopped : Option ℕ → Bool
-is_stopped None = false
-is_stopped (Some left) = nat_le left 1
-
--- The disk keeps what a call did, also where it failed, but for calls behind a stop and for want of memory. A stop
--- comes nearer by one, and a call that it reaches fails.
-pub record Keeps (old new : Memory) (more : List Step) (good : Bool) : Type 0 where
+-- A write or a cut is kept with how it went. It fails only where that is planned or it found no memory, and isn't
+-- kept only where it found none or stands behind a stop.
+pub record Keeps (old new : Memory) (step : Step) (good : Bool) : Type 0 where
   pub first : new.first ≡ old.first
-  pub steps : (new.steps ≡ old.steps ++ more) ⊎ ((new.steps ≡ old.steps) × ((old.until_stop ≡ Some 0) ⊎ (new.lacked ≡ true)))
-  pub nearer : new.until_stop ≡ counted_down old.until_stop
-  pub stops : is_stopped old.until_stop ≡ true → good ≡ false
+  pub steps : (new.steps ≡ old.steps ++ step ∷ []) ⊎ ((new.steps ≡ old.steps) × (good ≡ false) × ((is_behind old.plan.until_stop ≡ true) ⊎ (new.lacked ≡ true)))
+  pub cause : good ≡ false → (change_fails old.plan ≡ true) ⊎ (new.lacked ≡ true)
+  pub memory : good ≡ true → new.lacked ≡ old.lacked
+
+abbrev pub is_change : Step → Bool
+is_change (Wrote at octets good) = true
+is_change (CutTo to good) = true
+is_change Synced = false
+
+-- nothing was written or cut since the last sync
+abbrev pub is_settled : List Step → Bool
+is_settled steps = fold (λ settled step. not (is_change step)) true steps
+
+-- behind a sync that succeeds, which is kept where something has changed since the last one
+abbrev pub with_sync : List Step → List Step
+with_sync steps = if is_settled steps then steps else steps ++ Synced ∷ []
+
+-- A call that finds no want of memory and isn't a write or a cut: what it leaves of the calls that are kept.
+pub record Leaves (old new : Memory) (kept : List Step) : Type 0 where
+  pub first : new.first ≡ old.first
+  pub steps : new.steps ≡ kept
+  pub memory : new.lacked ≡ old.lacked
+
+-- what a read gives is that of these calls
+abbrev pub IsShown : List ℕ → List ℕ → List Step → Type 0
+IsShown octets first steps = octets ≡ (state_of first steps).shown
+
+-- there is room for a sync, where one would be kept
+abbrev pub HasRoom : List Step → ℕ → Type 0
+HasRoom steps capacity = is_settled steps ≡ false → length steps < capacity

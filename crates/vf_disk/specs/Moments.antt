@@ -1,5 +1,5 @@
 -- The moments of a disk in memory: this one is one of those since an earlier one, and the only one since itself.
-use Rattle.std.specs.Prelude.{◌≡◌, ℕ, ◌≤◌, List, length, take, Option, None, Some}
+use Rattle.std.specs.Prelude.{◌≡◌, ℕ, ◌≤◌, List, length, take, None, Some}
 use Rattle.std.proofs.Common.{sym, ap, subst, arith}
 use Rattle.std.proofs.lemmas.List.{take_all}
 use Rattle.vf_disk.specs.declared.step.Step.{Step}

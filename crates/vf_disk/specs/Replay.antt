@@ -1,9 +1,9 @@
--- How the images of the forms of a crash are made, call by call.
-use Rattle.std.specs.Prelude.{◌≡◌, ℕ, Bool, true, false, List, length, take, drop, fold}
+-- How the images of the forms of a crash are made, call by call, and how an image is judged.
+use Rattle.std.specs.Prelude.{ℕ, ◌+◌, min, max, Bool, false, nat_le, List, length, take}
 use Rattle.vf_disk.specs.Disk.{overwritten}
 use Rattle.vf_disk.specs.declared.step.Step.{Step}
 use Rattle.vf_disk.specs.declared.step.Step.TheVariants.{Wrote, CutTo, Synced}
-use Rattle.vf_disk.specs.Memory.{State, settled, after, state_of, lengthened, filled_in}
+use Rattle.vf_disk.specs.Memory.{lengthened, filled_in, is_within}
 
 -- a call made on an image, whether it failed or not
 abbrev pub make : List ℕ → Step → List ℕ
@@ -17,7 +17,25 @@ mark octet image (Wrote at octets good) = filled_in octet image (at, length octe
 mark octet image (CutTo to good) = image
 mark octet image Synced = image
 
-abbrev pub is_change : Step → Bool
-is_change (Wrote at octets good) = true
-is_change (CutTo to good) = true
-is_change Synced = false
+-- the least length that a disk had or was to have, and the greatest, behind one call more
+abbrev pub shorter : ℕ → Step → ℕ
+shorter least (Wrote at octets good) = least
+shorter least (CutTo to good) = min least to
+shorter least Synced = least
+
+abbrev pub longer : ℕ → Step → ℕ
+longer greatest (Wrote at octets good) = max greatest (at + length octets)
+longer greatest (CutTo to good) = greatest
+longer greatest Synced = greatest
+
+-- a write goes up to a length, or past it
+abbrev pub reaches : ℕ → Step → Bool
+reaches count (Wrote at octets good) = nat_le count (at + length octets)
+reaches count (CutTo to good) = false
+reaches count Synced = false
+
+-- a write has the place in its range
+abbrev pub covers : ℕ → Step → Bool
+covers place (Wrote at octets good) = is_within place (at, length octets)
+covers place (CutTo to good) = false
+covers place Synced = false

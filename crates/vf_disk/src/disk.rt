@@ -1,6 +1,7 @@
-ghost use Rattle.std.specs.Prelude.{◌≡◌, ◌+◌, ◌<◌, ◌≤◌, ℕ, List, Option, Some, length, IfOk, OnOk, OnErr, IsErr};
+ghost use Rattle.std.specs.Prelude.{◌≡◌, ◌+◌, ◌<◌, ◌≤◌, ℕ, List, Option, Some, length, is_err, IfOk, OnOk, OnErr, IsErr};
 ghost use Rattle.vf_base.specs.Faults.{HasRisen, NeverFalls};
 ghost use Rattle.vf_disk.specs.Disk.{greatest_length, Torn, Shortened, Follows, Within, LeavesShown, Gives, Writes, Cuts, length_written, length_cut, Elapses};
+ghost use Rattle.vf_disk.specs.Plans.{StopPlan, LooksAsPlanned, SyncsAsPlanned, ChangesWherePlanned};
 
 use vf_base::Failed;
 
@@ -24,6 +25,9 @@ pub trait Disk {
     /// The number of calls that failed.
     ghost fault_count: { Self → ℕ };
 
+    /// The calls that are to fail, where the disk tells them.
+    ghost plan: { Self → Option StopPlan };
+
     /// The number of octets.
     fn len(&mut self) -> Result<u64, Failed>
         ensures length { IfOk result (λ length. length ≡ size self.old) }
@@ -32,6 +36,7 @@ pub trait Disk {
         ensures size { size self.new ≡ size self.old }
         ensures crash { Within (may_leave self.old) (may_leave self.new) }
         ensures time { Elapses (moment self.old) (moment self.new) (left_since self.old) (left_since self.new) (may_leave self.new) }
+        ensures plan { LooksAsPlanned (plan self.old) (plan self.new) (is_err result) }
         ensures ok { OnOk result (fault_count self.new ≡ fault_count self.old) }
         ensures falls { NeverFalls (fault_count self.old) (fault_count self.new) }
         ensures failed { OnErr result (HasRisen (fault_count self.old) (fault_count self.new)) };
@@ -44,6 +49,7 @@ pub trait Disk {
         ensures size { size self.new ≡ size self.old }
         ensures crash { Within (may_leave self.old) (may_leave self.new) }
         ensures time { Elapses (moment self.old) (moment self.new) (left_since self.old) (left_since self.new) (may_leave self.new) }
+        ensures plan { LooksAsPlanned (plan self.old) (plan self.new) (is_err result) }
         ensures ok { OnOk result (fault_count self.new ≡ fault_count self.old) }
         ensures falls { NeverFalls (fault_count self.old) (fault_count self.new) }
         ensures failed { OnErr result (HasRisen (fault_count self.old) (fault_count self.new)) };
@@ -57,6 +63,7 @@ pub trait Disk {
         ensures crash { Follows (Torn at (length octets.now)) (may_leave self.old) (may_leave self.new) }
         ensures long { greatest_length < at + length octets.now → IsErr result × (shown self.new ≡ shown self.old) × Within (may_leave self.old) (may_leave self.new) }
         ensures time { Elapses (moment self.old) (moment self.new) (left_since self.old) (left_since self.new) (may_leave self.new) }
+        ensures plan { ChangesWherePlanned (plan self.old) (plan self.new) (is_err result) }
         ensures ok { OnOk result (fault_count self.new ≡ fault_count self.old) }
         ensures falls { NeverFalls (fault_count self.old) (fault_count self.new) }
         ensures failed { OnErr result (HasRisen (fault_count self.old) (fault_count self.new)) };
@@ -69,6 +76,7 @@ pub trait Disk {
         ensures size { size self.new ≡ length_cut (size self.old) to result }
         ensures crash { Follows (Shortened to) (may_leave self.old) (may_leave self.new) }
         ensures time { Elapses (moment self.old) (moment self.new) (left_since self.old) (left_since self.new) (may_leave self.new) }
+        ensures plan { ChangesWherePlanned (plan self.old) (plan self.new) (is_err result) }
         ensures ok { OnOk result (fault_count self.new ≡ fault_count self.old) }
         ensures falls { NeverFalls (fault_count self.old) (fault_count self.new) }
         ensures failed { OnErr result (HasRisen (fault_count self.old) (fault_count self.new)) };
@@ -80,6 +88,7 @@ pub trait Disk {
         ensures size { size self.new ≡ size self.old }
         ensures crash { Within (may_leave self.old) (may_leave self.new) }
         ensures time { Elapses (moment self.old) (moment self.new) (left_since self.old) (left_since self.new) (may_leave self.new) }
+        ensures plan { SyncsAsPlanned (plan self.old) (plan self.new) (is_err result) }
         ensures ok { OnOk result (fault_count self.new ≡ fault_count self.old) }
         ensures falls { NeverFalls (fault_count self.old) (fault_count self.new) }
         ensures failed { OnErr result (HasRisen (fault_count self.old) (fault_count self.new)) };

@@ -119,6 +119,8 @@ impl Disk for FileDisk {
 
     ghost fault_count = { λ disk. disk.faults };
 
+    ghost plan = { λ disk. None };
+
     ghost measured = { λ disk octets none. measured_none octets disk.length none };
 
     ghost counts_now = { λ disk since image le none. none };

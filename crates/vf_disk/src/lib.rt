@@ -1,6 +1,7 @@
 //! The disk model: what a disk gives and what a crash may leave of it, a disk in memory, and the adapter over a file.
 #![tactic(auto)]
 
+mod admitted;
 mod crash_form;
 mod disk;
 mod file_disk;

@@ -1,13 +1,15 @@
-ghost use Rattle.std.specs.Prelude.{◌≡◌, ◌+◌, ◌<◌, ◌≤◌, [], ◌∷◌, ◌++◌, List, ℕ, Some, IfOk, IsErr, OnOk, OnErr, length, None, is_ok, if◌then◌else◌, true, false};
-ghost use Rattle.vf_base.specs.Faults.{HasRisen, NeverFalls};
+ghost use Rattle.std.specs.Prelude.{◌≡◌, ◌↔◌, ◌+◌, ◌<◌, ◌≤◌, [], ◌∷◌, ◌++◌, List, ℕ, Some, IfOk, IsErr, IsTrue, OnOk, OnErr, length, is_err, is_ok, if◌then◌else◌, true, vec_capacity, vec_len};
+ghost use Rattle.vf_base.specs.Faults.{HasRisen, NeverFalls, counted};
 ghost use Rattle.vf_disk.specs.Disk.{greatest_length, Torn, Shortened, Follows, Within, LeavesShown, Gives, Writes, Cuts, length_written, length_cut, Elapses};
-ghost use Rattle.vf_disk.specs.Memory.{IsImage, Keeps, LeftSince, Memory, left_by, state, state_of};
+ghost use Rattle.vf_disk.specs.Memory.{IsImage, Keeps, Leaves, LeftSince, Memory, fresh, left_by, state, state_of, with_sync};
 ghost use Rattle.vf_disk.specs.declared.step.Step.TheVariants.{Wrote, CutTo, Synced};
 ghost use Rattle.vf_disk.specs.Moments.{measured_memory, counts_memory, only_memory};
+ghost use Rattle.vf_disk.specs.Plans.{ChangesWherePlanned, LooksAsPlanned, SyncsAsPlanned};
 
+use crate::admitted::is_admitted;
 use crate::overwrite::overwrite;
-use crate::plan::{Fate, Plan};
-use crate::replay::{last_sync, make_all, mark_all, shown_by};
+use crate::plan::Plan;
+use crate::replay::{is_settled, last_sync, make_all, mark_all, shown_by};
 use crate::step::copy_steps;
 use crate::{CrashForm, Disk, Step};
 use std::alloc::Global;
@@ -22,25 +24,27 @@ pub struct MemoryDisk {
     steps: Vec<Step>,
     octets: Vec<u8>,
     plan: Plan,
+    faults: u64,
     lacked: bool,
 }
 
 impl Model for MemoryDisk {
-    ghost use Rattle.std.specs.Prelude.{◌≡◌};
-    ghost use Rattle.vf_disk.specs.Memory.{Memory, state_of};
+    ghost use Rattle.std.specs.Prelude.{vec_capacity};
+    ghost use Rattle.vf_disk.specs.Memory.{HasRoom, IsShown, Memory};
 
     ghost Value = { Memory };
 
-    ghost view = { λ disk. record { first = disk.first; steps = disk.steps.items; until_stop = disk.plan.until_stop; faults = disk.plan.faults; lacked = disk.lacked } };
+    ghost view = { λ disk. record { first = disk.first; steps = disk.steps.items; plan = disk.plan; faults = disk.faults; lacked = disk.lacked } };
 
-    ghost invariant = { λ disk. disk.octets.items ≡ (state_of disk.first disk.steps.items).shown };
+    ghost invariant = { λ disk. record { shown : IsShown disk.octets.items disk.first disk.steps.items; room : HasRoom disk.steps.items (vec_capacity disk.steps) } };
 }
 
 impl MemoryDisk {
     /// A disk that holds these octets as synced. The calls of `len`, `read`, `write_at`, `cut` and `sync` of the
     /// numbers in `failing`, counted together from 1, fail.
     pub fn of(alloc: Global, octets: &[u8], failing: Vec<u64>) -> Result<MemoryDisk, NoMemory>
-        ensures { IfOk result (λ disk. disk ≡ record { first = octets.now; steps = []; until_stop = None; faults = 0; lacked = false }) }
+        ensures disk { IfOk result (λ disk. disk ≡ fresh octets.now failing.items) }
+        ensures synced { IfOk result (λ disk. LeavesShown (Some octets.now) (IsImage (state disk))) }
     {
         let first = Octets::of(alloc, octets)?;
         let octets = octets.to_vec(alloc)?;
@@ -50,6 +54,7 @@ impl MemoryDisk {
             steps: Vec::new(alloc),
             octets,
             plan: Plan::new(failing),
+            faults: 0,
             lacked: false,
         })
     }
@@ -72,15 +77,16 @@ impl MemoryDisk {
     /// made; those after it leave no trace.
     pub fn stop(&mut self, call: u32)
         requires { 0 < call }
-        ensures { self.new ≡ record self.old { until_stop = Some call } }
+        ensures { self.new ≡ record self.old { plan = record self.old.plan { until_stop = Some call } } }
     {
-        self.plan.until_stop = Some(call);
+        self.plan.stop(call);
     }
 
     /// The disk that a crash leaves, all of it synced and with no failure planned.
     pub fn crash(self, form: CrashForm) -> Result<MemoryDisk, NoMemory>
-        ensures left { IfOk result (λ disk. disk ≡ record { first = left_by form (state self); steps = []; until_stop = None; faults = 0; lacked = false }) }
+        ensures left { IfOk result (λ disk. disk ≡ fresh (left_by form (state self)) []) }
         ensures image { IfOk result (λ disk. IsImage (state self) disk.first) }
+        ensures synced { IfOk result (λ disk. LeavesShown (Some disk.first) (IsImage (state disk))) }
     {
         let image = self.image(form)?;
         let disk = MemoryDisk::of(self.alloc, &image, Vec::new(self.alloc))?;
@@ -108,6 +114,17 @@ impl MemoryDisk {
         }
     }
 
+    /// Whether a crash now may leave these octets. It looks at each octet and at each call since the last sync, and
+    /// takes memory for the octets that stood there then.
+    pub fn admits(&self, image: &[u8]) -> Result<bool, NoMemory>
+        ensures { IfOk result (λ admitted. IsTrue admitted ↔ IsImage (state self.now) image.now) }
+    {
+        let steps = self.steps.as_slice();
+        let (front, back) = steps.split_at(last_sync(steps));
+        let synced = shown_by(self.alloc, self.first.as_slice(), front)?;
+        Ok(is_admitted(&synced, back, image))
+    }
+
     /// A disk that holds the same and has made the same calls; what fails of its calls to come is the same too.
     pub fn copy(&self, alloc: Global) -> Result<MemoryDisk, NoMemory>
         ensures { IfOk result (λ disk. disk ≡ self.now) }
@@ -122,29 +139,39 @@ impl MemoryDisk {
             steps,
             octets,
             plan,
+            faults: self.faults,
             lacked: self.lacked,
         })
     }
 
+    /// Counts a fault.
+    fn fail(&mut self) -> Failed
+        ensures fault { self.new ≡ record self.old { faults = counted self.old.faults } }
+        ensures risen { HasRisen self.old.faults self.new.faults }
+    {
+        self.faults = self.faults.saturating_add(1);
+        Failed
+    }
+
     /// Counts a fault for want of memory.
     fn lack(&mut self) -> Failed
-        ensures first { self.new.first ≡ self.old.first }
-        ensures steps { self.new.steps ≡ self.old.steps }
-        ensures stop { self.new.until_stop ≡ self.old.until_stop }
+        ensures fault { self.new ≡ record self.old { faults = counted self.old.faults; lacked = true } }
         ensures risen { HasRisen self.old.faults self.new.faults }
-        ensures lacked { self.new.lacked ≡ true }
     {
         self.lacked = true;
-        self.plan.fail()
+        self.fail()
     }
 }
 
-/// Puts a call behind the others; without memory they stay as they are.
+/// Puts a call behind the others, with room for a sync behind it; without memory they stay as they are.
 fn keep(steps: &mut Vec<Step>, step: Step) -> Result<(), NoMemory>
     ensures ok { OnOk result (steps.new.items ≡ steps.old.items ++ step ∷ []) }
+    ensures room { OnOk result (vec_len steps.new < vec_capacity steps.new) }
     ensures err { OnErr result (steps.new.items ≡ steps.old.items) }
+    ensures capacity { vec_capacity steps.old ≤ vec_capacity steps.new }
 {
-    steps.push(step)?;
+    steps.reserve(2)?;
+    steps.push_reserved(step);
     Ok(())
 }
 
@@ -161,22 +188,48 @@ impl Disk for MemoryDisk {
 
     ghost fault_count = { λ disk. disk.faults };
 
+    ghost plan = { λ disk. Some disk.plan };
+
     ghost measured = { measured_memory };
 
     ghost counts_now = { counts_memory };
 
     ghost only_now = { only_memory };
 
-    fn len(&mut self) -> Result<u64, Failed> {
-        match self.plan.looks() {
-            Fate::Good => Ok(self.octets.len() as u64),
-            Fate::Fails | Fate::Stopped => Err(self.plan.fail()),
+    fn len(&mut self) -> Result<u64, Failed>
+        ensures length { IfOk result (λ count. count ≡ length (state self.old).shown) }
+        ensures bound { IfOk result (λ count. count ≤ greatest_length) }
+        ensures shown { Some (state self.new).shown ≡ Some (state self.old).shown }
+        ensures size { length (state self.new).shown ≡ length (state self.old).shown }
+        ensures crash { Within (IsImage (state self.old)) (IsImage (state self.new)) }
+        ensures time { Elapses (length self.old.steps) (length self.new.steps) (LeftSince self.old) (LeftSince self.new) (IsImage (state self.new)) }
+        ensures plan { LooksAsPlanned (Some self.old.plan) (Some self.new.plan) (is_err result) }
+        ensures ok { OnOk result (self.new.faults ≡ self.old.faults) }
+        ensures falls { NeverFalls self.old.faults self.new.faults }
+        ensures failed { OnErr result (HasRisen self.old.faults self.new.faults) }
+        ensures rest { Leaves self.old self.new self.old.steps }
+    {
+        if self.plan.looks() {
+            return Err(self.fail());
         }
+        Ok(self.octets.len() as u64)
     }
 
-    fn read(&mut self, at: u64, into: &mut [u8]) -> Result<(), Failed> {
-        if self.plan.looks() != Fate::Good {
-            return Err(self.plan.fail());
+    fn read(&mut self, at: u64, into: &mut [u8]) -> Result<(), Failed>
+        requires { at + length into.old ≤ length (state self.old).shown }
+        ensures octets { Gives (Some (state self.old).shown) at into.new result }
+        ensures shown { Some (state self.new).shown ≡ Some (state self.old).shown }
+        ensures size { length (state self.new).shown ≡ length (state self.old).shown }
+        ensures crash { Within (IsImage (state self.old)) (IsImage (state self.new)) }
+        ensures time { Elapses (length self.old.steps) (length self.new.steps) (LeftSince self.old) (LeftSince self.new) (IsImage (state self.new)) }
+        ensures plan { LooksAsPlanned (Some self.old.plan) (Some self.new.plan) (is_err result) }
+        ensures ok { OnOk result (self.new.faults ≡ self.old.faults) }
+        ensures falls { NeverFalls self.old.faults self.new.faults }
+        ensures failed { OnErr result (HasRisen self.old.faults self.new.faults) }
+        ensures rest { Leaves self.old self.new self.old.steps }
+    {
+        if self.plan.looks() {
+            return Err(self.fail());
         }
         let at = at as usize;
         let count = into.len();
@@ -191,16 +244,17 @@ impl Disk for MemoryDisk {
         ensures crash { Follows (Torn at (length octets.now)) (IsImage (state self.old)) (IsImage (state self.new)) }
         ensures long { greatest_length < at + length octets.now → IsErr result × (Some (state self.new).shown ≡ Some (state self.old).shown) × Within (IsImage (state self.old)) (IsImage (state self.new)) }
         ensures time { Elapses (length self.old.steps) (length self.new.steps) (LeftSince self.old) (LeftSince self.new) (IsImage (state self.new)) }
+        ensures plan { ChangesWherePlanned (Some self.old.plan) (Some self.new.plan) (is_err result) }
         ensures ok { OnOk result (self.new.faults ≡ self.old.faults) }
         ensures falls { NeverFalls self.old.faults self.new.faults }
         ensures failed { OnErr result (HasRisen self.old.faults self.new.faults) }
-        ensures kept { at + length octets.now ≤ greatest_length → Keeps self.old self.new (Wrote at octets.now (is_ok result) ∷ []) (is_ok result) }
+        ensures kept { at + length octets.now ≤ greatest_length → Keeps self.old self.new (Wrote at octets.now (is_ok result)) (is_ok result) }
     {
-        let fate = self.plan.changes();
-        if fate == Fate::Stopped || octets.len() as u64 > 9_223_372_036_854_775_807 - at {
-            return Err(self.plan.fail());
+        let stopped = self.plan.is_behind();
+        let good = !self.plan.changes();
+        if stopped || octets.len() as u64 > 9_223_372_036_854_775_807 - at {
+            return Err(self.fail());
         }
-        let good = fate == Fate::Good;
         let Ok(kept) = Octets::of(self.alloc, octets) else {
             return Err(self.lack());
         };
@@ -214,7 +268,7 @@ impl Disk for MemoryDisk {
             return Err(self.lack());
         };
         if !good {
-            return Err(self.plan.fail());
+            return Err(self.fail());
         }
         if overwrite(&mut self.octets, at as usize, octets).is_err() {
             self.steps.truncate(before);
@@ -229,21 +283,22 @@ impl Disk for MemoryDisk {
         ensures size { length (state self.new).shown ≡ length_cut (length (state self.old).shown) to result }
         ensures crash { Follows (Shortened to) (IsImage (state self.old)) (IsImage (state self.new)) }
         ensures time { Elapses (length self.old.steps) (length self.new.steps) (LeftSince self.old) (LeftSince self.new) (IsImage (state self.new)) }
+        ensures plan { ChangesWherePlanned (Some self.old.plan) (Some self.new.plan) (is_err result) }
         ensures ok { OnOk result (self.new.faults ≡ self.old.faults) }
         ensures falls { NeverFalls self.old.faults self.new.faults }
         ensures failed { OnErr result (HasRisen self.old.faults self.new.faults) }
-        ensures kept { Keeps self.old self.new (CutTo to (is_ok result) ∷ []) (is_ok result) }
+        ensures kept { Keeps self.old self.new (CutTo to (is_ok result)) (is_ok result) }
     {
-        let fate = self.plan.changes();
-        if fate == Fate::Stopped {
-            return Err(self.plan.fail());
+        let stopped = self.plan.is_behind();
+        let good = !self.plan.changes();
+        if stopped {
+            return Err(self.fail());
         }
-        let good = fate == Fate::Good;
         let Ok(()) = keep(&mut self.steps, Step::CutTo { length: to, good }) else {
             return Err(self.lack());
         };
         if !good {
-            return Err(self.plan.fail());
+            return Err(self.fail());
         }
         self.octets.truncate(to as usize);
         Ok(())
@@ -255,21 +310,22 @@ impl Disk for MemoryDisk {
         ensures size { length (state self.new).shown ≡ length (state self.old).shown }
         ensures crash { Within (IsImage (state self.old)) (IsImage (state self.new)) }
         ensures time { Elapses (length self.old.steps) (length self.new.steps) (LeftSince self.old) (LeftSince self.new) (IsImage (state self.new)) }
+        ensures plan { SyncsAsPlanned (Some self.old.plan) (Some self.new.plan) (is_err result) }
         ensures ok { OnOk result (self.new.faults ≡ self.old.faults) }
         ensures falls { NeverFalls self.old.faults self.new.faults }
         ensures failed { OnErr result (HasRisen self.old.faults self.new.faults) }
-        ensures kept { Keeps self.old self.new (if is_ok result then Synced ∷ [] else []) (is_ok result) }
+        ensures kept { Leaves self.old self.new (if is_ok result then with_sync self.old.steps else self.old.steps) }
     {
-        if self.plan.changes() != Fate::Good {
-            return Err(self.plan.fail());
+        if self.plan.changes() {
+            return Err(self.fail());
         }
-        let Ok(()) = keep(&mut self.steps, Step::Synced) else {
-            return Err(self.lack());
-        };
+        if !is_settled(&self.steps) {
+            self.steps.push_reserved(Step::Synced);
+        }
         Ok(())
     }
 
     fn faults(&self) -> u64 {
-        self.plan.faults
+        self.faults
     }
 }

@@ -1,101 +1,108 @@
 //! Which calls of a disk in memory fail.
-ghost use Rattle.std.specs.Prelude.{◌≡◌, ◌↔◌, false, None, Some, IfOk};
-ghost use Rattle.vf_disk.specs.Memory.{counted_down, is_stopped};
-ghost use Rattle.vf_base.specs.Faults.{HasRisen, counted};
+ghost use Rattle.std.specs.Prelude.{◌≡◌, Some, IfOk};
+ghost use Rattle.vf_disk.specs.Plans.{after_change, after_look, change_fails, counted_down as nearer, is_behind as behind_test, is_stopped as stopped_test, look_fails, planned};
 
 use std::alloc::Global;
-use vf_base::{Failed, NoMemory};
+use std::marker::Model;
+use vf_base::NoMemory;
 
-/// How a call goes.
-#[derive(Clone, Copy, Debug, PartialEq, Eq)]
-pub(crate) enum Fate {
-    Good,
-    /// It fails, and a crash may leave it made.
-    Fails,
-    /// It fails behind a stop.
-    Stopped,
-}
-
-/// The calls that fail: those of these numbers, from 1, and after a stop all.
+/// The calls that are to fail: those of certain numbers, from 1, and from a stop on all.
 #[derive(Drop)]
 pub(crate) struct Plan {
-    pub(crate) failing: Vec<u64>,
-    pub(crate) calls: u64,
-    pub(crate) until_stop: Option<u32>,
-    pub(crate) faults: u64,
+    failing: Vec<u64>,
+    calls: u64,
+    until_stop: Option<u32>,
+}
+
+impl Model for Plan {
+    ghost use Rattle.vf_disk.specs.Plans.{StopPlan};
+
+    ghost Value = { StopPlan };
+
+    ghost view = { λ plan. record { numbers = record { failing = plan.failing.items; calls = plan.calls }; until_stop = plan.until_stop } };
 }
 
 impl Plan {
     pub(crate) fn new(failing: Vec<u64>) -> Plan
-        ensures faults { result.faults ≡ 0 }
-        ensures stop { result.until_stop ≡ None }
+        ensures { result ≡ planned failing.items }
     {
         Plan {
             failing,
             calls: 0,
             until_stop: None,
-            faults: 0,
         }
     }
 
     /// An equal plan.
     pub(crate) fn copy(&self, alloc: Global) -> Result<Plan, NoMemory>
-        ensures { IfOk result (λ plan. (plan.faults ≡ self.now.faults) × (plan.until_stop ≡ self.now.until_stop)) }
+        ensures { IfOk result (λ plan. plan ≡ self.now) }
     {
         let failing = self.failing.as_slice().to_vec(alloc)?;
         Ok(Plan {
             failing,
             calls: self.calls,
             until_stop: self.until_stop,
-            faults: self.faults,
         })
     }
 
-    /// Counts a call that changes nothing.
-    pub(crate) fn looks(&mut self) -> Fate
-        ensures faults { self.new.faults ≡ self.old.faults }
-        ensures stop { self.new.until_stop ≡ self.old.until_stop }
-        ensures stopped { (result ≡ Fate.Stopped) ↔ (self.old.until_stop ≡ Some 0) }
+    /// Lets the `call`-th write, cut or sync from now, and every call after it, fail.
+    pub(crate) fn stop(&mut self, call: u32)
+        ensures { self.new ≡ record self.old { until_stop = Some call } }
+    {
+        self.until_stop = Some(call);
+    }
+
+    /// Whether the stopped call was made.
+    pub(crate) fn is_behind(&self) -> bool
+        ensures { result ≡ behind_test self.now.until_stop }
+    {
+        is_behind(self.until_stop)
+    }
+
+    /// Counts a `len` or a `read`, and says whether it is to fail.
+    pub(crate) fn looks(&mut self) -> bool
+        ensures fails { result ≡ look_fails self.old }
+        ensures call { self.new ≡ after_look self.old }
     {
         self.calls = self.calls.saturating_add(1);
-        if self.until_stop == Some(0) {
-            return Fate::Stopped;
-        }
-        if self.failing.contains(&self.calls) {
-            Fate::Fails
-        } else {
-            Fate::Good
-        }
+        is_behind(self.until_stop) || self.failing.contains(&self.calls)
     }
 
-    /// Counts a write, a cut or a sync.
-    pub(crate) fn changes(&mut self) -> Fate
-        ensures faults { self.new.faults ≡ self.old.faults }
-        ensures nearer { self.new.until_stop ≡ counted_down self.old.until_stop }
-        ensures stopped { (result ≡ Fate.Stopped) ↔ (self.old.until_stop ≡ Some 0) }
-        ensures good { result ≡ Fate.Good → is_stopped self.old.until_stop ≡ false }
+    /// Counts a write, a cut or a sync, and says whether it is to fail.
+    pub(crate) fn changes(&mut self) -> bool
+        ensures fails { result ≡ change_fails self.old }
+        ensures call { self.new ≡ after_change self.old }
     {
-        let fate = self.looks();
-        match self.until_stop {
-            None | Some(0) => fate,
-            Some(1) => {
-                self.until_stop = Some(0);
-                Fate::Fails
-            }
-            Some(left) => {
-                self.until_stop = Some(left - 1);
-                fate
-            }
-        }
+        let stopped = is_stopped(self.until_stop);
+        self.until_stop = counted_down(self.until_stop);
+        self.calls = self.calls.saturating_add(1);
+        stopped || self.failing.contains(&self.calls)
     }
+}
 
-    /// Counts a fault.
-    pub(crate) fn fail(&mut self) -> Failed
-        ensures stop { self.new.until_stop ≡ self.old.until_stop }
-        ensures count { self.new.faults ≡ counted self.old.faults }
-        ensures risen { HasRisen self.old.faults self.new.faults }
-    {
-        self.faults = self.faults.saturating_add(1);
-        Failed
+fn is_behind(until_stop: Option<u32>) -> bool
+    ensures { result ≡ behind_test until_stop }
+{
+    match until_stop {
+        None => false,
+        Some(left) => left == 0,
+    }
+}
+
+fn is_stopped(until_stop: Option<u32>) -> bool
+    ensures { result ≡ stopped_test until_stop }
+{
+    match until_stop {
+        None => false,
+        Some(left) => left <= 1,
+    }
+}
+
+fn counted_down(until_stop: Option<u32>) -> Option<u32>
+    ensures { result ≡ nearer until_stop }
+{
+    match until_stop {
+        None => None,
+        Some(left) => Some(left.saturating_sub(1)),
     }
 }

@@ -1,8 +1,8 @@
 //! The images of a disk in memory, made from its calls.
 ghost use Rattle.std.specs.Prelude.{◌≡◌, ◌≤◌, ◌+◌, ℕ, List, true, length, take, drop, fold, vec_len, IfOk, OnOk};
 ghost use Rattle.std.specs.List.{list_all};
-ghost use Rattle.vf_disk.specs.Memory.{settled, state_of, after, filled_in};
-ghost use Rattle.vf_disk.specs.Replay.{make, mark, is_change as change_test};
+ghost use Rattle.vf_disk.specs.Memory.{settled, state_of, after, filled_in, is_change as change_test, is_settled as settled_test};
+ghost use Rattle.vf_disk.specs.Replay.{make, mark};
 
 use crate::Step;
 use crate::overwrite::overwrite;
@@ -23,6 +23,16 @@ pub(crate) fn last_sync(steps: &[Step]) -> usize
         count -= 1;
     }
     count
+}
+
+/// Whether nothing was written or cut since the last sync.
+pub(crate) fn is_settled(steps: &[Step]) -> bool
+    ensures { result ≡ settled_test steps.now }
+{
+    match steps.split_last() {
+        Some((last, _)) => !is_change(last),
+        None => true,
+    }
 }
 
 fn is_change(step: &Step) -> bool

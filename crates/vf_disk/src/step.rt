@@ -1,4 +1,4 @@
-ghost use Rattle.std.specs.Prelude.{◌≡◌, IfOk};
+ghost use Rattle.std.specs.Prelude.{◌≡◌, ◌<◌, IfOk, length, vec_capacity};
 
 use std::alloc::Global;
 use vf_base::{NoMemory, Octets};
@@ -38,11 +38,12 @@ impl Step {
     }
 }
 
-/// The same calls.
+/// The same calls, with room for one more.
 pub(crate) fn copy_steps(alloc: Global, steps: &[Step]) -> Result<Vec<Step>, NoMemory>
-    ensures { IfOk result (λ made. made.items ≡ steps.now) }
+    ensures steps { IfOk result (λ made. made.items ≡ steps.now) }
+    ensures room { IfOk result (λ made. length steps.now < vec_capacity made) }
 {
-    let mut made = Vec::new(alloc);
+    let mut made = Vec::with_capacity(alloc, steps.len() + 1)?;
     for step in steps {
         let step = step.copy(alloc)?;
         made.push(step)?;

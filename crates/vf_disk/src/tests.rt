@@ -4,7 +4,11 @@ use std::fs;
 use std::test::Fail;
 use vf_base::*;
 
+mod allowed;
 mod two_values;
+
+use allowed::Allowed;
+use two_values::choose;
 
 #[test]
 fn a_disk_in_memory_gives_what_was_written(rt: HostRuntime) -> Result<(), Fail> {
@@ -58,8 +62,7 @@ enum Call {
     Sync,
 }
 
-/// Calls on a disk that holds `abcd`, of which the numbers in `failing` fail and the last is stopped, and what each
-/// form of a crash leaves.
+/// Calls on a disk that holds `ab`, of which the numbers in `failing` fail, and what each form of a crash leaves.
 #[derive(Clone, Copy)]
 struct Case {
     failing: &'static [u64],
@@ -71,71 +74,187 @@ struct Case {
 
 const PAST_THE_END: Case = Case {
     failing: &[],
-    calls: &[Call::Write(3, b"XY")],
-    keep: b"abcXY",
-    lose: b"abcd",
-    fill: b"abc..",
+    calls: &[Call::Write(1, b"ac")],
+    keep: b"aac",
+    lose: b"ab",
+    fill: b"acc",
 };
 
 const OVERLAPPING: Case = Case {
     failing: &[],
-    calls: &[Call::Write(0, b"XY"), Call::Write(1, b"Z"), Call::Sync],
-    keep: b"XZcd",
-    lose: b"abcd",
-    fill: b"..cd",
+    calls: &[Call::Write(0, b"bb"), Call::Write(1, b"ab")],
+    keep: b"bab",
+    lose: b"ab",
+    fill: b"ccc",
 };
 
 const CUT_AND_WRITTEN: Case = Case {
     failing: &[],
-    calls: &[Call::Cut(2), Call::Write(2, b"Z")],
-    keep: b"abZ",
-    lose: b"abcd",
-    fill: b"ab.",
+    calls: &[Call::Cut(1), Call::Write(1, b"a")],
+    keep: b"aa",
+    lose: b"ab",
+    fill: b"ac",
 };
 
-const FAILED: Case = Case {
-    failing: &[1, 2],
-    calls: &[Call::Write(3, b"XY"), Call::Sync, Call::Write(0, b"Z")],
-    keep: b"ZbcXY",
-    lose: b"abcd",
-    fill: b".bc..",
+const FAILED_WRITE: Case = Case {
+    failing: &[1],
+    calls: &[Call::Write(2, b"ba"), Call::Write(0, b"b")],
+    keep: b"bbba",
+    lose: b"ab",
+    fill: b"cbcc",
+};
+
+const FAILED_SYNC: Case = Case {
+    failing: &[2],
+    calls: &[Call::Write(0, b"b"), Call::Sync, Call::Cut(1)],
+    keep: b"b",
+    lose: b"ab",
+    fill: b"c",
+};
+
+const FAILED_CUT: Case = Case {
+    failing: &[1],
+    calls: &[Call::Cut(0), Call::Write(2, b"a")],
+    keep: b"\x00\x00a",
+    lose: b"ab",
+    fill: b"\x00\x00c",
 };
 
 const SYNCED: Case = Case {
     failing: &[],
-    calls: &[Call::Write(0, b"X"), Call::Sync, Call::Cut(1)],
-    keep: b"X",
-    lose: b"Xbcd",
-    fill: b"X",
+    calls: &[
+        Call::Write(0, b"b"),
+        Call::Sync,
+        Call::Write(2, b"a"),
+        Call::Cut(1),
+    ],
+    keep: b"b",
+    lose: b"bb",
+    fill: b"b",
 };
 
+const CASES: [Case; 7] = [
+    PAST_THE_END,
+    OVERLAPPING,
+    CUT_AND_WRITTEN,
+    FAILED_WRITE,
+    FAILED_SYNC,
+    FAILED_CUT,
+    SYNCED,
+];
+
+/// The octets of the images that are tried.
+const ALPHABET: [u8; 3] = *b"abc";
+
 #[test]
-fn crashes_leave_their_images(rt: HostRuntime) -> Result<(), Fail> {
-    let alloc = rt.alloc();
-    for case in [PAST_THE_END, OVERLAPPING, CUT_AND_WRITTEN, FAILED, SYNCED] {
-        let mut disk = MemoryDisk::of(alloc, b"abcd", case.failing.to_vec(alloc)?)?;
-        run(&mut disk, case.calls);
-        let lost = disk.copy(alloc)?.crash(CrashForm::Lose)?;
-        assert!(rt; lost.octets() == case.lose);
-        let filled = disk.copy(alloc)?.crash(CrashForm::Fill(b'.'))?;
-        assert!(rt; filled.octets() == case.fill);
-        let kept = disk.crash(CrashForm::Keep)?;
-        assert!(rt; kept.octets() == case.keep);
+fn crashes_leave_what_the_rules_allow(rt: HostRuntime) -> Result<(), Fail> {
+    for case in &CASES {
+        assert!(rt; holds(rt.alloc(), case)?);
     }
     Ok(())
 }
 
-/// Makes the calls, with a stop at the last.
-fn run(disk: &mut MemoryDisk, calls: &[Call]) {
-    for (place, call) in calls.iter().enumerate() {
-        if place + 1 == calls.len() {
-            disk.stop(1);
-        }
-        let length = disk.octets().len() as u64;
-        let _ = match call {
-            Call::Write(at, octets) => disk.write_at((*at).min(length), octets),
-            Call::Cut(to) => disk.cut((*to).min(length)),
-            Call::Sync => disk.sync(),
-        };
+/// Whether the calls of the case go as planned, and a crash behind them may leave what the rules allow.
+fn holds(alloc: Global, case: &Case) -> Result<bool, NoMemory> {
+    let mut disk = MemoryDisk::of(alloc, b"ab", case.failing.to_vec(alloc)?)?;
+    let mut allowed = Allowed::of(alloc, b"ab")?;
+    let as_planned = run(alloc, &mut disk, &mut allowed, case)?;
+    let judged = are_judged_alike(alloc, &disk, &allowed)?;
+    let kept = leaves(alloc, &disk, &allowed, CrashForm::Keep, case.keep)?;
+    let lost = leaves(alloc, &disk, &allowed, CrashForm::Lose, case.lose)?;
+    let filled = leaves(alloc, &disk, &allowed, CrashForm::Fill(b'c'), case.fill)?;
+    Ok(as_planned && judged && kept && lost && filled)
+}
+
+/// Makes the calls, and says whether each fails where that is planned, and a read then gives what the rules say.
+fn run(
+    alloc: Global,
+    disk: &mut MemoryDisk,
+    allowed: &mut Allowed,
+    case: &Case,
+) -> Result<bool, NoMemory> {
+    let mut as_planned = true;
+    for (place, call) in case.calls.iter().enumerate() {
+        let good = !case.failing.contains(&(place as u64 + 1));
+        let made = make(disk, *call);
+        note(alloc, allowed, *call, good)?;
+        as_planned = as_planned && made == good && disk.octets() == allowed.shown();
     }
+    Ok(as_planned)
+}
+
+/// Whether a crash of this form leaves these octets, and the rules and the disk admit them.
+fn leaves(
+    alloc: Global,
+    disk: &MemoryDisk,
+    allowed: &Allowed,
+    form: CrashForm,
+    octets: &[u8],
+) -> Result<bool, NoMemory> {
+    let left = disk.copy(alloc)?.crash(form)?;
+    Ok(left.octets() == octets && allowed.allows(octets) && disk.admits(octets)?)
+}
+
+/// Whether the disk admits exactly what the rules allow, of all images of up to five octets of the alphabet.
+fn are_judged_alike(alloc: Global, disk: &MemoryDisk, allowed: &Allowed) -> Result<bool, NoMemory> {
+    for (count, many) in [1, 3, 9, 27, 81, 243].iter().enumerate() {
+        for number in 0..*many {
+            let image = image_of(alloc, count, number)?;
+            if disk.admits(&image)? != allowed.allows(&image) {
+                return Ok(false);
+            }
+        }
+    }
+    Ok(true)
+}
+
+/// The image of so many octets of the alphabet that has this number.
+fn image_of(alloc: Global, count: usize, number: u32) -> Result<Vec<u8>, NoMemory> {
+    let mut image = Vec::new(alloc);
+    let mut rest = number;
+    for _ in 0..count {
+        image.push(ALPHABET[(rest % 3) as usize])?;
+        rest /= 3;
+    }
+    Ok(image)
+}
+
+/// Makes the call, and says whether it succeeded.
+fn make(disk: &mut MemoryDisk, call: Call) -> bool {
+    let length = disk.octets().len() as u64;
+    match call {
+        Call::Write(at, octets) => disk.write_at(at.min(length), octets).is_ok(),
+        Call::Cut(to) => disk.cut(to.min(length)).is_ok(),
+        Call::Sync => disk.sync().is_ok(),
+    }
+}
+
+fn note(alloc: Global, allowed: &mut Allowed, call: Call, good: bool) -> Result<(), NoMemory> {
+    match call {
+        Call::Write(at, octets) => allowed.write(at, octets, good),
+        Call::Cut(to) => allowed.cut(to, good),
+        Call::Sync => allowed.sync(alloc, good),
+    }
+}
+
+#[test]
+fn a_stop_leaves_the_old_value_or_the_new(rt: HostRuntime) -> Result<(), Fail> {
+    let alloc = rt.alloc();
+    for stop in [1, 2, 3, 4, 5] {
+        for form in [CrashForm::Keep, CrashForm::Lose, CrashForm::Fill(9)] {
+            let mut disk = MemoryDisk::of(alloc, &[0, 7, 0], Vec::new(alloc))?;
+            disk.stop(stop);
+            let done = choose(&mut disk, 7, 8).is_ok();
+            assert!(rt; done == (stop == 5));
+            let left = disk.crash(form)?;
+            let chosen = if left.octets().first() == Some(&0) {
+                1
+            } else {
+                2
+            };
+            let value = left.octets().get(chosen).copied();
+            assert!(rt; value == Some(8) || (!done && value == Some(7)));
+        }
+    }
+    Ok(())
 }

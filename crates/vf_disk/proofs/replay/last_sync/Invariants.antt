@@ -1,6 +1,6 @@
-use Rattle.std.proofs.Common.{◌≡◌, ◌≤◌, ℕ, true, length, drop}
+use Rattle.std.proofs.Common.{◌≡◌, ◌≤◌, true, length, drop}
 use Rattle.std.specs.List.{list_all}
-use Rattle.vf_disk.specs.Replay.{is_change}
+use Rattle.vf_disk.specs.Memory.{is_change}
 use Rattle.vf_disk.proofs.replay.last_sync.Given as goal
 
 abbrev pub invariant-loop-count : goal.invariant-loop-count
