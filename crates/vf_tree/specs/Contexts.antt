@@ -11,7 +11,7 @@ use Rattle.vf_base.specs.declared.element.Element.{Element}
 use Rattle.vf_base.specs.declared.element.Element.TheVariants.{Descriptor, Enter, Exit}
 use Rattle.vf_tree.specs.declared.errors.TreeError.{TreeError}
 use Rattle.vf_tree.specs.declared.errors.TreeError.TheVariants.{NotFound, BadContext}
-use Rattle.vf_tree.specs.FileTree.{FileTree, Unit, strings}
+use Rattle.vf_tree.specs.FileTree.{FileTree, DataUnit, strings}
 use Rattle.vf_tree.specs.Identities.{meant, standing}
 
 -- the contexts that a constraint set takes
@@ -28,45 +28,45 @@ abbrev pub descriptor : Bool → Element
 descriptor filled = Descriptor None filled
 
 -- each unit's descriptor and strings
-abbrev pub described : List Unit → List Element
+abbrev pub described : List DataUnit → List Element
 described [] = []
 described (unit ∷ units) = descriptor true ∷ (unit ++ described units)
 
 -- the whole file: the hierarchy with all data units, the data units with their descriptors, or the strings alone
-abbrev pub whole : Context → List Unit → List Element
+abbrev pub whole : Context → List DataUnit → List Element
 whole HA units = descriptor false ∷ Enter ∷ (described units ++ Exit ∷ [])
 whole FA units = described units
 whole UA units = strings units
 whole US units = strings units
 
 -- one unit of a sequential flat file
-abbrev pub one : Context → Unit → List Element
+abbrev pub one : Context → DataUnit → List Element
 one HA unit = descriptor true ∷ unit
 one FA unit = descriptor true ∷ unit
 one UA unit = unit
 one US unit = unit
 
 -- the unit at a position; none at begin and end
-abbrev pub unit_there : List Unit → ℕ → Option Unit
+abbrev pub unit_there : List DataUnit → ℕ → Option DataUnit
 unit_there units i = if nat_eq i 0 then None else slice_get units (i - 1)
 
 -- an unstructured file is read whole, and has no position but 0
-abbrev pub reading_whole : List Unit → FaduId → Result (List Element × ℕ) TreeError
+abbrev pub reading_whole : List DataUnit → FaduId → Result (List Element × ℕ) TreeError
 reading_whole units Begin = Ok (strings units, 0)
 reading_whole units First = Ok (strings units, 0)
 reading_whole units _ = Err NotFound
 
 -- a unit, which is then the position
-abbrev pub reading_one : Context → ℕ → Option Unit → Result (List Element × ℕ) TreeError
+abbrev pub reading_one : Context → ℕ → Option DataUnit → Result (List Element × ℕ) TreeError
 reading_one context i (Some unit) = Ok (one context unit, i)
 reading_one context i None = Err NotFound
 
 -- a sequential flat file is read whole from its begin, and leaves the position there; else one unit is read
-abbrev pub reading_flat : List Unit → ℕ → FaduId → Context → Result (List Element × ℕ) TreeError
+abbrev pub reading_flat : List DataUnit → ℕ → FaduId → Context → Result (List Element × ℕ) TreeError
 reading_flat units p Begin context = Ok (whole context units, 0)
 reading_flat units p id context = let i = meant (length units) p id in reading_one context i (unit_there units i)
 
-abbrev pub reading : Constraint → List Unit → ℕ → FaduId → Context → Result (List Element × ℕ) TreeError
+abbrev pub reading : Constraint → List DataUnit → ℕ → FaduId → Context → Result (List Element × ℕ) TreeError
 reading Unstructured units p id context = reading_whole units id
 reading SequentialFlat units p id context = reading_flat units (standing (length units) p) id context
 

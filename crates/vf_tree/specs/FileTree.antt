@@ -8,15 +8,15 @@ use Rattle.vf_base.specs.declared.element.Element.{Element}
 use Rattle.vf_base.specs.declared.element.Element.TheVariants.{Text, Binary}
 
 -- a data unit: its strings, in order
-abbrev pub Unit : Type 0
-Unit = List Element
+abbrev pub DataUnit : Type 0
+DataUnit = List Element
 
 pub record FileTree : Type 0 where
   pub constraint : Constraint
-  pub units : List Unit
+  pub units : List DataUnit
 
 -- an unstructured file is one data unit; a sequential flat file has any number
-abbrev pub IsShaped : Constraint → List Unit → Type 0
+abbrev pub IsShaped : Constraint → List DataUnit → Type 0
 IsShaped Unstructured units = length units ≡ 1
 IsShaped SequentialFlat units = ⊤
 
@@ -29,7 +29,7 @@ new_file Unstructured = record { constraint = Unstructured; units = [] ∷ [] }
 new_file SequentialFlat = record { constraint = SequentialFlat; units = [] }
 
 -- the strings of all units, one after another
-abbrev pub strings : List Unit → List Element
+abbrev pub strings : List DataUnit → List Element
 strings [] = []
 strings (unit ∷ units) = unit ++ strings units
 
@@ -39,23 +39,23 @@ octets_of (Text class octets) = length octets
 octets_of (Binary octets) = length octets
 octets_of _ = 0
 
-abbrev pub octets_of_unit : Unit → ℕ
+abbrev pub octets_of_unit : DataUnit → ℕ
 octets_of_unit unit = sum_by octets_of unit
 
 -- the octets of all strings
-abbrev pub octets_in : List Unit → ℕ
+abbrev pub octets_in : List DataUnit → ℕ
 octets_in units = sum_by octets_of_unit units
 
 -- a unit and its strings
-abbrev pub parts_of_unit : Unit → ℕ
+abbrev pub parts_of_unit : DataUnit → ℕ
 parts_of_unit unit = length unit + 1
 
 -- the strings and the units together
-abbrev pub parts_in : List Unit → ℕ
+abbrev pub parts_in : List DataUnit → ℕ
 parts_in units = sum_by parts_of_unit units
 
 -- the limits of a file (profile)
-abbrev pub IsWithinFile : List Unit → Type 0
+abbrev pub IsWithinFile : List DataUnit → Type 0
 IsWithinFile units = (octets_in units ≤ 16777216) × (parts_in units ≤ 262144)
 
 abbrev pub IsFile : FileTree → Type 0

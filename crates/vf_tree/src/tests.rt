@@ -23,10 +23,17 @@ const IDENTITIES: [FaduId; 12] = [
 
 const CONTEXTS: [Context; 4] = [Context::HA, Context::FA, Context::UA, Context::US];
 
-/// What locate answers in a file of so many units at a position, to each identity in turn.
+/// Each identity at each position of files of 0 to 3 units of both constraint sets, in each context and to each action.
 #[test]
-fn positions_follow_the_table(rt: HostRuntime) -> Result<(), Fail> {
+fn all_answers_follow_the_table(rt: HostRuntime) -> Result<(), Fail> {
     let alloc = rt.alloc();
+    assert_positions(&rt, alloc)?;
+    assert_whole_reads(&rt, alloc)?;
+    assert_actions(&rt, alloc)
+}
+
+/// What locate answers in a file of so many units at a position, to each identity in turn, and what a read then shows.
+fn assert_positions(rt: &impl Abort, alloc: Global) -> Result<(), Fail> {
     let table = [
         (0, 0, "01----------"),
         (0, 1, "01----------"),
@@ -54,8 +61,8 @@ fn positions_follow_the_table(rt: HostRuntime) -> Result<(), Fail> {
         (3, 5, "0413--3-123-"),
     ];
     for (units, position, answers) in table {
-        let tree = flat(&rt, alloc, units)?;
-        let plain = unstructured(&rt, alloc, units)?;
+        let tree = flat(rt, alloc, units)?;
+        let plain = unstructured(rt, alloc, units)?;
         for (id, answer) in IDENTITIES.iter().zip(answers.as_bytes()) {
             let id = *id;
             assert_eq!(rt;
@@ -78,47 +85,42 @@ fn positions_follow_the_table(rt: HostRuntime) -> Result<(), Fail> {
 }
 
 /// What the actions leave: the position, and the strings of the file.
-#[test]
-fn actions_follow_the_table(rt: HostRuntime) -> Result<(), Fail> {
-    let alloc = rt.alloc();
+fn assert_actions(rt: &impl Abort, alloc: Global) -> Result<(), Fail> {
     for units in 0..4 {
         for id in IDENTITIES {
             let whole = id == FaduId::Begin || id == FaduId::First;
-            let plain = unstructured(&rt, alloc, units)?;
+            let plain = unstructured(rt, alloc, units)?;
             let (inserted, extended) = match units {
                 0 => ("Z2", "Z0"),
                 1 => ("Z3", "Z0"),
                 2 => ("BZ4", "BZ0"),
                 _ => ("BCCZ5", "CCZ0"),
             };
-            let flat = flat(&rt, alloc, units)?;
+            let flat = flat(rt, alloc, units)?;
             let inserted = if id == FaduId::End { inserted } else { "-" };
             let erased = if id == FaduId::Begin { "0" } else { "-" };
-            assert_acts(&rt, alloc, &flat, id, [inserted, "o", "o", erased])?;
+            assert_acts(rt, alloc, &flat, id, [inserted, "o", "o", erased])?;
             let answers = if whole {
                 ["o", "Z0", extended, "0"]
             } else {
                 ["o", "-", "-", "-"]
             };
-            assert_acts(&rt, alloc, &plain, id, answers)?;
+            assert_acts(rt, alloc, &plain, id, answers)?;
         }
     }
     Ok(())
 }
 
-/// An unstructured file is read whole, and by its strings alone.
-#[test]
-fn unstructured_files_are_read_whole(rt: HostRuntime) -> Result<(), Fail> {
-    let alloc = rt.alloc();
+/// An unstructured file is read whole from any position, and by its strings alone.
+fn assert_whole_reads(rt: &impl Abort, alloc: Global) -> Result<(), Fail> {
     for (units, strings) in [(0, "0"), (1, "0"), (2, "B0"), (3, "CC0")] {
-        let tree = unstructured(&rt, alloc, units)?;
+        let tree = unstructured(rt, alloc, units)?;
         assert!(rt;
             tree.size() == strings.len() as u64 - 1 && tree.parts() == strings.len() as u32
         );
         for id in IDENTITIES {
             let whole = id == FaduId::Begin || id == FaduId::First;
             for context in CONTEXTS {
-                let heard = read(alloc, &tree, 0, id, context)?;
                 let taken = context == Context::UA || context == Context::US;
                 let wanted = if !taken {
                     "c"
@@ -127,7 +129,10 @@ fn unstructured_files_are_read_whole(rt: HostRuntime) -> Result<(), Fail> {
                 } else {
                     "-"
                 };
-                assert!(rt; heard.as_slice() == wanted.as_bytes());
+                for position in 0..6 {
+                    let heard = read(alloc, &tree, position, id, context)?;
+                    assert!(rt; heard.as_slice() == wanted.as_bytes(), "at {position}");
+                }
             }
         }
     }

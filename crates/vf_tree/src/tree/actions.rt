@@ -1,4 +1,5 @@
-ghost use Rattle.std.specs.Prelude.{◌≡◌, ◌++◌, [], ◌∷◌, IfOk, OnOk};
+ghost use Rattle.std.specs.Prelude.{◌≡◌, ◌++◌, [], ◌∷◌, IfOk, OnOk, OnErr};
+ghost use Rattle.std.specs.Rc.{rc_value};
 ghost use Rattle.vf_tree.specs.Actions.{LeavesFile, Performs, erased, extended, inserted, replaced};
 ghost use Rattle.vf_tree.specs.FileTree.{IsFile, strings};
 
@@ -28,8 +29,11 @@ impl Tree {
         if id != FaduId::End {
             return Err(TreeError::NotFound);
         }
-        let all = joined(alloc, &self.units, units)?;
-        *self = Tree::of(alloc, Constraint::SequentialFlat, all)?;
+        let octets = octets_of_units(&units);
+        let parts = parts_of_units(&units);
+        put_behind(alloc, &mut self.units, units)?;
+        self.octets += octets;
+        self.parts += parts;
         Ok(count(self.units()) + 1)
     }
 
@@ -110,17 +114,24 @@ impl Tree {
     }
 }
 
-/// The units of both lists; the octets of their strings are shared.
-fn joined(
+/// Puts units behind the others: in their place where nobody else has these, else behind a copy of them, whose strings
+/// share their octets. After an error they are as before.
+fn put_behind(
     alloc: Global,
-    units: &[DataUnit],
+    units: &mut Rc<Vec<DataUnit>>,
     mut more: Vec<DataUnit>,
-) -> Result<Vec<DataUnit>, NoMemory>
-    ensures { IfOk result (λ all. all.items ≡ units.now ++ more.items) }
+) -> Result<(), NoMemory>
+    ensures ok { OnOk result ((rc_value units.new).items ≡ (rc_value units.old).items ++ more.items) }
+    ensures err { OnErr result ((rc_value units.new).items ≡ (rc_value units.old).items) }
 {
+    if let Some(own) = Rc::get_mut(units) {
+        own.append(&mut more)?;
+        return Ok(());
+    }
     let mut all = copied(alloc, units)?;
     all.append(&mut more)?;
-    Ok(all)
+    *units = Rc::new(alloc, all)?;
+    Ok(())
 }
 
 #[tactic(auto, using(crate::proofs::Lists::lists))]
