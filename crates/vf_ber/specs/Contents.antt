@@ -1,7 +1,11 @@
--- The contents of primitive values: integers (ISO 8825, 8.3) and object identifiers (8.19).
+-- The contents of primitive values: booleans (ISO 8825, 8.2), integers (8.3) and object identifiers (8.19).
 use Rattle.std.specs.Prelude.{ℕ, ◌+◌, ◌*◌, ◌/◌, ◌%◌, ℤ, Bool, false, ◌&&◌, ◌||◌, nat_eq, nat_lt, nat_le, List, [], ◌∷◌, ◌++◌, if◌then◌else◌}
 use Rattle.std.specs.List.{flat_map}
 use Rattle.std.specs.Int.{w64, to_be_bytes, cast_unsigned}
+
+-- one octet, 255 where it is true (profile)
+abbrev pub boolean_octets : Bool → List ℕ
+boolean_octets truth = (if truth then 255 else 0) ∷ []
 
 -- its first nine bits are equal, so that the first octet adds nothing
 abbrev pub is_redundant : List ℕ → Bool

@@ -1,20 +1,33 @@
--- How reading and spelling agree.
-use Rattle.std.specs.Prelude.{◌≡◌, ℕ, ◌≤◌, List, length, take}
+-- Laws of spellings and of the verdict.
+use Rattle.std.specs.Prelude.{◌≡◌, ℕ, [], List, ◌++◌, length}
 use Rattle.vf_ber.specs.Tree.{Tree}
 use Rattle.vf_ber.specs.Tags.{IsTree}
+use Rattle.vf_ber.specs.Limits.{IsTooLarge}
 use Rattle.vf_ber.specs.Spelling.{spell}
-use Rattle.vf_ber.specs.Reading.{reading, Read, cut, Whole}
+use Rattle.vf_ber.specs.Reader.{verdict}
+use Rattle.vf_ber.specs.Spellings.{Spells}
+use Rattle.vf_ber.specs.Verdict.{Verdict, IsVerdict, Read}
 
--- The octets begin with a message of n octets, and these are the canonical spelling of the value.
-pub record BeginsWith (octets : List ℕ) (value : Tree) (n : ℕ) : Type 0 where
-  pub message : cut octets ≡ Whole n
-  pub there : n ≤ length octets
-  pub spelled : take n octets ≡ spell value
+-- octets have one verdict
+abbrev pub HasOneVerdict : Type 0
+HasOneVerdict = (octets : List ℕ) (a b : Verdict) → IsVerdict octets a → IsVerdict octets b → a ≡ b
 
--- what is read stands there
-abbrev pub IsSound : Type 0
-IsSound = (octets : List ℕ) (value : Tree) (n : ℕ) → reading octets ≡ Read value n → BeginsWith octets value n
+-- octets have a verdict, which a plain program finds
+abbrev pub HasAVerdict : Type 0
+HasAVerdict = (octets : List ℕ) → IsVerdict octets (verdict octets)
 
--- what stands there is read, whatever follows
-abbrev pub IsComplete : Type 0
-IsComplete = (octets : List ℕ) (value : Tree) (n : ℕ) → IsTree value → BeginsWith octets value n → reading octets ≡ Read value n
+-- no spelling of a value is a proper prefix of a spelling of any value
+abbrev pub IsPrefixFree : Type 0
+IsPrefixFree = (octets rest : List ℕ) (a b : Tree) → Spells octets a → Spells (octets ++ rest) b → rest ≡ []
+
+-- octets spell one value
+abbrev pub SpellsOne : Type 0
+SpellsOne = (octets : List ℕ) (a b : Tree) → Spells octets a → Spells octets b → a ≡ b
+
+-- The canonical spelling of a value within the limits, whatever follows it, is read as this value: that is the
+-- verdict, and no other.
+abbrev pub IsReadAgain : Type 0
+IsReadAgain =
+    (tree : Tree) (rest : List ℕ) (verdict : Verdict) → IsTree tree → ¬ IsTooLarge tree
+    → IsVerdict (spell tree ++ rest) (Read tree (length (spell tree)))
+    × (IsVerdict (spell tree ++ rest) verdict → verdict ≡ Read tree (length (spell tree)))

@@ -1,6 +1,6 @@
 //! Primitive values of integers, octets and object identifiers.
 ghost use Rattle.std.specs.Prelude.{◌≡◌, ◌++◌, IfOk, OnOk};
-ghost use Rattle.vf_ber.specs.Contents.{arc_octets, integer_octets, is_redundant as redundancy, oid_octets, shortened as shortest};
+ghost use Rattle.vf_ber.specs.Contents.{arc_octets, boolean_octets, integer_octets, is_redundant as redundancy, oid_octets, shortened as shortest};
 ghost use Rattle.std.specs.List.{flat_map};
 ghost use Rattle.vf_ber.specs.Tree.{plain};
 ghost use Rattle.vf_ber.specs.Views.{tag_of, tree_of};
@@ -15,6 +15,14 @@ impl Value {
         ensures { IfOk result (λ value. tree_of value ≡ plain (tag_of tag) (integer_octets n)) }
     {
         let octets = Octets::of(alloc, shortened(&n.to_be_bytes()))?;
+        Ok(Value::Plain { tag, octets })
+    }
+
+    /// The truth in one octet, 255 where it is true (ISO 8825, 8.2; 255 is profile).
+    pub fn of_boolean(alloc: Global, tag: Tag, truth: bool) -> Result<Value, NoMemory>
+        ensures { IfOk result (λ value. tree_of value ≡ plain (tag_of tag) (boolean_octets truth)) }
+    {
+        let octets = Octets::of(alloc, &[if truth { 255 } else { 0 }])?;
         Ok(Value::Plain { tag, octets })
     }
 
@@ -46,7 +54,7 @@ fn shortened(octets: &[u8]) -> &[u8]
     rest
 }
 
-fn is_redundant(octets: &[u8]) -> bool
+pub(crate) fn is_redundant(octets: &[u8]) -> bool
     ensures { result ≡ redundancy octets.now }
 {
     match octets {

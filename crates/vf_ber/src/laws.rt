@@ -1,13 +1,27 @@
 //! Laws of reading and spelling, each the contract of a function that does nothing.
-ghost use Rattle.vf_ber.specs.Laws.{IsComplete, IsSound};
+ghost use Rattle.vf_ber.specs.Laws.{HasAVerdict, HasOneVerdict, IsPrefixFree, IsReadAgain, SpellsOne};
 
-/// A value is read only where the octets begin with its canonical spelling, and takes this spelling's octets.
-pub fn read_is_spelled()
-    ensures { IsSound }
+/// No spelling of a value is a proper prefix of a spelling of any value.
+pub fn no_spelling_goes_on()
+    ensures { IsPrefixFree }
 {}
 
-/// Where octets begin with a message that is the canonical spelling of a value, this value is read, whatever
-/// follows it.
-pub fn spelled_is_read()
-    ensures { IsComplete }
+/// Octets are the spelling of one value at most.
+pub fn octets_spell_one_value()
+    ensures { SpellsOne }
+{}
+
+/// Octets have a verdict.
+pub fn octets_have_a_verdict()
+    ensures { HasAVerdict }
+{}
+
+/// Octets have one verdict at most.
+pub fn octets_have_one_verdict()
+    ensures { HasOneVerdict }
+{}
+
+/// The canonical spelling of a value within the limits, whatever follows it, is read as this value.
+pub fn written_is_read_again()
+    ensures { IsReadAgain }
 {}

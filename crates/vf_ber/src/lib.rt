@@ -2,20 +2,39 @@
 #![tactic(auto)]
 
 mod contents;
+mod contents_laws;
 mod errors;
+mod fault;
+mod fitting;
+mod header;
 mod laws;
 mod measure;
-mod reading;
+mod primitive;
+mod reader;
+mod room;
+mod segments;
 mod tag;
 mod value;
 mod writing;
 
+pub use contents_laws::{
+    booleans_are_read, integers_are_read, integers_are_spelled, oids_are_read, oids_are_spelled,
+};
 pub use errors::{BerError, WriteError};
-pub use laws::{read_is_spelled, spelled_is_read};
-pub use reading::read;
+pub use laws::{
+    no_spelling_goes_on, octets_have_a_verdict, octets_have_one_verdict, octets_spell_one_value,
+    written_is_read_again,
+};
+pub use primitive::{boolean, integer, oid};
+pub use reader::read;
+pub use segments::octets;
 pub use tag::Tag;
 pub use value::{Value, Values};
 pub use writing::write;
 
+#[cfg(test)]
+mod contents_tests;
+#[cfg(test)]
+mod reader_tests;
 #[cfg(test)]
 mod tests;

@@ -7,7 +7,7 @@ ghost use Rattle.vf_ber.specs.Views.{tag_of, tree_of, trees_in};
 use crate::{Tag, Value};
 
 /// The number of octets of the identifier and the length in front of `len` octets of contents.
-pub fn header_len(constructed: bool, tag: Tag, len: u32) -> u32
+fn header_len(constructed: bool, tag: Tag, len: u32) -> u32
     ensures size { result ≡ length (header constructed (tag_of tag) len) }
     ensures small { result ≤ 7 }
 {
@@ -70,7 +70,7 @@ pub fn measure(value: &Value, depth: u32, room: u32) -> Option<u32>
 
 /// The same of the spellings of values, one after another.
 #[cycle(measure)]
-pub fn measure_parts(parts: &[Value], depth: u32, room: u32) -> Option<u32>
+fn measure_parts(parts: &[Value], depth: u32, room: u32) -> Option<u32>
     requires { room ≤ 1048576 }
     ensures { result ≡ measured_in depth room (trees_in parts.now) }
 {

@@ -29,25 +29,6 @@ fn writes_what_it_reads(rt: HostRuntime) -> Result<(), Fail> {
 }
 
 #[test]
-fn refuses_the_rest(rt: HostRuntime) {
-    let short: [&[u8]; 3] = [&[], &[0xa0], &[0xa0, 0x03, 0x80]];
-    for octets in short {
-        assert!(rt; matches!(read(rt.alloc(), octets), Err(BerError::Short)));
-    }
-    let bad: [&[u8]; 6] = [
-        &[0xa1],
-        &[0xa0, 0x80],
-        &[0xa0, 0x01, 0x80],
-        &[0xa0, 0x02, 0x00, 0x00],
-        &[0xa0, 0x03, 0x9f, 0x1e, 0x00],
-        &[0xa0, 0x03, 0x80, 0x81, 0x00],
-    ];
-    for octets in bad {
-        assert!(rt; matches!(read(rt.alloc(), octets), Err(BerError::Bad { at: 0 })));
-    }
-}
-
-#[test]
 fn writes_within_the_limits(rt: HostRuntime) -> Result<(), Fail> {
     let tag = Tag {
         class: 2,

@@ -1,15 +1,14 @@
-//! Writing the canonical spelling of a value.
-ghost use Rattle.std.specs.Prelude.{◌≡◌, ◌≤◌, ◌<◌, ◌+◌, ◌++◌, ◌↔◌, length, IsErrOf, OnOk, OnErr};
+//! Writing the canonical spelling of a value, from its end to its start, so that each length is known when it is
+//! written.
+ghost use Rattle.std.specs.Prelude.{◌≡◌, ◌≤◌, ◌+◌, ◌++◌, ◌↔◌, length, IsErrOf, OnOk, OnErr};
 ghost use Rattle.vf_ber.specs.Limits.{IsTooLarge};
-ghost use Rattle.vf_ber.specs.Results.{Keeps};
+ghost use Rattle.vf_ber.specs.Placed.{ending_at};
 ghost use Rattle.vf_ber.specs.Spelling.{header, identifier, length_octets, spell, spells};
-ghost use Rattle.vf_ber.specs.Tree.{depth as depth_of, depth_in};
 ghost use Rattle.vf_ber.specs.Views.{tag_of, tree_of, trees_in};
 
-use crate::measure::{measure, measure_parts};
+use crate::measure::measure;
 use crate::{Tag, Value, WriteError};
 use std::alloc::Global;
-use vf_base::NoMemory;
 
 /// The most depth of a value.
 const MAX_DEPTH: u32 = 32;
@@ -25,97 +24,114 @@ pub fn write(_alloc: Global, value: &Value, out: &mut Vec<u8>) -> Result<(), Wri
     ensures large { IsErrOf result WriteError.TooLarge ↔ IsTooLarge (tree_of value.now) }
     ensures err { OnErr result (out.new.items ≡ out.old.items) }
 {
-    if measure(value, MAX_DEPTH, MAX_OCTETS).is_none() {
+    let Some(len) = measure(value, MAX_DEPTH, MAX_OCTETS) else {
         return Err(WriteError::TooLarge);
-    }
-    let start = out.len();
-    if append(value, MAX_DEPTH, out).is_err() {
-        out.truncate(start);
+    };
+    let end = out.len() + len as usize;
+    if out.resize(end, 0).is_err() {
         return Err(WriteError::NoMemory);
     }
+    let _start = put_value(value, end, out.as_mut_slice());
     Ok(())
 }
 
-/// Appends the spelling of a value within the limits.
-#[cycle(append)]
-fn append(value: &Value, depth: u32, out: &mut Vec<u8>) -> Result<(), NoMemory>
-    requires shallow { depth_of (tree_of value.now) ≤ depth }
+/// Writes the spelling of a value up to a place. Gives the place where it starts.
+#[cycle(put)]
+fn put_value(value: &Value, end: usize, out: &mut [u8]) -> usize
     requires short { length (spell (tree_of value.now)) ≤ 1048576 }
-    ensures ok { OnOk result (out.new.items ≡ out.old.items ++ spell (tree_of value.now)) }
-    ensures err { OnErr result (Keeps out.old.items out.new.items) }
+    requires room { length (spell (tree_of value.now)) ≤ end }
+    requires within { end ≤ length out.old }
+    ensures start { result + length (spell (tree_of value.now)) ≡ end }
+    ensures written { out.new ≡ ending_at end (spell (tree_of value.now)) out.old }
 {
     match value {
         Value::Plain { tag, octets } => {
-            put_header(false, *tag, octets.len() as u32, out)?;
-            out.extend_from_slice(octets.as_slice())?;
+            let start = put(octets.as_slice(), end, out);
+            put_header(false, *tag, end - start, start, out)
         }
         Value::Built { tag, parts } => {
-            let parts = parts.as_slice();
-            let Some(len) = measure_parts(parts, depth - 1, MAX_OCTETS) else {
-                unreachable!()
-            };
-            put_header(true, *tag, len, out)?;
-            append_parts(parts, depth - 1, out)?;
+            let start = put_values(parts.as_slice(), end, out);
+            put_header(true, *tag, end - start, start, out)
         }
     }
-    Ok(())
 }
 
-/// Appends the spellings of values within the limits, one after another.
-#[cycle(append)]
-fn append_parts(parts: &[Value], depth: u32, out: &mut Vec<u8>) -> Result<(), NoMemory>
-    requires shallow { depth_in (trees_in parts.now) ≤ depth }
+/// The same of the spellings of values, one after another.
+#[cycle(put)]
+fn put_values(parts: &[Value], end: usize, out: &mut [u8]) -> usize
     requires short { length (spells (trees_in parts.now)) ≤ 1048576 }
-    ensures ok { OnOk result (out.new.items ≡ out.old.items ++ spells (trees_in parts.now)) }
-    ensures err { OnErr result (Keeps out.old.items out.new.items) }
+    requires room { length (spells (trees_in parts.now)) ≤ end }
+    requires within { end ≤ length out.old }
+    ensures start { result + length (spells (trees_in parts.now)) ≡ end }
+    ensures written { out.new ≡ ending_at end (spells (trees_in parts.now)) out.old }
 {
-    for part in parts {
-        append(part, depth, out)?;
+    let mut start = end;
+    for i in (0..parts.len()).rev() {
+        start = put_value(&parts[i], start, out);
     }
-    Ok(())
+    start
 }
 
-fn put_header(constructed: bool, tag: Tag, len: u32, out: &mut Vec<u8>) -> Result<(), NoMemory>
-    requires { len ≤ 1048576 }
-    ensures ok { OnOk result (out.new.items ≡ out.old.items ++ header constructed (tag_of tag) len) }
-    ensures err { OnErr result (Keeps out.old.items out.new.items) }
+fn put_header(constructed: bool, tag: Tag, len: usize, end: usize, out: &mut [u8]) -> usize
+    requires small { len ≤ 1048576 }
+    requires room { length (header constructed (tag_of tag) len) ≤ end }
+    requires within { end ≤ length out.old }
+    ensures start { result + length (header constructed (tag_of tag) len) ≡ end }
+    ensures written { out.new ≡ ending_at end (header constructed (tag_of tag) len) out.old }
 {
-    put_identifier(constructed, tag, out)?;
-    put_length(len, out)?;
-    Ok(())
+    let start = put_length(len, end, out);
+    put_identifier(constructed, tag, start, out)
 }
 
-fn put_identifier(constructed: bool, tag: Tag, out: &mut Vec<u8>) -> Result<(), NoMemory>
-    ensures ok { OnOk result (out.new.items ≡ out.old.items ++ identifier constructed (tag_of tag)) }
-    ensures err { OnErr result (out.new.items ≡ out.old.items) }
+fn put_identifier(constructed: bool, tag: Tag, end: usize, out: &mut [u8]) -> usize
+    requires room { length (identifier constructed (tag_of tag)) ≤ end }
+    requires within { end ≤ length out.old }
+    ensures start { result + length (identifier constructed (tag_of tag)) ≡ end }
+    ensures written { out.new ≡ ending_at end (identifier constructed (tag_of tag)) out.old }
 {
     let first = 64 * tag.class + if constructed { 32 } else { 0 };
     if tag.number < 31 {
-        out.push(first + tag.number as u8)?;
-    } else if tag.number < 128 {
-        out.extend_from_slice(&[first + 31, tag.number as u8])?;
-    } else {
-        let high = (128 + tag.number / 128) as u8;
-        out.extend_from_slice(&[first + 31, high, (tag.number % 128) as u8])?;
+        return put(&[first + tag.number as u8], end, out);
     }
-    Ok(())
+    let low = (tag.number % 128) as u8;
+    if tag.number < 128 {
+        return put(&[first + 31, low], end, out);
+    }
+    let high = (128 + tag.number / 128) as u8;
+    put(&[first + 31, high, low], end, out)
 }
 
-fn put_length(len: u32, out: &mut Vec<u8>) -> Result<(), NoMemory>
-    requires { len ≤ 1048576 }
-    ensures ok { OnOk result (out.new.items ≡ out.old.items ++ length_octets len) }
-    ensures err { OnErr result (out.new.items ≡ out.old.items) }
+fn put_length(len: usize, end: usize, out: &mut [u8]) -> usize
+    requires small { len ≤ 1048576 }
+    requires room { length (length_octets len) ≤ end }
+    requires within { end ≤ length out.old }
+    ensures start { result + length (length_octets len) ≡ end }
+    ensures written { out.new ≡ ending_at end (length_octets len) out.old }
 {
     if len < 128 {
-        out.push(len as u8)?;
-    } else if len < 256 {
-        out.extend_from_slice(&[129, len as u8])?;
-    } else if len < 65536 {
-        out.extend_from_slice(&[130, (len / 256) as u8, (len % 256) as u8])?;
-    } else {
-        let high = (len / 65536) as u8;
-        let middle = (len / 256 % 256) as u8;
-        out.extend_from_slice(&[131, high, middle, (len % 256) as u8])?;
+        return put(&[len as u8], end, out);
     }
-    Ok(())
+    let low = (len % 256) as u8;
+    if len < 256 {
+        return put(&[129, low], end, out);
+    }
+    let middle = (len / 256 % 256) as u8;
+    if len < 65536 {
+        return put(&[130, middle, low], end, out);
+    }
+    let high = (len / 65536) as u8;
+    put(&[131, high, middle, low], end, out)
+}
+
+/// Writes octets up to a place. Gives the place where they start.
+#[inline]
+fn put(octets: &[u8], end: usize, out: &mut [u8]) -> usize
+    requires room { length octets.now ≤ end }
+    requires within { end ≤ length out.old }
+    ensures start { result + length octets.now ≡ end }
+    ensures written { out.new ≡ ending_at end octets.now out.old }
+{
+    let start = end - octets.len();
+    out[start..end].copy_from_slice(octets);
+    start
 }

@@ -4,14 +4,14 @@ use Rattle.std.specs.Prelude.{if◌then◌else◌}
 use Rattle.std.specs.List.{flat_map, list_any}
 use Rattle.std.proofs.lemmas.List.Folds.{list_any-append}
 use Rattle.std.proofs.lemmas.Grind.{flat_map-append}
-use Rattle.vf_ber.specs.Reading.{Read, Short, reading}
+use Rattle.vf_ber.specs.Reader.{verdict}
 use Rattle.vf_ber.specs.Tree.{Tree}
+use Rattle.vf_ber.specs.Verdict.{Read, Short}
 use Rattle.vf_pdu.specs.Meaning.{meaning}
 use Rattle.vf_pdu.specs.declared.pdu.Pdu.{Pdu}
 use Rattle.vf_regime.specs.declared.message.Message.TheVariants as messages
 use Rattle.vf_regime.specs.declared.message.Said.{Said}
 use Rattle.vf_regime.specs.declared.message.Said.TheVariants as answers
-use Rattle.vf_regime.specs.Refusal.{not_built}
 use Rattle.vf_regime.specs.State.{State, StandingParty, party_of, with_party}
 use Rattle.vf_regime.specs.Transition.{Consequence, after_transition, transition}
 use Rattle.vf_cli.specs.Conversation.{Aborts, Continues, IsQuiet, behind}
@@ -88,27 +88,27 @@ module _ (old new : State) (octets rest : List ℕ) where
 
 -- a request in front is taken by the one party
 pub says_request : (state : State) (party : StandingParty) (octets : List ℕ) (tree : Tree) (n : ℕ) (pdu : Pdu)
-    → state.parties ≡ party ∷ [] → party.link ≡ link → reading octets ≡ Read tree n → meaning tree ≡ Some pdu
+    → state.parties ≡ party ∷ [] → party.link ≡ link → verdict octets ≡ Read tree n → meaning tree ≡ Some pdu
     → Says state (after_transition state link (transition state party 0 (messages.Pdu pdu))) octets (drop n octets) (transition state party 0 (messages.Pdu pdu)).said
 says_request state party octets tree n pdu one here read means = λ more.
     ap (said_to state) (received-read octets more tree n read ∙ ap (λ o. message_of o ∷ received (drop n octets ++ more)) means)
     ∙ said_to-one state party (Request pdu) (received (drop n octets ++ more)) one here
 
 -- octets that are no message end the one party
-pub aborts_fault : (state : State) (party : StandingParty) (octets : List ℕ) → state.parties ≡ party ∷ [] → party.link ≡ link
-    → ((more : List ℕ) → (later : List Received) × (received (octets ++ more) ≡ Fault ∷ later))
-    → Aborts state octets (reply (answers.Abort not_built 0))
-aborts_fault state party octets one here faulty = record {
+pub aborts_fault : (state : State) (party : StandingParty) (octets : List ℕ) (number place : ℕ) → state.parties ≡ party ∷ [] → party.link ≡ link
+    → ((more : List ℕ) → (later : List Received) × (received (octets ++ more) ≡ Fault number place ∷ later))
+    → Aborts state octets (reply (answers.Abort number place))
+aborts_fault state party octets number place one here faulty = record {
   prints = λ input.
       let fault = faulty (joined input.pieces) in
-      let consequence = consequence_to state party Fault in
-      let said : List Said = answers.Abort not_built 0 ∷ [] in
+      let consequence = consequence_to state party (Fault number place) in
+      let said : List Said = answers.Abort number place ∷ [] in
       let after = after_transition state link consequence in
       ap (λ l. prints_after l input.bad)
-      (ap (said_to state) fault.1 ∙ said_to-one state party Fault fault.0 one here
+      (ap (said_to state) fault.1 ∙ said_to-one state party (Fault number place) fault.0 one here
       ∙ ap (λ l. said ++ l) (said_to-gone after fault.0 (after_one state party consequence one here)))
       ∙ prints_after-abort said input.bad refl
-      ∙ (λ i. record { octets = append-nil (reply (answers.Abort not_built 0)) i; status = 7 });
+      ∙ (λ i. record { octets = append-nil (reply (answers.Abort number place)) i; status = 7 });
 }
 
 module _ (first second third : State) (octets between rest said later : List ℕ) where
@@ -137,5 +137,5 @@ continues_gone state octets rest gone = record {
 pub quiet_gone : (state : State) (pending : List ℕ) → state.parties ≡ [] → IsQuiet state pending
 quiet_gone state pending gone = said_to-gone state (received pending) gone
 
-pub quiet_short : (state : State) (pending : List ℕ) → reading pending ≡ Short → IsQuiet state pending
+pub quiet_short : (state : State) (pending : List ℕ) → verdict pending ≡ Short → IsQuiet state pending
 quiet_short state pending short = ap (said_to state) (received_front pending ∙ ap (received_first received pending) short)

@@ -3,7 +3,8 @@ use Rattle.std.proofs.Common.{◌≡◌, ℕ, ◌+◌, List, [], ◌∷◌, ◌+
 use Rattle.std.specs.List.{flat_map}
 use Rattle.std.proofs.lemmas.List.{drop-drop}
 use Rattle.vf_ber.specs.Tree.{Tree}
-use Rattle.vf_ber.specs.Reading.{Reading, Short, Bad, Read, reading}
+use Rattle.vf_ber.specs.Reader.{verdict}
+use Rattle.vf_ber.specs.Verdict.{Verdict, Short, Bad, Deep, Long, Read}
 use Rattle.vf_pdu.specs.Meaning.{meaning}
 use Rattle.vf_pdu.specs.declared.pdu.Pdu.{Pdu}
 use Rattle.vf_regime.specs.declared.message.Message.TheVariants as messages
@@ -19,9 +20,9 @@ use Rattle.vf_cli.specs.declared.conversation.After.{After}
 use Rattle.vf_cli.specs.declared.conversation.After.TheVariants as after
 use Rattle.vf_cli.specs.declared.message.Front.TheVariants as front
 use Rattle.vf_cli.specs.Conversation.{Aborts, Appends, Continues, Holds, IsAfter, IsFront, Makes, Took}
-use Rattle.vf_cli.specs.Dialogue.{Fault, Received, received, link, message_of, reply, said_to}
+use Rattle.vf_cli.specs.Dialogue.{Fault, Received, received, link, message_of, outside, reply, said_to}
 use Rattle.vf_cli.proofs.ContinuesLemmas.{aborts, aborts_fault, after_one, continues, continues-aborts, continues-continues, says_request}
-use Rattle.vf_cli.proofs.ReceivedLemmas.{received-bad, received-read}
+use Rattle.vf_cli.proofs.ReceivedLemmas.{received-read, received-settled}
 use Rattle.vf_cli.proofs.ConsequenceLemmas.{keeps_link}
 
 -- a state with the tables' files is the same with the tables
@@ -29,23 +30,34 @@ with_tables-same : (tables : Tables) (state : State) → state.files ≡ tables.
 with_tables-same tables state same = λ i. record { users = state.users; files = sym same i; parties = state.parties; transitions = state.transitions }
 
 -- where a fault stands in front, it is received first
-faulty : (rest more : List ℕ) → IsFront (reading rest) (Ok front.Fault) → (later : List Received) × (received (rest ++ more) ≡ Fault ∷ later)
-faulty rest more found = by (reading rest) refl found
+same_fault : (things later : List Received) (number place n at : ℕ) → number ≡ n → place ≡ at → things ≡ Fault n at ∷ later → things ≡ Fault number place ∷ later
+same_fault things later number place n at same there is = is ∙ ap (λ k. Fault k at ∷ later) (sym same) ∙ ap (λ k. Fault number k ∷ later) (sym there)
+
+faulty : (rest more : List ℕ) (number place : ℕ) → IsFront (verdict rest) (Ok (front.Fault number place)) → (later : List Received) × (received (rest ++ more) ≡ Fault number place ∷ later)
+faulty rest more number place found = by (verdict rest) refl found
   where
-    by : (r : Reading) → reading rest ≡ r → IsFront r (Ok front.Fault) → (later : List Received) × (received (rest ++ more) ≡ Fault ∷ later)
+    by : (r : Verdict) → verdict rest ≡ r → IsFront r (Ok (front.Fault number place)) → (later : List Received) × (received (rest ++ more) ≡ Fault number place ∷ later)
     by Short e found = absurd found
-    by Bad e found = ([], received-bad rest more e)
+    by (Bad at) e found = ([], same_fault (received (rest ++ more)) [] number place outside at found.0 found.1 (received-settled rest more (Bad at) e tt))
+    by (Deep at) e found = ([], same_fault (received (rest ++ more)) [] number place outside at found.0 found.1 (received-settled rest more (Deep at) e tt))
+    by (Long at) e found = ([], same_fault (received (rest ++ more)) [] number place outside at found.0 found.1 (received-settled rest more (Long at) e tt))
     by (Read tree n) e found =
-        (received (drop n rest ++ more), received-read rest more tree n e ∙ ap (λ o. message_of o ∷ received (drop n rest ++ more)) found)
+        let later = received (drop n rest ++ more) in (
+          later,
+          same_fault (received (rest ++ more)) later number place not_built 0 found.1 found.2
+              (received-read rest more tree n e ∙ ap (λ o. message_of o ∷ later) found.0),
+        )
 
 -- a request in front was read
-read_request : (rest : List ℕ) (pdu : Pdu) (n : ℕ) → IsFront (reading rest) (Ok (front.Request pdu n))
-    → (tree : Tree) × (reading rest ≡ Read tree n) × (meaning tree ≡ Some pdu)
-read_request rest pdu n found = by (reading rest) refl found
+read_request : (rest : List ℕ) (pdu : Pdu) (n : ℕ) → IsFront (verdict rest) (Ok (front.Request pdu n))
+    → (tree : Tree) × (verdict rest ≡ Read tree n) × (meaning tree ≡ Some pdu)
+read_request rest pdu n found = by (verdict rest) refl found
   where
-    by : (r : Reading) → reading rest ≡ r → IsFront r (Ok (front.Request pdu n)) → (tree : Tree) × (reading rest ≡ Read tree n) × (meaning tree ≡ Some pdu)
+    by : (r : Verdict) → verdict rest ≡ r → IsFront r (Ok (front.Request pdu n)) → (tree : Tree) × (verdict rest ≡ Read tree n) × (meaning tree ≡ Some pdu)
     by Short e found = absurd found
-    by Bad e found = absurd found
+    by (Bad at) e found = absurd found
+    by (Deep at) e found = absurd found
+    by (Long at) e found = absurd found
     by (Read tree m) e found = (tree, e ∙ ap (Read tree) found.1, found.0)
 
 module _ (first state next : State) (octets between rest said : List ℕ) (consequence : Consequence) (made : Tables) where
@@ -74,15 +86,15 @@ module _ (first state next : State) (octets between rest said : List ℕ) (conse
 
 module _ (first state : State) (party : Party) (tables : Tables) (octets said old : List ℕ) (at : ℕ)
     (holds : Holds (Some party) tables state) (before : Continues first octets said state (drop at octets)) where
-  pub takes_fault : IsFront (reading (drop at octets)) (Ok front.Fault) → Aborts first octets (said ++ reply (answers.Abort not_built 0))
-  takes_fault found =
+  pub takes_fault : (number place : ℕ) → IsFront (verdict (drop at octets)) (Ok (front.Fault number place)) → Aborts first octets (said ++ reply (answers.Abort number place))
+  takes_fault number place found =
       let rest = drop at octets in
-      continues-aborts first state state octets rest [] said (reply (answers.Abort not_built 0)) before
-      (aborts_fault state holds.0 rest holds.1 holds.2 (λ more. faulty rest more found))
+      continues-aborts first state state octets rest [] said (reply (answers.Abort number place)) before
+      (aborts_fault state holds.0 rest number place holds.1 holds.2 (λ more. faulty rest more number place found))
 
   -- what is printed goes on with the consequence of a request in front
   pub takes_request : (pdu : Pdu) (n : ℕ) (new replies : List ℕ) (made : Tables) (rest : After) → replies ≡ old ++ said
-      → IsFront (reading (drop at octets)) (Ok (front.Request pdu n))
+      → IsFront (verdict (drop at octets)) (Ok (front.Request pdu n))
       → Makes (transition (with_tables tables state) holds.0 0 (messages.Pdu pdu)) replies new tables made rest
       → Appends first octets old new made rest (drop (at + n) octets)
   takes_request pdu n new replies made rest so_far found makes =

@@ -2,7 +2,8 @@
 use Rattle.std.specs.Prelude.{◌≡◌, ◌<◌, ◌≤◌, length as length_of, ℕ, Bool, true, false, List, [], ◌∷◌, ◌++◌, Option, None, Some, Result, Ok, Err}
 use Rattle.std.specs.List.{flat_map, list_any}
 use Rattle.vf_base.specs.declared.errors.NoMemory.{NoMemory}
-use Rattle.vf_ber.specs.Reading.{Reading, Short, Bad, Read, reading}
+use Rattle.vf_ber.specs.Reader.{verdict}
+use Rattle.vf_ber.specs.Verdict.{Verdict, Short, Bad, Deep, Long, Read}
 use Rattle.vf_pdu.specs.declared.pdu.Pdu.TheVariants.{ProviderAbort}
 use Rattle.vf_pdu.specs.Meaning.{meaning}
 use Rattle.vf_pdu.specs.Value.{IsMessage, IsNamed}
@@ -11,6 +12,7 @@ use Rattle.vf_regime.specs.declared.message.Said.TheVariants as answers
 use Rattle.vf_regime.specs.declared.party.Party.{Party}
 use Rattle.vf_regime.specs.declared.tables.Tables.{Tables}
 use Rattle.vf_regime.specs.Files.{after_changes}
+use Rattle.vf_regime.specs.Refusal.{not_built}
 use Rattle.vf_regime.specs.Represents.{Represents}
 use Rattle.vf_regime.specs.State.{State, StandingParty}
 use Rattle.vf_regime.specs.Transition.{Consequence}
@@ -19,7 +21,7 @@ use Rattle.vf_cli.specs.declared.conversation.After.TheVariants as after
 use Rattle.vf_cli.specs.declared.conversation.Conversation.{Conversation}
 use Rattle.vf_cli.specs.declared.message.Front.{Front}
 use Rattle.vf_cli.specs.declared.message.Front.TheVariants as front
-use Rattle.vf_cli.specs.Dialogue.{dialogue, dialogue_from, received, is_abort, link, reply, said_to}
+use Rattle.vf_cli.specs.Dialogue.{dialogue, dialogue_from, outside, received, is_abort, link, reply, said_to}
 use Rattle.vf_cli.specs.declared.lines.NextLine.{NextLine}
 use Rattle.vf_cli.specs.Lines.{Input, input_limit}
 use Rattle.vf_cli.specs.Reader.{Answers}
@@ -27,16 +29,17 @@ use Rattle.vf_cli.specs.declared.dialogue.Interruption.{Interruption}
 use Rattle.vf_cli.specs.Ftam.{EndsDialogue}
 use Rattle.vf_cli.specs.Printed.{Printed, Wrote, WroteFront}
 
--- what stands in front of octets of this reading
-abbrev pub IsFront : Reading → Result Front NoMemory → Type 0
-IsFront reading (Ok front.Nothing) = reading ≡ Short
-IsFront Short (Ok front.Fault) = ⊥
-IsFront Bad (Ok front.Fault) = Unit {0}
-IsFront (Read tree n) (Ok front.Fault) = meaning tree ≡ None
-IsFront Short (Ok (front.Request pdu length)) = ⊥
-IsFront Bad (Ok (front.Request pdu length)) = ⊥
+-- what stands in front of octets of this verdict
+abbrev pub IsFront : Verdict → Result Front NoMemory → Type 0
+IsFront verdict (Ok front.Nothing) = verdict ≡ Short
+IsFront Short (Ok (front.Fault number place)) = ⊥
+IsFront (Bad at) (Ok (front.Fault number place)) = (number ≡ outside) × (place ≡ at)
+IsFront (Deep at) (Ok (front.Fault number place)) = (number ≡ outside) × (place ≡ at)
+IsFront (Long at) (Ok (front.Fault number place)) = (number ≡ outside) × (place ≡ at)
+IsFront (Read tree n) (Ok (front.Fault number place)) = (meaning tree ≡ None) × (number ≡ not_built) × (place ≡ 0)
 IsFront (Read tree n) (Ok (front.Request pdu length)) = (meaning tree ≡ Some pdu) × (n ≡ length)
-IsFront reading (Err error) = Unit {0}
+IsFront verdict (Ok (front.Request pdu length)) = ⊥
+IsFront verdict (Err error) = Unit {0}
 
 -- a message in front is some of the octets
 abbrev pub Advances : List ℕ → Result Front NoMemory → Type 0
@@ -65,7 +68,7 @@ Stands conversation state = Holds conversation.party conversation.tables state �
 
 -- where the party goes on, the octets that are left are a proper front of a message
 abbrev pub IsRest : After → List ℕ → Type 0
-IsRest (after.Goes party) rest = reading rest ≡ Short
+IsRest (after.Goes party) rest = verdict rest ≡ Short
 IsRest _ rest = Unit {0}
 
 -- the same printed behind some octets

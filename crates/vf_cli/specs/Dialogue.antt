@@ -2,8 +2,9 @@
 -- below, so a piece of the stream of messages is a line, and every message comes at moment 0.
 use Rattle.std.specs.Prelude.{ℕ, zero, suc, Bool, true, false, List, [], ◌∷◌, ◌++◌, length, drop, Option, None, Some, if◌then◌else◌}
 use Rattle.std.specs.List.{flat_map, list_any}
-use Rattle.vf_ber.specs.Reading.{Reading, Short, Bad, Read, reading}
+use Rattle.vf_ber.specs.Reader.{verdict}
 use Rattle.vf_ber.specs.Spelling.{spell}
+use Rattle.vf_ber.specs.Verdict.{Verdict, Short, Bad, Deep, Long, Read}
 use Rattle.vf_pdu.specs.declared.pdu.Pdu.{Pdu}
 use Rattle.vf_pdu.specs.declared.pdu.Pdu.TheVariants.{ProviderAbort}
 use Rattle.vf_pdu.specs.Meaning.{meaning}
@@ -17,26 +18,33 @@ use Rattle.vf_regime.specs.Transition.{Consequence, after_transition, leaves, tr
 use Rattle.vf_cli.specs.Lines.{Input, says, hex_line, bad_line}
 use Rattle.vf_cli.specs.Printed.{Printed}
 
--- a message that is built so far, or octets that are no such message
+-- A message that is built so far. Or octets that are no such message, with the number of the abort that tells it,
+-- and the place of the fault in the octets of the message.
 pub data Received : Type 0 where
   Request : Pdu → Received
-  Fault : Received
+  Fault : ℕ → ℕ → Received
+
+-- the abort of octets that no value begins with (profile)
+abbrev pub outside : ℕ
+outside = 101
 
 abbrev pub message_of : Option Pdu → Received
 message_of (Some pdu) = Request pdu
-message_of None = Fault
+message_of None = Fault not_built 0
 
 -- what the octets in front are received as, and behind them what `behind` makes of the rest
-abbrev pub received_first : (List ℕ → List Received) → List ℕ → Reading → List Received
+abbrev pub received_first : (List ℕ → List Received) → List ℕ → Verdict → List Received
 received_first behind octets Short = []
-received_first behind octets Bad = Fault ∷ []
+received_first behind octets (Bad at) = Fault outside at ∷ []
+received_first behind octets (Deep at) = Fault outside at ∷ []
+received_first behind octets (Long at) = Fault outside at ∷ []
 received_first behind octets (Read tree n) = message_of (meaning tree) ∷ behind (drop n octets)
 
--- The messages of a stream, one after another. A rest that is no whole message yet is nothing, and behind octets
--- that begin no message nothing is read. The bound is on their number; the number of octets is always enough.
+-- The messages of a stream, one after another. A rest that is no whole value yet is nothing, and behind octets
+-- that begin no value nothing is read. The bound is on their number; the number of octets is always enough.
 unfoldable pub received_within : ℕ → List ℕ → List Received
 received_within zero octets = []
-received_within (suc most) octets = received_first (received_within most) octets (reading octets)
+received_within (suc most) octets = received_first (received_within most) octets (verdict octets)
 
 abbrev pub received : List ℕ → List Received
 received octets = received_within (length octets) octets
@@ -52,7 +60,7 @@ opened = record { users = []; files = []; parties = arrived link ∷ []; transit
 -- what comes of what the party receives
 abbrev pub consequence_to : State → StandingParty → Received → Consequence
 consequence_to state party (Request pdu) = transition state party 0 (messages.Pdu pdu)
-consequence_to state party Fault = leaves (answers.Abort not_built 0 ∷ [])
+consequence_to state party (Fault number place) = leaves (answers.Abort number place ∷ [])
 
 -- what is said to one message or fault, and the state after it; a party that is gone receives nothing
 pub record Answer : Type 0 where

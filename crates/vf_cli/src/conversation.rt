@@ -85,9 +85,6 @@ pub(crate) enum After {
 /// The number of the one link.
 const LINK: u32 = 1;
 
-/// The abort of octets that are no built message (profile).
-const NOT_BUILT: u16 = 199;
-
 /// Takes octets away from the front.
 fn drop_front(octets: &mut Vec<u8>, count: usize)
     requires { count ≤ vec_len octets.old }
@@ -117,8 +114,8 @@ pub(crate) fn take_messages(
         let (_, rest) = octets.split_at(at);
         match front_of(alloc, rest)? {
             Front::Nothing => return Ok((After::Goes(party), at)),
-            Front::Fault => {
-                append_abort(alloc, replies)?;
+            Front::Fault { number, place } => {
+                append_abort(alloc, number, place, replies)?;
                 return Ok((After::Aborted, at));
             }
             Front::Request { pdu, length } => {
@@ -187,12 +184,12 @@ fn is_abort(said: &Said) -> bool
     }
 }
 
-fn append_abort(alloc: Global, text: &mut Vec<u8>) -> Result<(), NoMemory>
-    ensures { IfOk result (λ _. text.new.items ≡ text.old.items ++ reply (Said.Abort 199 0)) }
+fn append_abort(alloc: Global, number: u16, place: u32, text: &mut Vec<u8>) -> Result<(), NoMemory>
+    ensures { IfOk result (λ _. text.new.items ≡ text.old.items ++ reply (Said.Abort number place)) }
 {
     let abort = Said::Abort {
-        number: NOT_BUILT,
-        place: 0,
+        number,
+        place: place as u64,
     };
     append_reply(alloc, &abort, text)?;
     Ok(())

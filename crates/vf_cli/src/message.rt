@@ -1,6 +1,6 @@
 //! Messages in front of octets, and replies as lines.
 ghost use Rattle.std.specs.Prelude.{◌≡◌, ◌++◌, OnOk};
-ghost use Rattle.vf_ber.specs.Reading.{reading};
+ghost use Rattle.vf_ber.specs.Reader.{verdict};
 ghost use Rattle.vf_cli.specs.Conversation.{Advances, IsFront, IsSayable};
 ghost use Rattle.vf_ber.specs.Spelling.{spell};
 ghost use Rattle.vf_pdu.specs.Value.{IsMessage, IsNamed, value};
@@ -19,28 +19,48 @@ use vf_regime::Said;
 pub(crate) enum Front {
     /// A proper front of a message.
     Nothing,
-    /// Octets that no built message begins with.
-    Fault,
+    /// Octets that no built message begins with, with the abort that tells it: its number, and the place of the
+    /// fault from 0 on.
+    Fault { number: u16, place: u32 },
     /// A message of so many octets.
     Request { pdu: Pdu, length: usize },
 }
 
+/// The abort of octets that no value begins with (profile).
+const OUTSIDE: u16 = 101;
+
+/// The abort of values that are no built message (profile).
+const NOT_BUILT: u16 = 199;
+
 /// What stands in front of the octets.
 pub(crate) fn front_of(alloc: Global, octets: &[u8]) -> Result<Front, NoMemory>
-    ensures front { IsFront (reading octets.now) result }
+    ensures front { IsFront (verdict octets.now) result }
     ensures advances { Advances octets.now result }
 {
-    vf_ber::read_is_spelled();
     let (value, length) = match vf_ber::read(alloc, octets) {
         Ok(read) => read,
         Err(BerError::NoMemory) => return Err(NoMemory),
         Err(BerError::Short) => return Ok(Front::Nothing),
-        Err(_) => return Ok(Front::Fault),
+        Err(BerError::Bad { at }) => return Ok(outside(at)),
+        Err(BerError::Deep { at }) => return Ok(outside(at)),
+        Err(BerError::Long { at }) => return Ok(outside(at)),
     };
     match vf_pdu::of_value(alloc, &value) {
         Ok(pdu) => Ok(Front::Request { pdu, length }),
-        Err(PduError::NotBuilt) => Ok(Front::Fault),
+        Err(PduError::NotBuilt) => Ok(Front::Fault {
+            number: NOT_BUILT,
+            place: 0,
+        }),
         Err(PduError::NoMemory) => Err(NoMemory),
+    }
+}
+
+fn outside(at: u32) -> Front
+    ensures { result ≡ Front.Fault 101 at }
+{
+    Front::Fault {
+        number: OUTSIDE,
+        place: at,
     }
 }
 

@@ -23,9 +23,16 @@ fn lines_in_and_out(rt: HostRuntime) -> Result<(), NoMemory> {
             "A10381010F\nAB00\nA900\nAB00\nA900\nA705A00380010B\nA700\n",
             0,
         ),
-        // Octets that begin no request, at the octet that shows it; a message that isn't whole is nothing.
+        // Any spelling of a request; a value that is no request; octets that no value begins with, at the octet that
+        // shows it; a message that isn't whole is nothing.
+        ("A0808001\n0F0000\n", "A10381010F\n", 0),
         ("A00380010F\nB400\n", "A10381010F\nA504800200C7\n", 7),
-        ("A080\n", "A504800200C7\n", 7),
+        (
+            "A00380010F\nA60380FF61\n",
+            "A10381010F\nA506800165810103\n",
+            7,
+        ),
+        ("A080\n", "", 0),
         ("A0\n", "", 0),
         ("A00380010F\nA60380\n", "A10381010F\n", 0),
         // Messages that are none of those built so far.

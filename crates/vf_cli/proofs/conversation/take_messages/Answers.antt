@@ -1,10 +1,9 @@
 use Rattle.std.proofs.Common.{◌≡◌, ◌+◌, ◌<◌, ◌≤◌, ◌++◌, List, ℕ, Ok, drop, length, ap, subst, ◌∙◌, append_assoc, arith, refl}
-use Rattle.vf_ber.specs.Reading.{reading}
+use Rattle.vf_ber.specs.Reader.{verdict}
 use Rattle.vf_pdu.specs.declared.pdu.Pdu.{Pdu}
 use Rattle.vf_regime.specs.declared.message.Message.TheVariants as messages
 use Rattle.vf_regime.specs.declared.message.Said.TheVariants as answers
 use Rattle.vf_regime.specs.declared.party.Party.{Party}
-use Rattle.vf_regime.specs.Refusal.{not_built}
 use Rattle.vf_regime.specs.Represents.{with_tables}
 use Rattle.vf_regime.specs.Transition.{transition}
 use Rattle.vf_cli.specs.declared.conversation.After.{After}
@@ -17,10 +16,10 @@ use Rattle.vf_cli.proofs.TakenLemmas.{takes_fault, takes_request}
 use Rattle.vf_cli.proofs.conversation.take_messages.Goals as goal
 
 -- what stands in front of the octets from a place on
-found_at : (octets rest : List ℕ) (at : ℕ) (found is : Front) → rest ≡ drop at octets → found ≡ is → IsFront (reading rest) (Ok found)
-    → IsFront (reading (drop at octets)) (Ok is)
+found_at : (octets rest : List ℕ) (at : ℕ) (found is : Front) → rest ≡ drop at octets → found ≡ is → IsFront (verdict rest) (Ok found)
+    → IsFront (verdict (drop at octets)) (Ok is)
 found_at octets rest at found is behind same front =
-    subst (λ l. IsFront (reading l) (Ok is)) behind (subst (λ (f : Front). IsFront (reading rest) (Ok f)) same front)
+    subst (λ l. IsFront (verdict l) (Ok is)) behind (subst (λ (f : Front). IsFront (verdict rest) (Ok f)) same front)
 
 within_rest : (rest octets : List ℕ) (at n : ℕ) (pdu : Pdu) (found : Front) → length rest + at ≡ length octets → found ≡ front.Request pdu n
     → Advances rest (Ok found) → (0 < n) × (at + n ≤ length octets)
@@ -39,11 +38,11 @@ pub returns-in-Fault-clause-took : goal.returns-in-Fault-clause-took
 returns-in-Fault-clause-took c = λ state holds.
     let goes = c.loop-party.invariant.goes state holds in
     let old : List ℕ = c.args.replies.now.items in
-    let abort = reply (answers.Abort not_built 0) in
-    let found = found_at c.args.octets.now c.split_at.result.1.now c.loop-party.at c.in_ok-front_of.field-0 front.Fault c.split_at.ensures.back c.in-Fault.is c.in_ok-front_of.ensures.front in (
+    let abort = reply (answers.Abort c.in-Fault.number c.in-Fault.place) in
+    let found = found_at c.args.octets.now c.split_at.result.1.now c.loop-party.at c.in_ok-front_of.field-0 (front.Fault c.in-Fault.number c.in-Fault.place) c.split_at.ensures.back c.in-Fault.is c.in_ok-front_of.ensures.front in (
       goes.1 ++ abort,
       c.in_ok-append_abort-in-Fault.ensures ∙ ap (λ l. l ++ abort) goes.3 ∙ append_assoc old goes.1 abort,
-      takes_fault state goes.0 c.loop-party.party c.loop-party.tables c.args.octets.now goes.1 old c.loop-party.at goes.2 goes.4 found,
+      takes_fault state goes.0 c.loop-party.party c.loop-party.tables c.args.octets.now goes.1 old c.loop-party.at goes.2 goes.4 c.in-Fault.number c.in-Fault.place found,
     )
 
 pub take_request-requires : goal.take_request-requires

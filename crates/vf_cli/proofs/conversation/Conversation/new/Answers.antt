@@ -3,10 +3,11 @@ use Rattle.vf_regime.specs.State.{arrived}
 use Rattle.vf_cli.specs.Conversation.{IsQuiet}
 use Rattle.vf_cli.specs.Dialogue.{link, opened}
 use Rattle.vf_cli.proofs.ContinuesLemmas.{quiet_short}
+use Rattle.vf_cli.proofs.ReadingLemmas.{verdict_none}
 use Rattle.vf_cli.proofs.conversation.Conversation.new.Goals as goal
 
 pub returns-clause-stands : goal.returns-clause-stands
 returns-clause-stands c = (
   (arrived link, refl, refl, c.idle.ensures, sym c.new.ensures),
-  subst (λ (l : List ℕ). IsQuiet opened l) (sym c.new-2.ensures.items) (quiet_short opened [] refl),
+  subst (λ (l : List ℕ). IsQuiet opened l) (sym c.new-2.ensures.items) (quiet_short opened [] verdict_none),
 )

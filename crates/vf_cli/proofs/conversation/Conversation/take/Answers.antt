@@ -1,7 +1,8 @@
 use Rattle.std.proofs.Common.{◌≡◌, ◌++◌, List, ℕ, [], Option, None, drop, ap, sym, subst, ◌∙◌, append-nil}
 use Rattle.vf_regime.specs.declared.party.Party.{Party}
 use Rattle.vf_regime.specs.declared.tables.Tables.{Tables}
-use Rattle.vf_ber.specs.Reading.{Short, reading}
+use Rattle.vf_ber.specs.Reader.{verdict}
+use Rattle.vf_ber.specs.Verdict.{Short}
 use Rattle.vf_regime.specs.State.{State}
 use Rattle.vf_cli.specs.declared.conversation.After.{After}
 use Rattle.vf_cli.specs.declared.conversation.After.TheVariants as after
@@ -38,7 +39,7 @@ returns-in-Goes c = λ state holds.
     let rest = c.drop_front.ensures ∙ ap (drop c.in_ok-after.used) c.in_ok-extend_from_slice.ensures.items in
     let left : drop c.in_ok-after.used c.as_slice.result.now ≡ c.drop_front.new.octets.items =
     ap (drop c.in_ok-after.used) octets ∙ sym rest in
-    let short = subst (λ l. reading l ≡ Short) left (subst (λ (a : After). IsRest a (drop c.in_ok-after.used c.as_slice.result.now)) c.in-Goes.is c.in_ok-after.ensures.rest) in
+    let short = subst (λ l. verdict l ≡ Short) left (subst (λ (a : After). IsRest a (drop c.in_ok-after.used c.as_slice.result.now)) c.in-Goes.is c.in_ok-after.ensures.rest) in
     (took.0, took.1, ((took.2).0, ((took.2).1, quiet_short (took.2).0 c.drop_front.new.octets.items short), subst (λ (l : List ℕ). Continues state pending took.0 (took.2).0 l) (sym rest) (took.2).2))
 
 pub returns-in-Gone : goal.returns-in-Gone

@@ -1,0 +1,54 @@
+-- What octets are, to a reader of values: a question of which spellings exist.
+use Rattle.std.specs.Prelude.{ℕ, ◌+◌, ◌<◌, ◌≤◌, List, ◌∷◌, ◌++◌, length, take}
+use Rattle.vf_ber.specs.Tree.{Tree, depth}
+use Rattle.vf_ber.specs.Spellings.{Spells}
+
+-- no limits; that of depth alone; that of depth and that of length (profile)
+pub data Limits : Type 0 where
+  free : Limits
+  shallow : Limits
+  bounded : Limits
+
+abbrev pub IsWithin : Limits → List ℕ → Tree → Type 0
+IsWithin free octets tree = Unit {0}
+IsWithin shallow octets tree = depth tree ≤ 32
+IsWithin bounded octets tree = (depth tree ≤ 32) × (length octets ≤ 1048576)
+
+-- the octets are a spelling of the tree within these limits
+abbrev pub IsSpelling : Limits → List ℕ → Tree → Type 0
+IsSpelling limits octets tree = Spells octets tree × IsWithin limits octets tree
+
+-- some spelling begins with the octets
+abbrev pub Begins : Limits → List ℕ → Type 0
+Begins limits octets = (rest : List ℕ) × (tree : Tree) × IsSpelling limits (octets ++ rest) tree
+
+-- The octet at this place is the first after which no spelling within the limits exists.
+pub record IsFirstFault (octets : List ℕ) (at : ℕ) : Type 0 where
+  pub there : at < length octets
+  pub before : Begins bounded (take at octets)
+  pub after : ¬ Begins bounded (take (at + 1) octets)
+  -- and the octets don't begin with a whole spelling
+  pub unread : (n : ℕ) (tree : Tree) → ¬ IsSpelling bounded (take n octets) tree
+
+pub data Verdict : Type 0 where
+  -- a tree, spelled by so many octets
+  Read : Tree → ℕ → Verdict
+  -- octets are wanting
+  Short : Verdict
+  -- the octet at a place is a fault
+  Bad : ℕ → Verdict
+  Deep : ℕ → Verdict
+  Long : ℕ → Verdict
+
+abbrev pub IsVerdict : List ℕ → Verdict → Type 0
+-- they begin with a spelling within the limits
+IsVerdict octets (Read tree n) = (n ≤ length octets) × IsSpelling bounded (take n octets) tree
+-- they are a proper prefix of one
+IsVerdict octets Short = (next : ℕ) × (rest : List ℕ) × (tree : Tree) × IsSpelling bounded (octets ++ next ∷ rest) tree
+-- no spelling at all begins with the octets up to and with this one
+IsVerdict octets (Bad at) = IsFirstFault octets at × ¬ Begins free (take (at + 1) octets)
+-- some does, but none that is shallow enough
+IsVerdict octets (Deep at) =
+    IsFirstFault octets at × Begins free (take (at + 1) octets) × ¬ Begins shallow (take (at + 1) octets)
+-- a shallow one does, but none that is also short enough
+IsVerdict octets (Long at) = IsFirstFault octets at × Begins shallow (take (at + 1) octets)

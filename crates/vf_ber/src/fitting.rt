@@ -1,0 +1,237 @@
+//! Which octets may stand where: each function asks whether a value can still be completed behind an octet, by
+//! what is around it.
+ghost use Rattle.std.specs.Prelude.{◌≡◌, ◌≢◌, ◌+◌, ◌-◌, ◌*◌, ◌≤◌, ◌<◌, ◌^◌, IfErr, IfOk, true, false, Some, None};
+ghost use Rattle.vf_ber.specs.Steps.{fault_of, fills, first_fits, fits as room_fits, grown as grown_of, has_depth as depth_of, is_roomy as roomy_of, Judged, length_fits, less as less_of, limits_of, reaches, second_fits, shifted as shifted_of, size_fits};
+
+use crate::fault::Fault;
+use crate::room::{Asked, Room};
+
+/// What is left of the room when so many octets are taken.
+pub fn less(room: Room, n: u64) -> Room
+    ensures { result ≡ less_of room n }
+{
+    match room {
+        Room::Exact(most) => Room::Exact(most.saturating_sub(n)),
+        Room::Within(most) => Room::Within(most.saturating_sub(n)),
+    }
+}
+
+/// Whether octets in front and `len` others are allowed.
+fn fits(asked: Asked, room: Room, front: u64, len: u64) -> bool
+    requires { front ≤ 16 }
+    ensures { result ≡ room_fits (limits_of asked) room (front + len) }
+{
+    match room {
+        Room::Exact(most) => {
+            if most < front {
+                return false;
+            }
+            let left = most - front;
+            len == left || (left >= 2 && len <= left - 2)
+        }
+        Room::Within(most) => match asked {
+            Asked::Free | Asked::Shallow => true,
+            Asked::Bounded => front <= most && len <= most - front,
+        },
+    }
+}
+
+fn is_roomy(asked: Asked, room: Room, n: u64) -> bool
+    ensures { result ≡ roomy_of (limits_of asked) room n }
+{
+    match room {
+        Room::Exact(most) => n <= most,
+        Room::Within(most) => match asked {
+            Asked::Free | Asked::Shallow => true,
+            Asked::Bounded => n <= most,
+        },
+    }
+}
+
+fn has_depth(asked: Asked, depth: u32) -> bool
+    ensures { result ≡ depth_of (limits_of asked) depth }
+{
+    match asked {
+        Asked::Free => true,
+        Asked::Shallow | Asked::Bounded => depth > 0,
+    }
+}
+
+/// The fault at an octet, from what the limits allow there.
+fn fault(free: bool, shallow: bool, left: usize) -> Fault
+    ensures { result ≡ fault_of free shallow left }
+{
+    if !free {
+        Fault::Bad(left)
+    } else if !shallow {
+        Fault::Deep(left)
+    } else {
+        Fault::Long(left)
+    }
+}
+
+fn is_first(asked: Asked, depth: u32, room: Room, octet: u8) -> bool
+    ensures { result ≡ first_fits (limits_of asked) depth room octet }
+{
+    octet != 0
+        && octet != 32
+        && has_depth(asked, depth)
+        && is_roomy(asked, room, if octet % 32 == 31 { 3 } else { 2 })
+}
+
+/// Whether a value may begin with this identifier octet.
+pub fn check_first(depth: u32, room: Room, octet: u8, left: usize) -> Result<(), Fault>
+    ensures ok { IfOk result (λ _. first_fits (limits_of Asked.Bounded) depth room octet ≡ true) }
+    ensures err { IfErr result (λ e. Judged (λ limits. first_fits limits depth room octet) left e) }
+{
+    if is_first(Asked::Bounded, depth, room, octet) {
+        return Ok(());
+    }
+    let free = is_first(Asked::Free, depth, room, octet);
+    let shallow = is_first(Asked::Shallow, depth, room, octet);
+    Err(fault(free, shallow, left))
+}
+
+fn is_second(asked: Asked, room: Room, octet: u8) -> bool
+    ensures { result ≡ second_fits (limits_of asked) room octet }
+{
+    octet >= 31 && octet != 128 && is_roomy(asked, room, if octet < 128 { 3 } else { 4 })
+}
+
+/// Whether the long form of an identifier may go on with this octet.
+pub fn check_second(room: Room, octet: u8, left: usize) -> Result<(), Fault>
+    ensures ok { IfOk result (λ _. second_fits (limits_of Asked.Bounded) room octet ≡ true) }
+    ensures err { IfErr result (λ e. Judged (λ limits. second_fits limits room octet) left e) }
+{
+    if is_second(Asked::Bounded, room, octet) {
+        return Ok(());
+    }
+    let free = is_second(Asked::Free, room, octet);
+    let shallow = is_second(Asked::Shallow, room, octet);
+    Err(fault(free, shallow, left))
+}
+
+/// What is around the contents of a value: its depth and room, how many octets are in front of them, and whether
+/// they are values.
+#[derive(Clone, Copy)]
+pub struct Around {
+    pub depth: u32,
+    pub room: Room,
+    pub front: u64,
+    pub constructed: bool,
+}
+
+/// Whether contents of a definite length, or of an indefinite one, are allowed.
+fn is_size(asked: Asked, around: Around, size: Option<u64>) -> bool
+    requires { around.front ≤ 12 }
+    ensures { result ≡ size_fits (limits_of asked) around.depth around.room around.front around.constructed size }
+{
+    match size {
+        Some(n) => {
+            fits(asked, around.room, around.front, n)
+                && (!around.constructed
+                    || (n != 1 && (n == 0 || has_depth(asked, around.depth.saturating_sub(1)))))
+        }
+        None => around.constructed && fits(asked, around.room, around.front, 2),
+    }
+}
+
+fn grown(more: u32, n: u64) -> u64
+    requires { grown_of more n < 2 ^ 64 }
+    ensures { result ≡ grown_of more n }
+{
+    let mut all = n;
+    let mut others = more;
+    while others > 0 {
+        others -= 1;
+        all = 256 * all;
+    }
+    all
+}
+
+fn shifted(more: u32, n: u64) -> u64
+    ensures { result ≡ shifted_of more n }
+{
+    let mut front = n;
+    let mut done = 0;
+    while done < more {
+        done += 1;
+        front /= 256;
+    }
+    front
+}
+
+/// Whether the length that fills the room has these octets in front, and is allowed.
+fn is_filled(asked: Asked, around: Around, more: u32, high: u64) -> bool
+    requires { around.front ≤ 12 }
+    ensures { result ≡ fills (limits_of asked) around.depth around.room around.front around.constructed more high }
+{
+    match around.room {
+        Room::Exact(most) => {
+            if most < around.front {
+                return false;
+            }
+            let n = most - around.front;
+            shifted(more, n) == high && is_size(asked, around, Some(n))
+        }
+        Room::Within(_) => false,
+    }
+}
+
+/// Whether some length with these octets in front of `more` others is allowed.
+fn is_reached(asked: Asked, around: Around, more: u32, high: u64) -> bool
+    requires front { around.front ≤ 12 }
+    requires small { grown_of more high < 2 ^ 64 }
+    ensures { result ≡ reaches (limits_of asked) around.depth around.room around.front around.constructed more high }
+{
+    is_size(asked, around, Some(grown(more, high))) || is_filled(asked, around, more, high)
+}
+
+/// Whether a length may go on with these octets, with `more` others behind them.
+pub fn check_digit(around: Around, more: u32, high: u64, left: usize) -> Result<(), Fault>
+    requires front { around.front ≤ 12 }
+    requires small { grown_of more high < 2 ^ 64 }
+    ensures ok { IfOk result (λ _. reaches (limits_of Asked.Bounded) around.depth around.room around.front around.constructed more high ≡ true) }
+    ensures err { IfErr result (λ e. Judged (λ limits. reaches limits around.depth around.room around.front around.constructed more high) left e) }
+{
+    if is_reached(Asked::Bounded, around, more, high) {
+        return Ok(());
+    }
+    let free = is_reached(Asked::Free, around, more, high);
+    let shallow = is_reached(Asked::Shallow, around, more, high);
+    Err(fault(free, shallow, left))
+}
+
+/// Whether a length may begin with this octet, behind an identifier.
+fn is_length(asked: Asked, around: Around, octet: u8) -> bool
+    requires { around.front ≤ 3 }
+    ensures { result ≡ length_fits (limits_of asked) around.depth around.room around.front around.constructed octet }
+{
+    let front = around.front + 1;
+    if octet < 128 {
+        is_size(asked, Around { front, ..around }, Some(octet as u64))
+    } else if octet == 128 {
+        is_size(asked, Around { front, ..around }, None)
+    } else {
+        let more = octet - 128;
+        if more > 8 {
+            return false;
+        }
+        let front = front + more as u64;
+        is_reached(asked, Around { front, ..around }, more as u32, 0)
+    }
+}
+
+/// Whether a length may begin with this octet, behind an identifier.
+pub fn check_length(around: Around, octet: u8, left: usize) -> Result<(), Fault>
+    requires { around.front ≤ 3 }
+    ensures ok { IfOk result (λ _. length_fits (limits_of Asked.Bounded) around.depth around.room around.front around.constructed octet ≡ true) }
+    ensures err { IfErr result (λ e. Judged (λ limits. length_fits limits around.depth around.room around.front around.constructed octet) left e) }
+{
+    if is_length(Asked::Bounded, around, octet) {
+        return Ok(());
+    }
+    let free = is_length(Asked::Free, around, octet);
+    let shallow = is_length(Asked::Shallow, around, octet);
+    Err(fault(free, shallow, left))
+}

@@ -1,0 +1,109 @@
+//! Reading identifiers and lengths, octet by octet.
+ghost use Rattle.std.specs.Prelude.{◌≡◌, ◌≢◌, ◌+◌, ◌-◌, ◌*◌, ◌≤◌, ◌<◌, ◌^◌, ◌∷◌, IfErr, IfOk, IfSome, length, MatchOption, [], true, false, Some, None};
+ghost use Rattle.vf_ber.specs.Steps.{Digits, Failed, first_fits, Got, grown as grown_of, is_roomy, Names, reaches, Sizes};
+ghost use Rattle.vf_ber.specs.Verdict.{bounded};
+ghost use Rattle.vf_ber.specs.Views.{name_of as said};
+
+use crate::Tag;
+use crate::fault::Fault;
+use crate::fitting::{Around, check_digit, check_first, check_length, check_second};
+use crate::room::Room;
+
+/// What an identifier says.
+#[derive(Clone, Copy)]
+pub struct Name {
+    pub constructed: bool,
+    pub tag: Tag,
+}
+
+/// The first octet and those behind it.
+pub fn first_of(octets: &[u8]) -> Option<(u8, &[u8])>
+    ensures parts { MatchOption result (octets.now ≡ []) (λ x. octets.now ≡ x.0 ∷ x.1.now) }
+    ensures small { IfSome result (λ x. x.0 < 256) }
+{
+    match octets {
+        [] => None,
+        [first, behind @ ..] => Some((*first, behind)),
+    }
+}
+
+/// Reads an identifier, and gives what is behind it.
+pub fn name_of(first: u8, behind: &[u8], depth: u32, room: Room) -> Result<(Name, &[u8]), Fault>
+    ensures got { IfOk result (λ x. Got (Names depth room) (first ∷ behind.now) (said x.0) x.1.now) }
+    ensures failed { IfErr result (λ e. Failed (Names depth room) (first ∷ behind.now) e) }
+    ensures near { IfOk result (λ x. length behind.now ≤ length x.1.now + 2) }
+{
+    check_first(depth, room, first, behind.len() + 1)?;
+    let constructed = first / 32 % 2 == 1;
+    let class = first / 64;
+    let low = first % 32;
+    if low < 31 {
+        let tag = Tag {
+            class,
+            number: low as u16,
+        };
+        return Ok((Name { constructed, tag }, behind));
+    }
+    let Some((second, behind)) = first_of(behind) else {
+        return Err(Fault::Short);
+    };
+    check_second(room, second, behind.len() + 1)?;
+    if second < 128 {
+        let tag = Tag {
+            class,
+            number: second as u16,
+        };
+        return Ok((Name { constructed, tag }, behind));
+    }
+    let Some((third, rest)) = first_of(behind) else {
+        return Err(Fault::Short);
+    };
+    if third >= 128 {
+        return Err(Fault::Bad(behind.len()));
+    }
+    let number = 128 * (second as u16 - 128) + third as u16;
+    let tag = Tag { class, number };
+    Ok((Name { constructed, tag }, rest))
+}
+
+/// Reads a length behind an identifier; an indefinite one is `None`.
+pub fn size_of(octets: &[u8], around: Around) -> Result<(Option<u64>, &[u8]), Fault>
+    requires front { around.front ≤ 3 }
+    requires roomy { is_roomy bounded around.room (around.front + 1) ≡ true }
+    ensures got { IfOk result (λ x. Got (Sizes around.depth around.room around.front around.constructed) octets.now x.0 x.1.now) }
+    ensures failed { IfErr result (λ e. Failed (Sizes around.depth around.room around.front around.constructed) octets.now e) }
+{
+    let Some((first, behind)) = first_of(octets) else {
+        return Err(Fault::Short);
+    };
+    check_length(around, first, octets.len())?;
+    if first < 128 {
+        return Ok((Some(first as u64), behind));
+    }
+    if first == 128 {
+        return Ok((None, behind));
+    }
+    let more = first - 128;
+    let front = around.front + 1 + more as u64;
+    let (n, rest) = digits_of(behind, Around { front, ..around }, more as u32, 0)?;
+    Ok((Some(n), rest))
+}
+
+/// Reads the octets of a length that are still to come behind those of `high`.
+fn digits_of(octets: &[u8], around: Around, more: u32, high: u64) -> Result<(u64, &[u8]), Fault>
+    requires front { around.front ≤ 12 }
+    requires small { grown_of more (high + 1) ≤ 2 ^ 64 }
+    requires begun { reaches bounded around.depth around.room around.front around.constructed more high ≡ true }
+    ensures got { IfOk result (λ x. Got (Digits around.depth around.room around.front around.constructed more high) octets.now x.0 x.1.now) }
+    ensures failed { IfErr result (λ e. Failed (Digits around.depth around.room around.front around.constructed more high) octets.now e) }
+{
+    if more == 0 {
+        return Ok((high, octets));
+    }
+    let Some((digit, behind)) = first_of(octets) else {
+        return Err(Fault::Short);
+    };
+    let high = 256 * high + digit as u64;
+    check_digit(around, more - 1, high, octets.len())?;
+    digits_of(behind, around, more - 1, high)
+}

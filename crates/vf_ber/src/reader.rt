@@ -1,0 +1,168 @@
+//! Reading a value: octet by octet, each asked whether a value can still be completed behind it.
+ghost use Rattle.std.specs.Prelude.{◌≡◌, ◌≢◌, ◌+◌, ◌-◌, ◌*◌, ◌≤◌, ◌<◌, ◌^◌, ◌∷◌, IfErr, IfOk, length, true, false, Some, None};
+ghost use Rattle.vf_ber.specs.Results.{IsAnswer};
+ghost use Rattle.vf_ber.specs.Steps.{Contents, Definite, Ended, Failed, fits, Got, has_depth, IsNoEnd, less as less_of, Parts, size_fits, Values as ValuesIn};
+ghost use Rattle.vf_ber.specs.Verdict.{bounded};
+ghost use Rattle.vf_ber.specs.Views.{name_of as said, tag_of, tree_of};
+
+use crate::fault::Fault;
+use crate::fitting::{Around, less};
+use crate::header::{Name, first_of, name_of, size_of};
+use crate::room::Room;
+use crate::{BerError, Tag, Value, Values};
+use std::alloc::Global;
+use vf_base::Octets;
+
+/// Reads the value that the octets begin with, and says how many octets it took.
+///
+/// A value's depth is at most 32, the outermost having depth 1, and its octets at most 1,048,576. `Short` exactly
+/// where the octets are a proper prefix of the spelling of such a value. Where neither comes, some octet is the
+/// first after which there is no such spelling: the error names its place, and is `Bad` exactly where no spelling
+/// at all begins with the octets up to and with it, else `Deep` where none of a value of depth 32 or less does,
+/// else `Long` (ISO 8825, 8.1; limits of this profile).
+pub fn read(alloc: Global, octets: &[u8]) -> Result<(Value, usize), BerError>
+    ensures { IsAnswer result octets.now }
+{
+    let Some((first, behind)) = first_of(octets) else {
+        return Err(BerError::Short);
+    };
+    match value_of(alloc, first, behind, 32, Room::Within(1_048_576)) {
+        Ok((value, rest)) => Ok((value, octets.len() - rest.len())),
+        Err(Fault::Short) => Err(BerError::Short),
+        Err(Fault::Bad(left)) => Err(BerError::Bad {
+            at: (octets.len() - left) as u32,
+        }),
+        Err(Fault::Deep(left)) => Err(BerError::Deep {
+            at: (octets.len() - left) as u32,
+        }),
+        Err(Fault::Long(left)) => Err(BerError::Long {
+            at: (octets.len() - left) as u32,
+        }),
+        Err(Fault::NoMemory) => Err(BerError::NoMemory),
+    }
+}
+
+/// Reads a value, and gives what is behind it.
+#[cycle(read_value)]
+fn value_of(
+    alloc: Global,
+    first: u8,
+    behind: &[u8],
+    depth: u32,
+    room: Room,
+) -> Result<(Value, &[u8]), Fault>
+    ensures got { IfOk result (λ x. Got (ValuesIn depth room) (first ∷ behind.now) (tree_of x.0) x.1.now) }
+    ensures failed { IfErr result (λ e. Failed (ValuesIn depth room) (first ∷ behind.now) e) }
+{
+    let (name, rest) = name_of(first, behind, depth, room)?;
+    let around = Around {
+        depth,
+        room,
+        front: (behind.len() + 1 - rest.len()) as u64,
+        constructed: name.constructed,
+    };
+    let (size, contents) = size_of(rest, around)?;
+    let front = (behind.len() + 1 - contents.len()) as u64;
+    contents_of(alloc, contents, depth, room, front, name, size)
+}
+
+/// Reads the contents of a value behind its identifier and its length.
+#[cycle(read_value)]
+fn contents_of(
+    alloc: Global,
+    octets: &[u8],
+    depth: u32,
+    room: Room,
+    front: u64,
+    name: Name,
+    size: Option<u64>,
+) -> Result<(Value, &[u8]), Fault>
+    requires deep { has_depth bounded depth ≡ true }
+    requires fits { size_fits bounded depth room front name.constructed size ≡ true }
+    ensures got { IfOk result (λ x. Got (Contents depth room front (said name) size) octets.now (tree_of x.0) x.1.now) }
+    ensures failed { IfErr result (λ e. Failed (Contents depth room front (said name) size) octets.now e) }
+{
+    let tag = name.tag;
+    let Some(n) = size else {
+        let (ended, rest) = ended_of(alloc, octets, depth - 1, less(room, front))?;
+        return Ok((Value::Built { tag, parts: ended }, rest));
+    };
+    if name.constructed {
+        let (parts, rest) = parts_of(alloc, octets, depth - 1, n)?;
+        return Ok((Value::Built { tag, parts }, rest));
+    }
+    plain_of(alloc, octets, tag, n)
+}
+
+/// Takes the contents of a primitive value, which are `n` octets.
+fn plain_of(alloc: Global, octets: &[u8], tag: Tag, n: u64) -> Result<(Value, &[u8]), Fault>
+    ensures got { IfOk result (λ x. Got (Definite 0 n false (tag_of tag)) octets.now (tree_of x.0) x.1.now) }
+    ensures failed { IfErr result (λ e. Failed (Definite 0 n false (tag_of tag)) octets.now e) }
+{
+    if (octets.len() as u64) < n {
+        return Err(Fault::Short);
+    }
+    let (content, rest) = octets.split_at(n as usize);
+    let octets = Octets::of(alloc, content)?;
+    Ok((Value::Plain { tag, octets }, rest))
+}
+
+/// Reads values in turn that take `len` octets.
+#[cycle(read_value)]
+fn parts_of(alloc: Global, octets: &[u8], depth: u32, len: u64) -> Result<(Values, &[u8]), Fault>
+    requires some { len ≢ 1 }
+    requires deep { 0 < len → 0 < depth }
+    ensures got { IfOk result (λ x. Got (Parts depth len) octets.now x.0 x.1.now) }
+    ensures failed { IfErr result (λ e. Failed (Parts depth len) octets.now e) }
+{
+    let mut parts = Values::new(alloc);
+    let mut rest = octets;
+    let mut left = len;
+    while left > 0 {
+        let Some((first, behind)) = first_of(rest) else {
+            return Err(Fault::Short);
+        };
+        let (part, after) = value_of(alloc, first, behind, depth, Room::Exact(left))?;
+        parts.push(part)?;
+        left -= (rest.len() - after.len()) as u64;
+        rest = after;
+    }
+    Ok((parts, rest))
+}
+
+/// Reads values in turn up to the end of contents.
+#[cycle(read_value)]
+fn ended_of(alloc: Global, octets: &[u8], depth: u32, room: Room) -> Result<(Values, &[u8]), Fault>
+    requires { fits bounded room 2 ≡ true }
+    ensures got { IfOk result (λ x. Got (Ended depth room) octets.now x.0 x.1.now) }
+    ensures failed { IfErr result (λ e. Failed (Ended depth room) octets.now e) }
+{
+    let mut parts = Values::new(alloc);
+    let mut rest = octets;
+    let mut room = room;
+    while let Some((first, behind)) = first_of(rest) {
+        if first == 0 {
+            let after = end_of(behind)?;
+            return Ok((parts, after));
+        }
+        let (part, after) = value_of(alloc, first, behind, depth, less(room, 2))?;
+        parts.push(part)?;
+        room = less(room, (rest.len() - after.len()) as u64);
+        rest = after;
+    }
+    Err(Fault::Short)
+}
+
+/// Reads the second octet of the end of contents, and gives what is behind it.
+fn end_of(octets: &[u8]) -> Result<&[u8], Fault>
+    ensures ok { IfOk result (λ rest. octets.now ≡ 0 ∷ rest.now) }
+    ensures err { IfErr result (λ e. IsNoEnd octets.now e) }
+{
+    let Some((second, rest)) = first_of(octets) else {
+        return Err(Fault::Short);
+    };
+    if second != 0 {
+        return Err(Fault::Bad(octets.len()));
+    }
+    Ok(rest)
+}
