@@ -1,0 +1,9 @@
+pub mod NumberLemmas
+pub mod PartLemmas
+pub mod TraceLemmas
+pub mod GrowLemmas
+pub mod TakeLemmas
+pub mod RoomLemmas
+pub mod SaidLemmas
+pub mod WriteLemmas
+pub mod ReadableLemmas

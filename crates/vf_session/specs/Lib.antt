@@ -1,0 +1,14 @@
+pub mod Kinds
+pub mod Table
+pub mod Numbers
+pub mod Parts
+pub mod Fields
+pub mod Reading
+pub mod Steps
+pub mod Spelling
+pub mod Trace
+pub mod Hearing
+pub mod Saying
+pub mod Rooms
+pub mod Represents
+pub mod Advances

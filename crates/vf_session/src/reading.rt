@@ -1,0 +1,147 @@
+//! The SPDUs of a TSDU.
+ghost use Rattle.std.specs.Prelude.{◌≡◌, ◌∷◌, ◌+◌, ◌<◌, ◌≤◌, ◌^◌, [], IfOk, length};
+ghost use Rattle.std.specs.List.{AllByRecursion};
+ghost use Rattle.vf_session.specs.Fields.{Gives, IsReadable};
+ghost use Rattle.vf_session.specs.Reading.{assembled, last, one as one_read, reading, second as second_read, second_place as place_read};
+ghost use Rattle.vf_session.specs.Steps.{viewed};
+
+use crate::kinds::{first_kind, is_dt, is_gt, second_kind};
+use crate::parts::{take_parts, value_at};
+use crate::table::missing;
+use crate::{Spdu, SpduError, SpduFields};
+use std::alloc::Global;
+use vf_base::{Octets, SpduKind};
+
+/// The SPDUs of a TSDU: one alone, or a GT and what follows it. Each has the fields and the user data that its
+/// parameters give, with those that it must have, and serial numbers up to 999,999. Places in faults are offsets in
+/// the TSDU (ISO 8327, 8).
+pub fn read(alloc: Global, tsdu: &[u8]) -> Result<Vec<Spdu>, SpduError>
+    ensures exact { Gives (λ spdus. spdus.items) result (reading tsdu.now) }
+    ensures readable { IfOk result (λ spdus. AllByRecursion IsReadable spdus.items) }
+{
+    let spdus = spdus_of(alloc, tsdu)?;
+    Ok(spdus)
+}
+
+fn spdus_of(alloc: Global, tsdu: &[u8]) -> Result<Vec<Spdu>, SpduError>
+    ensures { Gives (λ spdus. spdus.items) result (reading tsdu.now) }
+{
+    if tsdu.is_empty() {
+        return Err(SpduError::Code { at: 0 });
+    }
+    let (identifier, octets) = tsdu.split_at(1);
+    let Some(kind) = first_kind(identifier[0]) else {
+        return Err(SpduError::Code { at: 0 });
+    };
+    let (spdu, place, more) = one(alloc, kind, 0, octets)?;
+    if is_gt(kind) {
+        second(alloc, spdu, place, more)
+    } else {
+        alone(alloc, spdu, place, more)
+    }
+}
+
+fn alone(alloc: Global, spdu: Spdu, place: usize, more: &[u8]) -> Result<Vec<Spdu>, SpduError>
+    requires { place < 2 ^ 31 }
+    ensures { Gives (λ spdus. spdus.items) result (last place more.now (spdu ∷ [])) }
+{
+    if !more.is_empty() {
+        return Err(SpduError::Length { at: place as u32 });
+    }
+    let mut spdus = Vec::new(alloc);
+    spdus.push(spdu)?;
+    Ok(spdus)
+}
+
+fn second(alloc: Global, gt: Spdu, place: usize, octets: &[u8]) -> Result<Vec<Spdu>, SpduError>
+    requires { place < 2 ^ 30 }
+    ensures { Gives (λ spdus. spdus.items) result (second_read gt place octets.now) }
+{
+    let mut spdus = Vec::new(alloc);
+    spdus.push(gt)?;
+    if octets.is_empty() {
+        return Ok(spdus);
+    }
+    let at = place as u32;
+    let (identifier, octets) = octets.split_at(1);
+    let Some(kind) = second_kind(identifier[0]) else {
+        return Err(SpduError::Code { at });
+    };
+    let (spdu, place, more) = one(alloc, kind, place, octets)?;
+    if !more.is_empty() {
+        return Err(SpduError::Length { at: place as u32 });
+    }
+    spdus.push(spdu)?;
+    Ok(spdus)
+}
+
+/// The SPDU whose identifier stands at this place, by the octets behind it; with the place and the octets behind it.
+fn one(
+    alloc: Global,
+    kind: SpduKind,
+    place: usize,
+    octets: &[u8],
+) -> Result<(Spdu, usize, &[u8]), SpduError>
+    requires { place < 2 ^ 30 }
+    ensures exact { Gives (λ x. viewed x.0 x.1 x.2.now) result (one_read kind place octets.now) }
+    ensures bound { IfOk result (λ x. x.1 ≤ place + 65539) }
+{
+    let (spelled, value, more) = value_at(place, octets)?;
+    let at = place + 1 + spelled;
+    let mut spdu = parameters_of(alloc, kind, at, value)?;
+    let place = at + value.len();
+    if is_dt(kind) {
+        spdu.octets = Octets::of(alloc, more)?;
+        return Ok((spdu, place, &[]));
+    }
+    Ok((spdu, place, more))
+}
+
+/// The SPDU with these parameters, the first of which stands at this place.
+fn parameters_of(
+    alloc: Global,
+    kind: SpduKind,
+    place: usize,
+    octets: &[u8],
+) -> Result<Spdu, SpduError>
+    requires { place + length octets.now < 2 ^ 31 }
+    ensures { Gives (λ spdu. spdu) result (assembled kind place octets.now) }
+{
+    let mut spdu = Spdu {
+        kind,
+        fields: NO_FIELDS,
+        octets: Octets::of(alloc, &[])?,
+    };
+    take_parts(alloc, place, octets, &mut spdu)?;
+    if let Some(row) = missing(spdu.kind, &spdu.fields) {
+        return Err(SpduError::Missing { code: row.code });
+    }
+    Ok(spdu)
+}
+
+/// The fields of an SPDU without parameters.
+pub(crate) const NO_FIELDS: SpduFields = SpduFields {
+    given: None,
+    abort: None,
+    units: None,
+    first: None,
+    tokens: None,
+    resync: None,
+    serial: None,
+    reason: None,
+};
+
+/// Where the second SPDU of a TSDU that `read` takes begins: behind the GT. The places of its faults of value and
+/// state are this one, those of the first SPDU's 0.
+pub fn second_place(tsdu: &[u8]) -> u32
+    ensures { result ≡ place_read tsdu.now }
+{
+    if tsdu.is_empty() {
+        return 0;
+    }
+    let (_, octets) = tsdu.split_at(1);
+    match value_at(0, octets) {
+        Ok((spelled, value, _)) => 1 + spelled as u32 + value.len() as u32,
+        Err(_) => 0,
+    }
+}
