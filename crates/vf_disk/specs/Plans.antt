@@ -1,7 +1,7 @@
 -- Which calls of a disk in memory are to fail (profile): those of certain numbers, counted from 1 over `len`, `read`,
 -- `write_at`, `cut` and `sync` together; a stopped write, cut or sync; and every call behind that one. A disk over
 -- the real world tells no plan.
-use Rattle.std.specs.Prelude.{◌≡◌, ℕ, ◌-◌, Bool, true, false, ◌||◌, nat_eq, nat_le, List, Option, None, Some}
+use Rattle.std.specs.Prelude.{◌≡◌, ℕ, ◌-◌, min, Bool, true, false, ◌||◌, nat_eq, nat_le, List, Option, None, Some}
 use Rattle.vf_base.specs.Plans.{FailurePlan, after_call, is_planned}
 
 -- the calls that are to fail by their numbers, and the number of writes, cuts and syncs up to and with the stopped
@@ -23,6 +23,11 @@ is_behind (Some left) = nat_eq left 0
 abbrev pub is_stopped : Option ℕ → Bool
 is_stopped None = false
 is_stopped (Some left) = nat_le left 1
+
+-- a stop at such a write, cut or sync from now on; one that is planned already may come sooner
+abbrev pub sooner : ℕ → Option ℕ → ℕ
+sooner call None = call
+sooner call (Some left) = min call left
 
 abbrev pub counted_down : Option ℕ → Option ℕ
 counted_down None = None

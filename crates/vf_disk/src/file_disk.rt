@@ -1,5 +1,5 @@
 //! A disk over a real file: the trusted edge, which tells its length and nothing of content.
-ghost use Rattle.std.specs.Prelude.{None, ◌≡◌, ◌≤◌};
+ghost use Rattle.std.specs.Prelude.{None, ◌≡◌, ◌≤◌, IfOk};
 ghost use Rattle.vf_base.specs.Faults.{HasRisen};
 ghost use Rattle.vf_disk.specs.Disk.{greatest_length};
 ghost use Rattle.vf_disk.specs.Moments.{measured_none};
@@ -11,11 +11,11 @@ use vf_base::Failed;
 
 const GREATEST_LENGTH: u64 = 9_223_372_036_854_775_807;
 
-/// A disk over a file that nobody else writes. After a sync that failed each later one fails too, since the system
+/// A disk over a file that nobody else writes. Where the file couldn't be opened each call fails. After a sync that failed each later one fails too, since the system
 /// may have dropped what it could not write.
 #[derive(Drop)]
 pub struct FileDisk {
-    file: fs::File,
+    file: Option<fs::File>,
     length: u64,
     resized: bool,
     unsure: bool,
@@ -26,20 +26,24 @@ pub struct FileDisk {
 
 impl FileDisk {
     /// Opens the file, and makes it where it is missing; a file that was made stands in its folder on the disk.
-    pub fn open(rt: &HostRuntime, path: &str) -> io::Result<FileDisk> {
-        let file = open_or_make(rt, path)?;
-        let length = file.metadata()?.len();
-        if length > GREATEST_LENGTH {
-            return Err(io::ErrorKind::InvalidInput.into());
+    pub fn open(rt: &HostRuntime, path: &str) -> FileDisk {
+        match open_measured(rt, path) {
+            Ok((file, length)) => FileDisk::over(Some(file), length),
+            Err(_) => FileDisk::over(None, 0),
         }
-        Ok(FileDisk {
+    }
+
+    fn over(file: Option<fs::File>, length: u64) -> FileDisk
+        requires { length ≤ greatest_length }
+    {
+        FileDisk {
             file,
             length,
             resized: true,
             unsure: false,
             broken: false,
             faults: 0,
-        })
+        }
     }
 
     fn fail(&mut self) -> Failed
@@ -65,18 +69,33 @@ impl FileDisk {
         ensures length { self.new.length ≡ self.old.length }
         ensures faults { self.new.faults ≡ self.old.faults }
     {
+        let Some(file) = &self.file else {
+            return Err(io::ErrorKind::NotFound.into());
+        };
         if self.unsure {
-            self.file.set_len(self.length)?;
+            file.set_len(self.length)?;
             self.unsure = false;
         }
         if self.resized {
-            self.file.sync_all()?;
+            file.sync_all()?;
             self.resized = false;
         } else {
-            self.file.sync_data()?;
+            file.sync_data()?;
         }
         Ok(())
     }
+}
+
+/// The file with its length.
+fn open_measured(rt: &HostRuntime, path: &str) -> io::Result<(fs::File, u64)>
+    ensures { IfOk result (λ opened. opened.1 ≤ greatest_length) }
+{
+    let file = open_or_make(rt, path)?;
+    let length = file.metadata()?.len();
+    if length > GREATEST_LENGTH {
+        return Err(io::ErrorKind::InvalidInput.into());
+    }
+    Ok((file, length))
 }
 
 fn open_or_make(rt: &HostRuntime, path: &str) -> io::Result<fs::File> {
@@ -128,11 +147,17 @@ impl Disk for FileDisk {
     ghost only_now = { λ disk image none. none };
 
     fn len(&mut self) -> Result<u64, Failed> {
+        if self.file.is_none() {
+            return Err(self.fail());
+        }
         Ok(self.length)
     }
 
     fn read(&mut self, at: u64, into: &mut [u8]) -> Result<(), Failed> {
-        if self.file.read_exact_at(into, at).is_err() {
+        let Some(file) = &self.file else {
+            return Err(self.fail());
+        };
+        if file.read_exact_at(into, at).is_err() {
             return Err(self.fail());
         }
         Ok(())
@@ -143,7 +168,10 @@ impl Disk for FileDisk {
         if count > GREATEST_LENGTH - at {
             return Err(self.fail());
         }
-        if self.file.write_all_at(octets, at).is_err() {
+        let Some(file) = &self.file else {
+            return Err(self.fail());
+        };
+        if file.write_all_at(octets, at).is_err() {
             return Err(self.fail_unsure());
         }
         if at + count > self.length {
@@ -154,7 +182,10 @@ impl Disk for FileDisk {
     }
 
     fn cut(&mut self, to: u64) -> Result<(), Failed> {
-        if self.file.set_len(to).is_err() {
+        let Some(file) = &self.file else {
+            return Err(self.fail());
+        };
+        if file.set_len(to).is_err() {
             return Err(self.fail_unsure());
         }
         self.length = to;

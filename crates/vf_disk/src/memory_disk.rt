@@ -4,7 +4,7 @@ ghost use Rattle.vf_disk.specs.Disk.{greatest_length, Torn, Shortened, Follows, 
 ghost use Rattle.vf_disk.specs.Memory.{IsImage, Keeps, Leaves, LeftSince, Memory, fresh, left_by, state, state_of, with_sync};
 ghost use Rattle.vf_disk.specs.declared.step.Step.TheVariants.{Wrote, CutTo, Synced};
 ghost use Rattle.vf_disk.specs.Moments.{measured_memory, counts_memory, only_memory};
-ghost use Rattle.vf_disk.specs.Plans.{ChangesWherePlanned, LooksAsPlanned, SyncsAsPlanned};
+ghost use Rattle.vf_disk.specs.Plans.{ChangesWherePlanned, LooksAsPlanned, SyncsAsPlanned, sooner};
 
 use crate::admitted::is_admitted;
 use crate::overwrite::overwrite;
@@ -73,11 +73,11 @@ impl MemoryDisk {
         self.octets.as_slice()
     }
 
-    /// Lets the `call`-th write, cut or sync from now, and every call after it, fail. A crash may leave that call
-    /// made; those after it leave no trace.
+    /// Lets the `call`-th write, cut or sync from now, and every call after it, fail, unless a stop that is planned
+    /// already comes sooner. A crash may leave the stopped call made; those after it leave no trace.
     pub fn stop(&mut self, call: u32)
         requires { 0 < call }
-        ensures { self.new ≡ record self.old { plan = record self.old.plan { until_stop = Some call } } }
+        ensures { self.new ≡ record self.old { plan = record self.old.plan { until_stop = Some (sooner call self.old.plan.until_stop) } } }
     {
         self.plan.stop(call);
     }

@@ -1,6 +1,6 @@
 //! Which calls of a disk in memory fail.
 ghost use Rattle.std.specs.Prelude.{◌≡◌, Some, IfOk};
-ghost use Rattle.vf_disk.specs.Plans.{after_change, after_look, change_fails, counted_down as nearer, is_behind as behind_test, is_stopped as stopped_test, look_fails, planned};
+ghost use Rattle.vf_disk.specs.Plans.{after_change, after_look, change_fails, counted_down as nearer, is_behind as behind_test, is_stopped as stopped_test, look_fails, planned, sooner as sooner_of};
 
 use std::alloc::Global;
 use std::marker::Model;
@@ -45,11 +45,11 @@ impl Plan {
         })
     }
 
-    /// Lets the `call`-th write, cut or sync from now, and every call after it, fail.
+    /// Lets the `call`-th write, cut or sync from now, and every call after it, fail, unless a stop comes sooner.
     pub(crate) fn stop(&mut self, call: u32)
-        ensures { self.new ≡ record self.old { until_stop = Some call } }
+        ensures { self.new ≡ record self.old { until_stop = Some (sooner_of call self.old.until_stop) } }
     {
-        self.until_stop = Some(call);
+        self.until_stop = Some(sooner(call, self.until_stop));
     }
 
     /// Whether the stopped call was made.
@@ -95,6 +95,15 @@ fn is_stopped(until_stop: Option<u32>) -> bool
     match until_stop {
         None => false,
         Some(left) => left <= 1,
+    }
+}
+
+fn sooner(call: u32, until_stop: Option<u32>) -> u32
+    ensures { result ≡ sooner_of call until_stop }
+{
+    match until_stop {
+        None => call,
+        Some(left) => call.min(left),
     }
 }
 

@@ -25,17 +25,25 @@ fn a_disk_in_memory_gives_what_was_written(rt: HostRuntime) -> Result<(), Fail> 
 fn a_disk_over_a_file_gives_what_was_written(rt: HostRuntime) -> Result<(), Fail> {
     let path = "vf_disk_test_store";
     let _ = fs::remove_file(&rt, path);
-    let mut disk = FileDisk::open(&rt, path)?;
+    let mut disk = FileDisk::open(&rt, path);
     assert!(rt; disk.write_at(0, b"abc") == Ok(()));
     assert!(rt; works(&mut disk) && disk.faults() == 0);
     drop(disk);
-    let mut disk = FileDisk::open(&rt, path)?;
+    let mut disk = FileDisk::open(&rt, path);
     let mut octets = [0; 3];
     if disk.len() == Ok(3) {
         assert!(rt; disk.read(0, &mut octets) == Ok(()));
     }
     assert!(rt; octets == *b"aXY");
     fs::remove_file(&rt, path)?;
+    Ok(())
+}
+
+#[test]
+fn a_disk_over_no_file_fails(rt: HostRuntime) -> Result<(), Fail> {
+    let mut disk = FileDisk::open(&rt, ".");
+    assert!(rt; disk.len().is_err() && disk.sync().is_err());
+    assert!(rt; disk.faults() == 2);
     Ok(())
 }
 
@@ -244,6 +252,7 @@ fn a_stop_leaves_the_old_value_or_the_new(rt: HostRuntime) -> Result<(), Fail> {
         for form in [CrashForm::Keep, CrashForm::Lose, CrashForm::Fill(9)] {
             let mut disk = MemoryDisk::of(alloc, &[0, 7, 0], Vec::new(alloc))?;
             disk.stop(stop);
+            disk.stop(stop + 1);
             let done = choose(&mut disk, 7, 8).is_ok();
             assert!(rt; done == (stop == 5));
             let left = disk.crash(form)?;
