@@ -1,4 +1,4 @@
-use crate::{AccessError, AttributeChange, ChangeError, File, Stamp, change, may};
+use crate::{AccessError, AttributeChange, File, Stamp, change, may};
 use std::alloc::Global;
 use std::test::Fail;
 use vf_base::{
@@ -7,120 +7,127 @@ use vf_base::{
 };
 use vf_tree::Tree;
 
-/// A term: whom it speaks of, what it grants, and the password that it needs; an empty text is an absent one.
+/// A term: whom it speaks of, what it grants, and the password that it needs; a dash where it has none.
 type Row = (&'static str, u8, &'static str);
 
-const READ: u8 = 1;
+/// Some lists of terms.
+fn list(which: u8) -> &'static [Row] {
+    match which {
+        0 => &[],
+        1 => &[("ann", 1, "pw")],
+        2 => &[("ann", 1, "pw"), ("-", 2, "-")],
+        3 => &[("ann", 1, "pw"), ("ann", 1, "pv"), ("bob", 2, "-")],
+        _ => &[("-", 1, "")],
+    }
+}
 
-const READ_AND_INSERT: u8 = 3;
+/// The diagnostic of the answer, 0 where the actions are granted.
+fn answer(alloc: Global, which: u8, who: &str, given: &str, actions: u8) -> Result<u8, BaseError> {
+    let file = file(alloc, list(which))?;
+    let who = Name::of(alloc, who.as_bytes())?;
+    let given = password_of(alloc, given)?;
+    let answer = may(&file, &who, given.as_ref(), Actions { value: actions });
+    Ok(number_of(answer))
+}
 
-const READ_ATTRIBUTE: u8 = 32;
+fn number_of(answer: Result<(), AccessError>) -> u8 {
+    match answer {
+        Ok(()) => 0,
+        Err(AccessError::NotPermitted) => 13,
+        Err(AccessError::Denied) => 14,
+        Err(AccessError::BadPassword) => 15,
+    }
+}
 
-/// Who may do what: the identity, the password that is given, the actions, and the answer.
+/// Who may do what: the list of terms, the identity, the password that is given, the actions, and the diagnostic. An
+/// empty password is a password, to which an empty one alone is equal.
 #[test]
 fn terms_grant_actions(rt: HostRuntime) -> Result<(), Fail> {
-    let alloc = rt.alloc();
-    let yes = Ok(());
-    let not_permitted = Err(AccessError::NotPermitted);
-    let denied = Err(AccessError::Denied);
-    let bad = Err(AccessError::BadPassword);
-    let of_ann: &[Row] = &[("ann", READ, "pw")];
-    let of_two: &[Row] = &[("ann", READ, "pw"), ("", 2, "")];
-    let of_two_passwords: &[Row] = &[("ann", READ, "pw"), ("ann", READ, "pv"), ("bob", 2, "")];
     let table = [
-        (of_ann, "ann", Some("pw"), READ, yes),
-        (of_ann, "ann", Some("pv"), READ, bad),
-        (of_ann, "ann", Some(""), READ, bad),
-        (of_ann, "ann", None, READ, bad),
-        (of_ann, "bob", Some("pw"), READ, denied),
-        (of_ann, "ann", Some("pw"), READ_ATTRIBUTE, denied),
-        (of_ann, "ann", Some("pv"), READ | READ_ATTRIBUTE, denied),
-        (of_ann, "bob", None, 0, yes),
-        (of_ann, "bob", None, 128, not_permitted),
-        (of_ann, "ann", Some("pw"), READ | 128, not_permitted),
-        (&[], "bob", None, READ_AND_INSERT, yes),
-        (&[], "bob", None, 127, yes),
-        (&[], "bob", None, 128, not_permitted),
-        (of_two, "ann", Some("pw"), READ_AND_INSERT, yes),
-        (of_two, "ann", Some("pv"), READ_AND_INSERT, bad),
-        (of_two, "ann", None, 2, yes),
-        (of_two, "bob", None, 2, yes),
-        (of_two, "bob", None, READ_AND_INSERT, denied),
-        (of_two_passwords, "ann", Some("pv"), READ, yes),
-        (of_two_passwords, "ann", Some("pw"), READ, yes),
-        (of_two_passwords, "ann", Some("pw"), READ_AND_INSERT, denied),
+        (1, "ann", "pw", 1, 0),
+        (1, "ann", "pv", 1, 15),
+        (1, "ann", "", 1, 15),
+        (1, "ann", "-", 1, 15),
+        (1, "bob", "pw", 1, 14),
+        (1, "ann", "pw", 32, 14),
+        (1, "ann", "pv", 33, 14),
+        (1, "bob", "-", 0, 0),
+        (1, "bob", "-", 128, 13),
+        (1, "ann", "pw", 129, 13),
+        (0, "bob", "-", 3, 0),
+        (0, "bob", "-", 127, 0),
+        (0, "bob", "-", 128, 13),
+        (2, "ann", "pw", 3, 0),
+        (2, "ann", "pv", 3, 15),
+        (2, "ann", "-", 2, 0),
+        (2, "bob", "-", 2, 0),
+        (2, "bob", "-", 3, 14),
+        (3, "ann", "pv", 1, 0),
+        (3, "ann", "pw", 1, 0),
+        (3, "ann", "pw", 3, 14),
+        (4, "ann", "", 1, 0),
+        (4, "ann", "pw", 1, 15),
+        (4, "ann", "-", 1, 15),
     ];
-    for (terms, who, given, actions, answer) in table {
-        let file = file(alloc, terms)?;
-        let who = Name::of(alloc, who.as_bytes())?;
-        let given = match given {
-            Some(text) => Some(Octets::of(alloc, text.as_bytes())?),
-            None => None,
-        };
-        let heard = may(&file, &who, given.as_ref(), Actions { value: actions });
-        assert!(rt; heard == answer, "{actions}");
+    for (which, who, given, actions, number) in table {
+        assert!(rt;
+            answer(rt.alloc(), which, who, given, actions)? == number,
+            "{actions}"
+        );
     }
     Ok(())
 }
 
-/// An empty password is a password: an empty one alone is equal to it.
-#[test]
-fn empty_passwords_are_passwords(rt: HostRuntime) -> Result<(), Fail> {
-    let alloc = rt.alloc();
-    let mut file = file(alloc, &[])?;
-    file.terms.push(Term {
-        identity: None,
-        actions: Actions { value: READ },
-        password: Some(Octets::of(alloc, b"")?),
-    })?;
-    let who = Name::of(alloc, b"ann")?;
-    let read = Actions { value: READ };
-    let empty = Octets::of(alloc, b"")?;
-    let other = Octets::of(alloc, b"pw")?;
-    let bad = Err(AccessError::BadPassword);
-    assert_eq!(rt; may(&file, &who, Some(&empty), read), Ok(()));
-    assert_eq!(rt; may(&file, &who, Some(&other), read), bad);
-    assert_eq!(rt; may(&file, &who, None, read), bad);
-    Ok(())
+/// No attribute, or each of them; `others` is its own.
+fn wanted(alloc: Global, all: bool, others: u16) -> Result<AttributeChange, BaseError> {
+    if !all {
+        return Ok(AttributeChange {
+            name: None,
+            permitted: None,
+            terms: None,
+            others,
+        });
+    }
+    let name = Name::of(alloc, b"b")?;
+    Ok(AttributeChange {
+        name: Some(name),
+        permitted: Some(Actions { value: 1 }),
+        terms: Some(Sequence::new(alloc)),
+        others,
+    })
+}
+
+/// Whether bob's change at moment 7 is made, and the file then has this name, these permitted actions, so many terms,
+/// and his stamp where that is said.
+fn leaves(
+    alloc: Global,
+    change_wanted: &AttributeChange,
+    name: &[u8],
+    permitted: u8,
+    terms: usize,
+    stamped: bool,
+) -> Result<bool, BaseError> {
+    let mut file = file(alloc, list(1))?;
+    let bob = Name::of(alloc, b"bob")?;
+    let moment = Moment::of(7)?;
+    let made = change(alloc, &mut file, &bob, moment, change_wanted).is_ok();
+    let same = file.name.as_slice() == name
+        && file.permitted.value == permitted
+        && file.terms.len() == terms;
+    Ok(made == stamped && same && is_stamp(&file.changed, 7, b"bob") == stamped)
 }
 
 /// A change sets its own attributes and the stamp; without attributes the stamp alone; after a refusal nothing.
 #[test]
 fn changes_set_their_attributes(rt: HostRuntime) -> Result<(), Fail> {
     let alloc = rt.alloc();
-    let mut file = file(alloc, &[("ann", READ, "pw")])?;
-    let bob = Name::of(alloc, b"bob")?;
-    let nothing = AttributeChange {
-        name: None,
-        permitted: None,
-        terms: None,
-        others: 0,
-    };
-    assert_eq!(rt;
-        change(alloc, &mut file, &bob, Moment::of(7)?, &nothing),
-        Ok(())
-    );
-    assert!(rt; file.name.as_slice() == b"a".as_slice() && file.terms.len() == 1);
-    assert!(rt; is_stamp(&file.changed, 7, b"bob") && file.permitted.value == 127);
-    let mut whole = AttributeChange {
-        name: Some(Name::of(alloc, b"b")?),
-        permitted: Some(Actions { value: READ }),
-        terms: Some(terms(alloc, &[])?),
-        others: 1,
-    };
-    let refused = change(alloc, &mut file, &bob, Moment::of(8)?, &whole);
-    assert_eq!(rt; refused, Err(ChangeError::Unsupported));
-    assert!(rt; file.name.as_slice() == b"a".as_slice() && is_stamp(&file.changed, 7, b"bob"));
-    whole.others = 0;
-    let whole = whole.copy(alloc)?;
-    let ann = Name::of(alloc, b"ann")?;
-    assert_eq!(rt;
-        change(alloc, &mut file, &ann, Moment::of(9)?, &whole),
-        Ok(())
-    );
-    assert!(rt; file.name.as_slice() == b"b".as_slice() && file.terms.len() == 0);
-    assert!(rt; is_stamp(&file.changed, 9, b"ann") && file.permitted.value == READ);
-    assert!(rt; file.version == 1 && file.created.moment.seconds() == 5);
+    let nothing = wanted(alloc, false, 0)?;
+    assert!(rt; leaves(alloc, &nothing, b"a", 127, 1, true)?);
+    let refused = wanted(alloc, true, 1)?;
+    assert!(rt; leaves(alloc, &refused, b"a", 127, 1, false)?);
+    let whole = wanted(alloc, true, 0)?;
+    let copied = whole.copy(alloc)?;
+    assert!(rt; leaves(alloc, &copied, b"b", 1, 0, true)?);
     Ok(())
 }
 
@@ -128,7 +135,7 @@ fn changes_set_their_attributes(rt: HostRuntime) -> Result<(), Fail> {
 #[test]
 fn copies_share_their_tree(rt: HostRuntime) -> Result<(), Fail> {
     let alloc = rt.alloc();
-    let file = file(alloc, &[("ann", READ, "pw"), ("", 2, "")])?;
+    let file = file(alloc, &[("ann", 1, "pw"), ("-", 2, "-")])?;
     let mut copy = file.copy(alloc)?;
     assert!(rt; copy.name == file.name && copy.terms.len() == 2 && copy.version == 1);
     assert!(rt;
@@ -179,7 +186,7 @@ fn file(alloc: Global, rows: &[Row]) -> Result<File, BaseError> {
 fn terms(alloc: Global, rows: &[Row]) -> Result<Terms, BaseError> {
     let mut terms = Sequence::new(alloc);
     for (identity, actions, password) in rows {
-        let identity = if identity.is_empty() {
+        let identity = if *identity == "-" {
             None
         } else {
             Some(Name::of(alloc, identity.as_bytes())?)
@@ -195,7 +202,7 @@ fn terms(alloc: Global, rows: &[Row]) -> Result<Terms, BaseError> {
 }
 
 fn password_of(alloc: Global, text: &str) -> Result<Option<Octets>, NoMemory> {
-    if text.is_empty() {
+    if text == "-" {
         return Ok(None);
     }
     let octets = Octets::of(alloc, text.as_bytes())?;
