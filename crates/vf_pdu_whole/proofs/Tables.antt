@@ -1,0 +1,34 @@
+-- The tags of each row rise, and each default is in range.
+use Rattle.std.proofs.Common.{◌≡◌, ℕ, zero, suc, ◌+◌, Bool, true, List, [], ◌∷◌, refl, get_or}
+use Rattle.std.specs.Prelude.{◌&&◌, nat_le}
+use Rattle.std.specs.List.{list_all}
+use Rattle.vf_pdu_whole.specs.Meaning.{fits}
+use Rattle.vf_pdu_whole.specs.Rows.{Need, required, optional, default, Form, one, sequence, list, Row, end, field, rows, row_of}
+use Rattle.vf_pdu_whole.proofs.Plain.{both_true}
+
+abbrev pub is_usual : Form → Need → Bool
+is_usual form required = true
+is_usual form optional = true
+is_usual form (default content) = fits form content
+
+abbrev mutual
+  pub is_form : Form → Bool
+  is_form (one simple) = true
+  is_form (sequence row) = is_table 0 row
+  is_form (list row) = is_table 0 row
+
+  pub is_table : ℕ → Row → Bool
+  is_table least end = true
+  is_table least (field number form need row) = nat_le least number && (is_form form && (is_usual form need && is_table (number + 1) row))
+
+all_tables : list_all (is_table 0) rows ≡ true
+all_tables = refl
+
+table_at : (all : List Row) → list_all (is_table 0) all ≡ true → (n : ℕ) → is_table 0 (get_or all n end) ≡ true
+table_at [] e n = refl
+table_at (first ∷ all) e zero = (both_true (is_table 0 first) (list_all (is_table 0) all) e).0
+table_at (first ∷ all) e (suc n) = table_at all (both_true (is_table 0 first) (list_all (is_table 0) all) e).1 n
+
+pub row_is_table : (n : ℕ) → is_table 0 (row_of n) ≡ true
+unfolding row_of
+row_is_table n = table_at rows all_tables n
