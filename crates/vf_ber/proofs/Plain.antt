@@ -18,7 +18,7 @@ use Rattle.vf_ber.proofs.SizeSteps as sizes
 use Rattle.vf_ber.proofs.OneTree.{spelling_long}
 use Rattle.vf_ber.proofs.Verdicts.{spelling_from, none_short, whole_read, bad_verdict, deep_verdict, long_verdict}
 
-abbrev IsReal : Fault → Type 0
+abbrev pub IsReal : Fault → Type 0
 IsReal faults.Short = Unit {0}
 IsReal (faults.Bad left) = Unit {0}
 IsReal (faults.Deep left) = Unit {0}
@@ -26,7 +26,7 @@ IsReal (faults.Long left) = Unit {0}
 IsReal faults.NoMemory = ⊥
 
 -- what is answered on octets, memory aside
-abbrev Answers : {X : Type 0} → Language X → List ℕ → Reads X → Type 0
+abbrev pub Answers : {X : Type 0} → Language X → List ℕ → Reads X → Type 0
 Answers L octets (Ok x) = Got L octets x.0 x.1
 Answers L octets (Err fault) = Failed L octets fault × IsReal fault
 
@@ -202,7 +202,7 @@ size_answers most room front constructed (first ∷ octets) roomy =
 
 -- ---- values in turn
 
-abbrev IsReader : ℕ → Reader → Type 0
+abbrev pub IsReader : ℕ → Reader → Type 0
 IsReader most value = (room : Room) (first : ℕ) (octets : List ℕ) → Answers (Values most room) (first ∷ octets) (value room (first ∷ octets))
 
 part_passed : (most len turns first : ℕ) (octets : List ℕ) (value : Reader) (r : Reads Tree) → 0 < len → len ≤ suc turns → len ≢ 1 → (0 < len → 0 < most)
@@ -340,7 +340,7 @@ name_then most inner room octets (Ok x) reads g =
         last y.0 y.1 (contents_at inner room (length octets - length y.1) x.0 y.0 y.1) s
         (contents_answers most inner room (length octets - length y.1) x.0.tag x.0.constructed y.0 y.1 (reads named.1) sized.1)
 
-value_answers : (most : ℕ) → IsReader most (value_at most)
+pub value_answers : (most : ℕ) → IsReader most (value_at most)
 unfolding value_at
 value_answers zero room first octets =
     name_then zero (λ inside others. Err faults.Short) room (first ∷ octets) (name_at zero room (first ∷ octets)) (λ h. absurd cc) (name_answers zero room first octets)

@@ -6,7 +6,7 @@ ghost use Rattle.vf_ber.specs.Steps.{fault_of, fills, first_fits, fits as room_f
 use crate::fault::Fault;
 use crate::room::{Asked, Room};
 
-/// What is left of the room when so many octets are taken.
+/// What is left of the room when so many octets are taken, and nothing where it has fewer.
 pub fn less(room: Room, n: u64) -> Room
     ensures { result ≡ less_of room n }
 {
@@ -70,7 +70,9 @@ fn fault(free: bool, shallow: bool, left: usize) -> Fault
     }
 }
 
-fn is_first(asked: Asked, depth: u32, room: Room, octet: u8) -> bool
+/// Whether a value may begin with this identifier octet, in a room, where values of so much depth are allowed
+/// (ISO 8825, 8.1.2; limits of this profile).
+pub fn is_first(asked: Asked, depth: u32, room: Room, octet: u8) -> bool
     ensures { result ≡ first_fits (limits_of asked) depth room octet }
 {
     octet != 0
@@ -92,7 +94,9 @@ pub fn check_first(depth: u32, room: Room, octet: u8, left: usize) -> Result<(),
     Err(fault(free, shallow, left))
 }
 
-fn is_second(asked: Asked, room: Room, octet: u8) -> bool
+/// Whether the long form of an identifier may go on with this octet behind the first, in the value's room
+/// (ISO 8825, 8.1.2.4; numbers up to 16,383 are profile).
+pub fn is_second(asked: Asked, room: Room, octet: u8) -> bool
     ensures { result ≡ second_fits (limits_of asked) room octet }
 {
     octet >= 31 && octet != 128 && is_roomy(asked, room, if octet < 128 { 3 } else { 4 })
@@ -115,9 +119,13 @@ pub fn check_second(room: Room, octet: u8, left: usize) -> Result<(), Fault>
 /// they are values.
 #[derive(Clone, Copy)]
 pub struct Around {
+    /// How deep the value may be: 32 for an outermost one.
     pub depth: u32,
+    /// How many octets the value may take.
     pub room: Room,
+    /// The octets of the identifier, or of the identifier and the length.
     pub front: u64,
+    /// Whether the contents are values.
     pub constructed: bool,
 }
 
@@ -178,8 +186,9 @@ fn is_filled(asked: Asked, around: Around, more: u32, high: u64) -> bool
     }
 }
 
-/// Whether some length with these octets in front of `more` others is allowed.
-fn is_reached(asked: Asked, around: Around, more: u32, high: u64) -> bool
+/// Whether some length with these octets in front of `more` others is allowed, where `around` counts all octets of
+/// the identifier and the length as those in front, 12 at most (ISO 8825, 8.1.3.5).
+pub fn is_reached(asked: Asked, around: Around, more: u32, high: u64) -> bool
     requires front { around.front ≤ 12 }
     requires small { grown_of more high < 2 ^ 64 }
     ensures { result ≡ reaches (limits_of asked) around.depth around.room around.front around.constructed more high }
@@ -202,8 +211,9 @@ pub fn check_digit(around: Around, more: u32, high: u64, left: usize) -> Result<
     Err(fault(free, shallow, left))
 }
 
-/// Whether a length may begin with this octet, behind an identifier.
-fn is_length(asked: Asked, around: Around, octet: u8) -> bool
+/// Whether a length may begin with this octet, where `around` counts the octets of the identifier as those in
+/// front, 3 at most (ISO 8825, 8.1.3; eight octets at most behind the first are profile).
+pub fn is_length(asked: Asked, around: Around, octet: u8) -> bool
     requires { around.front ≤ 3 }
     ensures { result ≡ length_fits (limits_of asked) around.depth around.room around.front around.constructed octet }
 {

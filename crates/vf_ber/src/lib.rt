@@ -21,12 +21,14 @@ pub use contents_laws::{
     booleans_are_read, integers_are_read, integers_are_spelled, oids_are_read, oids_are_spelled,
 };
 pub use errors::{BerError, WriteError};
+pub use fitting::{Around, is_first, is_length, is_reached, is_second, less};
 pub use laws::{
     no_spelling_goes_on, octets_have_a_verdict, octets_have_one_verdict, octets_spell_one_value,
     written_is_read_again,
 };
 pub use primitive::{boolean, integer, oid};
 pub use reader::read;
+pub use room::{Asked, Room};
 pub use segments::octets;
 pub use tag::Tag;
 pub use value::{Value, Values};
@@ -34,6 +36,8 @@ pub use writing::write;
 
 #[cfg(test)]
 mod contents_tests;
+#[cfg(test)]
+mod fitting_tests;
 #[cfg(test)]
 mod reader_tests;
 #[cfg(test)]

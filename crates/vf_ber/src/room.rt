@@ -3,8 +3,11 @@
 /// Which limits are asked for: none, that of depth alone, or that of length too.
 #[derive(Clone, Copy)]
 pub enum Asked {
+    /// None.
     Free,
+    /// That of depth.
     Shallow,
+    /// That of depth and that of length.
     Bounded,
 }
 
