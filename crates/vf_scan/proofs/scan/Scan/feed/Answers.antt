@@ -1,0 +1,27 @@
+use Rattle.std.proofs.Common.{◌≤◌, ◌+◌, ap, arith, length, subst, take, drop, ℕ, List, ◌++◌}
+use Rattle.std.specs.Prelude.{Option, None, Some}
+use Rattle.vf_scan.specs.declared.place.Place.{Place}
+use Rattle.vf_scan.specs.Wanting.{wanting, Leads}
+use Rattle.vf_scan.proofs.VerdictLemmas.{Fed, fed_ended, fed_more, new_ahead, new_short}
+use Rattle.vf_scan.proofs.scan.Scan.feed.Goals as goal
+
+pub returns-in_default-clause-fed : goal.returns-in_default-clause-fed
+returns-in_default-clause-fed c = λ octets has.
+    let self = c.loop-taken.self in
+    let leads = subst (λ (p : Option Place). Leads (λ more. wanting self.place self.frames (take c.behind-n.result.0 c.split_at.result.1.now ++ more)) p c.behind-n.new.frames) c.in_default.is c.behind-n.ensures.leads in
+    fed_ended c.args.self.now self.place self.frames c.behind-n.new.frames octets c.args.piece.now c.split_at.result.1.now c.loop-taken.taken c.behind-n.result.0
+    c.loop-taken.invariant.fed c.split_at.ensures.back c.behind-n.ensures.short leads has
+
+pub loop-taken-preserved : goal.loop-taken-preserved
+loop-taken-preserved c =
+    let self = c.loop-taken.self in
+    let leads = subst (λ (p : Option Place). Leads (λ more. wanting self.place self.frames (take c.behind-n.result.0 c.split_at.result.1.now ++ more)) p c.behind-n.new.frames) c.in-Some.is c.behind-n.ensures.leads in
+    record {
+      within = omega (arith, c.behind-n.ensures.within, c.split_at.ensures.back_len);
+      fed =
+          fed_more c.args.self.now self.place c.in-Some.place self.frames c.behind-n.new.frames c.args.piece.now c.split_at.result.1.now c.loop-taken.taken c.behind-n.result.0
+          c.loop-taken.invariant.fed c.split_at.ensures.back c.behind-n.ensures.short leads;
+    }
+
+pub returns-in_default-clause-anew : goal.returns-in_default-clause-anew
+returns-in_default-clause-anew c = record { short = new_short c.new-self.result c.new-self.ensures; ahead = new_ahead c.new-self.result c.new-self.ensures }

@@ -1,0 +1,37 @@
+use vf_ber::Room;
+
+/// Where the octets have come to in a value.
+#[derive(Clone, Copy)]
+pub enum Place {
+    /// Where a value begins, or the end of the contents around.
+    Start,
+    /// Behind the first octet of an identifier in the long form.
+    Second {
+        constructed: bool,
+    },
+    /// Behind the second octet of one, with a third to come.
+    Third {
+        constructed: bool,
+    },
+    /// Behind an identifier of so many octets.
+    Length {
+        constructed: bool,
+        front: u64,
+    },
+    /// In a length, with the number that its octets so far make and so many others to come. Identifier and length
+    /// take `front` octets.
+    Digits {
+        constructed: bool,
+        front: u64,
+        more: u32,
+        high: u64,
+    },
+    /// In the contents of a primitive value, of which so many octets are to come.
+    Contents {
+        left: u64,
+    },
+    /// Behind the first octet of the end of contents of a value, in which so much room was left before it.
+    End {
+        room: Room,
+    },
+}
