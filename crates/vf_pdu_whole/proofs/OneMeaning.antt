@@ -2,20 +2,21 @@
 use Rattle.std.proofs.Common.{◌≡◌, ℕ, ◌≤◌, Bool, true, List, [], ◌∷◌, refl, ap, sym, ◌∙◌, rules, arith}
 use Rattle.std.specs.Prelude.{Some, None, IsTrue, nat_le}
 use Rattle.vf_ber.specs.Tree.{Tree, built, Trees, root}
-use Rattle.vf_pdu_whole.specs.Content.{Slot, Slots, nil, present, absent, slots}
-use Rattle.vf_pdu_whole.specs.Faults.{fault}
+use Rattle.vf_fields.specs.Content.{Slot, Slots, nil, present, absent, slots}
+use Rattle.vf_pdu_whole.specs.PduFaults.{fault}
 use Rattle.vf_pdu_whole.specs.Laws.{MeaningIsOne, MeaningHasNoFault}
-use Rattle.vf_pdu_whole.specs.Meaning.{context, Means, all_fit}
-use Rattle.vf_pdu_whole.specs.Reading.{parts_of, shapes}
-use Rattle.vf_pdu_whole.specs.Rows.{row_of}
-use Rattle.vf_pdu_whole.specs.Slots.{number_of, slots_of}
+use Rattle.vf_fields.specs.Meaning.{context, all_fit}
+use Rattle.vf_pdu_whole.specs.PduMeaning.{Means}
+use Rattle.vf_fields.specs.Reading.{parts_of, shapes}
+use Rattle.vf_pdu_whole.specs.PduRows.{row_of}
+use Rattle.vf_pdu_whole.specs.PduSlots.{number_of, slots_of}
 use Rattle.vf_pdu_whole.specs.declared.pdu.Pdu.{Pdu}
 use Rattle.vf_pdu_whole.specs.declared.pdu.Pdu.TheVariants.{InitializeRequest, InitializeResponse, TerminateRequest, TerminateResponse, UserAbort, ProviderAbort, SelectRequest, SelectResponse, DeselectRequest, DeselectResponse, CreateRequest, CreateResponse, DeleteRequest, DeleteResponse, ReadAttribRequest, ReadAttribResponse, ChangeAttribRequest, ChangeAttribResponse, OpenRequest, OpenResponse, CloseRequest, CloseResponse, BeginGroupRequest, BeginGroupResponse, EndGroupRequest, EndGroupResponse, RecoverRequest, RecoverResponse, LocateRequest, LocateResponse, EraseRequest, EraseResponse, ReadRequest, WriteRequest, DataEnd, TransferEndRequest, TransferEndResponse, CancelRequest, CancelResponse, RestartRequest, RestartResponse}
 use Rattle.vf_pdu_whole.proofs.Answering.{fault_is}
-use Rattle.vf_pdu_whole.proofs.Complete.{holds_shapes}
-use Rattle.vf_pdu_whole.proofs.FirstFaults.{told}
-use Rattle.vf_pdu_whole.proofs.Nested.{shapes_read}
-use Rattle.vf_pdu_whole.proofs.Plain.{some_is}
+use Rattle.vf_fields.proofs.Complete.{holds_shapes}
+use Rattle.vf_fields.proofs.FirstFaults.{told}
+use Rattle.vf_fields.proofs.Nested.{shapes_read}
+use Rattle.vf_fields.proofs.Plain.{some_is}
 use Rattle.vf_pdu_whole.proofs.Tables.{row_is_table}
 
 known : (pdu : Pdu) → nat_le (number_of pdu) 40 ≡ true

@@ -1,25 +1,10 @@
--- The tags of each row rise, and each default is in range.
-use Rattle.std.proofs.Common.{◌≡◌, ℕ, zero, suc, ◌+◌, Bool, true, List, [], ◌∷◌, refl, get_or}
-use Rattle.std.specs.Prelude.{◌&&◌, nat_le}
+-- The tags of each PDU's row rise, and each default is in range.
+use Rattle.std.proofs.Common.{◌≡◌, ℕ, zero, suc, true, List, [], ◌∷◌, refl, get_or}
 use Rattle.std.specs.List.{list_all}
-use Rattle.vf_pdu_whole.specs.Meaning.{fits}
-use Rattle.vf_pdu_whole.specs.Rows.{Need, required, optional, default, Form, one, sequence, list, Row, end, field, rows, row_of}
-use Rattle.vf_pdu_whole.proofs.Plain.{both_true}
-
-abbrev pub is_usual : Form → Need → Bool
-is_usual form required = true
-is_usual form optional = true
-is_usual form (default content) = fits form content
-
-abbrev mutual
-  pub is_form : Form → Bool
-  is_form (one simple) = true
-  is_form (sequence row) = is_table 0 row
-  is_form (list row) = is_table 0 row
-
-  pub is_table : ℕ → Row → Bool
-  is_table least end = true
-  is_table least (field number form need row) = nat_le least number && (is_form form && (is_usual form need && is_table (number + 1) row))
+use Rattle.vf_fields.specs.Rows.{Row, end}
+use Rattle.vf_fields.proofs.Plain.{both_true}
+use Rattle.vf_fields.proofs.Tables.{is_table}
+use Rattle.vf_pdu_whole.specs.PduRows.{rows, row_of}
 
 all_tables : list_all (is_table 0) rows ≡ true
 all_tables = refl

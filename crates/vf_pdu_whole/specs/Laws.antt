@@ -1,12 +1,15 @@
 -- How values, PDUs and faults agree.
 use Rattle.std.specs.Prelude.{◌≡◌, ℕ, None, Some}
 use Rattle.vf_ber.specs.Tree.{Tree}
-use Rattle.vf_pdu_whole.specs.Content.{Content}
-use Rattle.vf_pdu_whole.specs.Faults.{fault, form_of}
-use Rattle.vf_pdu_whole.specs.Meaning.{Has, Means}
-use Rattle.vf_pdu_whole.specs.Reading.{shape}
-use Rattle.vf_pdu_whole.specs.Rows.{Form, row_of}
-use Rattle.vf_pdu_whole.specs.Slots.{number_of, slots_of}
+use Rattle.vf_fields.specs.Content.{Content}
+use Rattle.vf_fields.specs.Faults.{form_of}
+use Rattle.vf_pdu_whole.specs.PduFaults.{fault}
+use Rattle.vf_fields.specs.Meaning.{Has}
+use Rattle.vf_pdu_whole.specs.PduMeaning.{Means}
+use Rattle.vf_fields.specs.Reading.{shape}
+use Rattle.vf_fields.specs.Rows.{Form}
+use Rattle.vf_pdu_whole.specs.PduRows.{row_of}
+use Rattle.vf_pdu_whole.specs.PduSlots.{number_of, slots_of}
 use Rattle.vf_pdu_whole.specs.declared.pdu.Pdu.{Pdu}
 
 -- a value that means a PDU has no fault

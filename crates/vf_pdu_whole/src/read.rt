@@ -1,15 +1,16 @@
 //! Values as PDUs.
 ghost use Rattle.std.specs.Prelude.{◌≡◌, ◌≤◌, ◌<◌, ◌^◌, [], ◌∷◌, IfOk, IfErr, length};
 ghost use Rattle.vf_ber.specs.Views.{tree_of, trees_in};
-ghost use Rattle.vf_pdu_whole.specs.Faults.{fault};
-ghost use Rattle.vf_pdu_whole.specs.Meaning.{Means};
-ghost use Rattle.vf_pdu_whole.specs.Reading.{reading};
-ghost use Rattle.vf_pdu_whole.specs.Results.{Gives, Names, Reads};
-ghost use Rattle.vf_pdu_whole.specs.Rows.{answer as answer_row, bare as bare_row, row_of};
-ghost use Rattle.vf_pdu_whole.specs.Slots.{maybe_diagnostic, number_of, slots_of};
+ghost use Rattle.vf_pdu_whole.specs.PduFaults.{fault};
+ghost use Rattle.vf_pdu_whole.specs.PduMeaning.{Means};
+ghost use Rattle.vf_fields.specs.Reading.{reading};
+ghost use Rattle.vf_fields.specs.Results.{Gives, Names};
+ghost use Rattle.vf_pdu_whole.specs.PduResults.{Reads};
+ghost use Rattle.vf_pdu_whole.specs.PduRows.{answer as answer_row, bare as bare_row, row_of};
+ghost use Rattle.vf_fields.specs.Slots.{maybe_diagnostic};
+ghost use Rattle.vf_pdu_whole.specs.PduSlots.{number_of, slots_of};
 
-use crate::diagnostic::diagnostic;
-use crate::parts::end;
+use crate::Pdu;
 use crate::read_files::{
     change_attrib_request, create_request, open_request, open_response, read_attrib_response,
 };
@@ -21,10 +22,10 @@ use crate::read_transfer::{
     erase_request, locate_request, locate_response, read_request, recover_request,
     recover_response, restart_request, restart_response, write_request,
 };
-use crate::{Pdu, PduError};
 use std::alloc::Global;
 use vf_base::Diagnostic;
 use vf_ber::Value;
+use vf_fields::{PduError, diagnostic, end};
 
 /// The PDU that the value means (ISO 8571-4). `Unknown` comes exactly where the value isn't constructed of context
 /// class with a number of 0 to 40. Else the first faulty part decides: `Field` with its place, from 0 on, where its
@@ -64,7 +65,7 @@ fn read_fields(alloc: Global, number: u16, parts: &[Value]) -> Result<Pdu, PduEr
     }
 }
 
-#[tactic(auto, unfolding(crate::specs::Rows::row_of))]
+#[tactic(auto, unfolding(crate::specs::PduRows::row_of))]
 fn association_fields(alloc: Global, number: u16, parts: &[Value]) -> Result<Pdu, PduError>
     requires few { length parts.now < 2 ^ 32 }
     requires to { number ≤ 5 }
@@ -80,7 +81,7 @@ fn association_fields(alloc: Global, number: u16, parts: &[Value]) -> Result<Pdu
     }
 }
 
-#[tactic(auto, unfolding(crate::specs::Rows::row_of))]
+#[tactic(auto, unfolding(crate::specs::PduRows::row_of))]
 fn selection_fields(alloc: Global, number: u16, parts: &[Value]) -> Result<Pdu, PduError>
     requires few { length parts.now < 2 ^ 32 }
     requires from { 6 ≤ number }
@@ -111,7 +112,7 @@ fn selection_fields(alloc: Global, number: u16, parts: &[Value]) -> Result<Pdu, 
     }
 }
 
-#[tactic(auto, unfolding(crate::specs::Rows::row_of))]
+#[tactic(auto, unfolding(crate::specs::PduRows::row_of))]
 fn attribute_fields(alloc: Global, number: u16, parts: &[Value]) -> Result<Pdu, PduError>
     requires few { length parts.now < 2 ^ 32 }
     requires from { 14 ≤ number }
@@ -136,7 +137,7 @@ fn attribute_fields(alloc: Global, number: u16, parts: &[Value]) -> Result<Pdu, 
     }
 }
 
-#[tactic(auto, unfolding(crate::specs::Rows::row_of))]
+#[tactic(auto, unfolding(crate::specs::PduRows::row_of))]
 fn group_fields(number: u16, parts: &[Value]) -> Result<Pdu, PduError>
     requires few { length parts.now < 2 ^ 32 }
     requires from { 22 ≤ number }
@@ -153,7 +154,7 @@ fn group_fields(number: u16, parts: &[Value]) -> Result<Pdu, PduError>
     }
 }
 
-#[tactic(auto, unfolding(crate::specs::Rows::row_of))]
+#[tactic(auto, unfolding(crate::specs::PduRows::row_of))]
 fn access_fields(number: u16, parts: &[Value]) -> Result<Pdu, PduError>
     requires few { length parts.now < 2 ^ 32 }
     requires from { 28 ≤ number }
@@ -173,7 +174,7 @@ fn access_fields(number: u16, parts: &[Value]) -> Result<Pdu, PduError>
     }
 }
 
-#[tactic(auto, unfolding(crate::specs::Rows::row_of))]
+#[tactic(auto, unfolding(crate::specs::PduRows::row_of))]
 fn transfer_fields(number: u16, parts: &[Value]) -> Result<Pdu, PduError>
     requires few { length parts.now < 2 ^ 32 }
     requires from { 34 ≤ number }

@@ -1,20 +1,17 @@
 //! Reading the PDUs with contents types, access control lists and attributes.
 ghost use Rattle.std.specs.Prelude.{◌<◌, ◌^◌, length};
 ghost use Rattle.vf_ber.specs.Views.{trees_in};
-ghost use Rattle.vf_pdu_whole.specs.Results.{Reads};
-ghost use Rattle.vf_pdu_whole.specs.Rows.{change_attrib_request as change_attrib_request_row, create_request as create_request_row, open_request as open_request_row, open_response as open_response_row, read_attrib_response as read_attrib_response_row};
+ghost use Rattle.vf_pdu_whole.specs.PduResults.{Reads};
+ghost use Rattle.vf_pdu_whole.specs.PduRows.{change_attrib_request as change_attrib_request_row, create_request as create_request_row, open_request as open_request_row, open_response as open_response_row, read_attrib_response as read_attrib_response_row};
 
-use crate::attributes_read::attributes;
-use crate::contents::contents;
-use crate::diagnostic::diagnostic;
-use crate::fields::{attribute_controls, content_controls, natural, natural_or, string, text};
-use crate::numbers::{actions_of, small};
-use crate::parts::end;
-use crate::terms::{terms, terms_or_none};
-use crate::{Pdu, PduError};
+use crate::Pdu;
 use std::alloc::Global;
 use vf_base::Actions;
 use vf_ber::Value;
+use vf_fields::{
+    PduError, actions_of, attribute_controls, attributes, content_controls, contents, diagnostic,
+    end, natural, natural_or, small, string, terms, terms_or_none, text,
+};
 
 pub(crate) fn create_request(alloc: Global, parts: &[Value]) -> Result<Pdu, PduError>
     requires { length parts.now < 2 ^ 32 }

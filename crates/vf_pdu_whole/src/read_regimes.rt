@@ -1,16 +1,14 @@
 //! Reading the PDUs of associations, selections and opens.
 ghost use Rattle.std.specs.Prelude.{◌<◌, ◌^◌, length};
 ghost use Rattle.vf_ber.specs.Views.{trees_in};
-ghost use Rattle.vf_pdu_whole.specs.Results.{Reads};
-ghost use Rattle.vf_pdu_whole.specs.Rows.{begin_group_request as begin_group_request_row, initialize_request as initialize_request_row, initialize_response as initialize_response_row, provider_abort as provider_abort_row, read_attrib_request as read_attrib_request_row, select_request as select_request_row, user_abort as user_abort_row};
+ghost use Rattle.vf_pdu_whole.specs.PduResults.{Reads};
+ghost use Rattle.vf_pdu_whole.specs.PduRows.{begin_group_request as begin_group_request_row, initialize_request as initialize_request_row, initialize_response as initialize_response_row, provider_abort as provider_abort_row, read_attrib_request as read_attrib_request_row, select_request as select_request_row, user_abort as user_abort_row};
 
-use crate::diagnostic::diagnostic;
-use crate::fields::{attribute_controls, natural, natural_or, string, text};
-use crate::parts::end;
-use crate::{Pdu, PduError};
+use crate::Pdu;
 use std::alloc::Global;
 use vf_base::Actions;
 use vf_ber::Value;
+use vf_fields::{PduError, attribute_controls, diagnostic, end, natural, natural_or, string, text};
 
 pub(crate) fn initialize_request(alloc: Global, parts: &[Value]) -> Result<Pdu, PduError>
     requires { length parts.now < 2 ^ 32 }

@@ -1,15 +1,15 @@
 //! Reading the PDUs of access, transfer and recovery.
 ghost use Rattle.std.specs.Prelude.{◌<◌, ◌^◌, length};
 ghost use Rattle.vf_ber.specs.Views.{trees_in};
-ghost use Rattle.vf_pdu_whole.specs.Results.{Reads};
-ghost use Rattle.vf_pdu_whole.specs.Rows.{erase_request as erase_request_row, locate_request as locate_request_row, locate_response as locate_response_row, read_request as read_request_row, recover_request as recover_request_row, recover_response as recover_response_row, restart as restart_row, write_request as write_request_row};
+ghost use Rattle.vf_pdu_whole.specs.PduResults.{Reads};
+ghost use Rattle.vf_pdu_whole.specs.PduRows.{erase_request as erase_request_row, locate_request as locate_request_row, locate_response as locate_response_row, read_request as read_request_row, recover_request as recover_request_row, recover_response as recover_response_row, restart as restart_row, write_request as write_request_row};
 
-use crate::diagnostic::diagnostic;
-use crate::fields::{boolean_or_false, fadu, fadu_or_begin, natural, natural_or};
-use crate::numbers::{context_of, operation_of, small};
-use crate::parts::end;
-use crate::{Pdu, PduError};
+use crate::Pdu;
 use vf_ber::Value;
+use vf_fields::{
+    PduError, boolean_or, context_of, diagnostic, end, fadu, fadu_or_begin, natural, natural_or,
+    operation_of, small,
+};
 
 pub(crate) fn recover_request(parts: &[Value]) -> Result<Pdu, PduError>
     requires { length parts.now < 2 ^ 32 }
@@ -41,7 +41,7 @@ pub(crate) fn recover_response(parts: &[Value]) -> Result<Pdu, PduError>
     let diagnostic = diagnostic(parts, &mut at, 0)?;
     let number = natural(parts, &mut at, 1, 1, 1_000_001)?;
     let point = natural_or(parts, &mut at, 2, 0, 1_000_000, 0)?;
-    let moving = boolean_or_false(parts, &mut at, 3)?;
+    let moving = boolean_or(parts, &mut at, 3, false)?;
     let last = natural_or(parts, &mut at, 4, 0, 65_535, 0)?;
     end(parts, at)?;
     Ok(Pdu::RecoverResponse {

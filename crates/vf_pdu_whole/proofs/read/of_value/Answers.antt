@@ -1,8 +1,8 @@
 use Rattle.std.proofs.Common.{◌≡◌, ◌≤◌, ap, refl, arith}
 use Rattle.vf_ber.specs.Views.{tag_of, tree_of, trees_in}
-use Rattle.vf_pdu_whole.specs.Meaning.{context}
+use Rattle.vf_fields.specs.Meaning.{context}
 use Rattle.vf_pdu_whole.proofs.Answering.{meaning_of, fault_of}
-use Rattle.vf_pdu_whole.proofs.Plain.{tag_is}
+use Rattle.vf_fields.proofs.Plain.{tag_is}
 use Rattle.vf_pdu_whole.proofs.read.of_value.Goals as goal
 
 pub returns-clause-meaning : goal.returns-clause-meaning

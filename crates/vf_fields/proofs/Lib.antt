@@ -1,0 +1,13 @@
+pub mod Behind
+pub mod Complete
+pub mod Faulty
+pub mod FieldForms
+pub mod FirstFaults
+pub mod Found
+pub mod ItemLists
+pub mod Nested
+pub mod Numbering
+pub mod Plain
+pub mod Shapes
+pub mod Steps
+pub mod Tables

@@ -1,0 +1,22 @@
+-- The tags of each row rise, and each default is in range.
+use Rattle.std.proofs.Common.{◌≡◌, ℕ, zero, suc, ◌+◌, Bool, true, List, [], ◌∷◌, refl, get_or}
+use Rattle.std.specs.Prelude.{◌&&◌, nat_le}
+use Rattle.std.specs.List.{list_all}
+use Rattle.vf_fields.specs.Meaning.{fits}
+use Rattle.vf_fields.specs.Rows.{Need, required, optional, default, Form, one, sequence, list, Row, end, field}
+use Rattle.vf_fields.proofs.Plain.{both_true}
+
+abbrev pub is_usual : Form → Need → Bool
+is_usual form required = true
+is_usual form optional = true
+is_usual form (default content) = fits form content
+
+abbrev mutual
+  pub is_form : Form → Bool
+  is_form (one simple) = true
+  is_form (sequence row) = is_table 0 row
+  is_form (list row) = is_table 0 row
+
+  pub is_table : ℕ → Row → Bool
+  is_table least end = true
+  is_table least (field number form need row) = nat_le least number && (is_form form && (is_usual form need && is_table (number + 1) row))
