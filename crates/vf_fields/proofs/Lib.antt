@@ -4,7 +4,6 @@ pub mod Faulty
 pub mod FieldForms
 pub mod FirstFaults
 pub mod Found
-pub mod ItemLists
 pub mod Nested
 pub mod Numbering
 pub mod Plain

@@ -4,6 +4,7 @@ use Rattle.std.specs.List.{list_all}
 use Rattle.std.specs.Option.{option_and_then, option_map}
 use Rattle.vf_base.specs.Calendar.{month_length}
 use Rattle.vf_base.specs.Name.{is_name}
+use Rattle.vf_base.specs.Oid.{is_oid}
 use Rattle.vf_ber.specs.Primitive.{integer_of, boolean_of, octets_of, oid_of}
 use Rattle.vf_ber.specs.Tree.{Tree}
 use Rattle.vf_fields.specs.Content.{Content, Number, Truth, Octets, Arcs}
@@ -37,8 +38,13 @@ abbrev pub is_from_to : ℕ → ℕ → ℤ → Bool
 is_from_to low high (pos n) = nat_le low n && nat_le n high
 is_from_to low high (negsuc n) = false
 
+-- of 64 bits
+abbrev pub is_long : ℤ → Bool
+is_long (pos n) = nat_lt n 9223372036854775808
+is_long (negsuc n) = nat_lt n 9223372036854775808
+
 abbrev pub in_range : Range → ℤ → Bool
-in_range Any n = true
+in_range Any n = is_long n
 in_range (FromTo low high) n = is_from_to low high n
 in_range Fadu n = is_unit n
 
@@ -78,6 +84,6 @@ within Boolean (Truth b) = true
 within Text (Octets name) = is_name name
 within String (Octets given) = nat_le (length given) 255
 within (Controls count) (Octets each) = nat_eq (length each) count && list_all is_control each
-within Oid (Arcs arcs) = true
+within Oid (Arcs arcs) = is_oid arcs
 within Date (Octets moment) = is_date moment
 within _ _ = false

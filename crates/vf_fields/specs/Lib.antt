@@ -1,12 +1,9 @@
-pub mod AttributeTails
 pub mod Content
 pub mod Fault
 pub mod Faults
-pub mod FormViews
 pub mod Forms
 pub mod Meaning
 pub mod Reading
 pub mod Results
 pub mod Rows
-pub mod SharedTypes
 pub mod Slots

@@ -4,6 +4,7 @@ use Rattle.vf_fields.specs.Content.{Content, Number}
 
 -- what a number is from and to
 pub data Range : Type 0 where
+  -- any of 64 bits
   Any : Range
   FromTo : ℕ → ℕ → Range
   -- the identity of a FADU: begin 0, end -1, first -2, last -3, current -4, next -5, previous -6, and the number of
@@ -63,3 +64,12 @@ natural n = Number (pos n)
 
 abbrev pub or : ℕ → Need
 or n = default (natural n)
+
+abbrev pub fadu : Form
+fadu = one (Integer Fadu)
+
+abbrev pub activity : Form
+activity = int 1 2147483647
+
+abbrev pub point : Form
+point = int 0 1000000

@@ -5,7 +5,7 @@ ghost use Rattle.vf_fields.specs.Content.{Truth};
 ghost use Rattle.vf_fields.specs.Reading.{behind, field_at, front, needed, next_place, rest};
 ghost use Rattle.vf_fields.specs.Results.{Gives};
 ghost use Rattle.vf_fields.specs.Rows.{Any, Boolean, Integer, Controls, String as StringField, Text, int, natural as natural_content, one};
-ghost use Rattle.vf_fields.specs.SharedTypes.{fadu as fadu_form};
+ghost use Rattle.vf_fields.specs.Rows.{fadu as fadu_form};
 ghost use Rattle.vf_fields.specs.Slots.{attribute_controls as attribute_controls_content, content_controls as content_controls_content, fadu_slot, maybe_integer, maybe_num, maybe_octets, num};
 
 use crate::parts::take;
@@ -215,11 +215,7 @@ pub fn content_controls(
 
 /// Any number, where it is there.
 #[tactic(auto, unfolding(crate::specs::Reading::field_at))]
-pub(crate) fn any_integer(
-    parts: &[Value],
-    at: &mut u32,
-    number: u16,
-) -> Result<Option<i64>, PduError>
+pub fn any_integer(parts: &[Value], at: &mut u32, number: u16) -> Result<Option<i64>, PduError>
     requires { length parts.now < 2 ^ 32 }
     ensures value { Gives maybe_integer result (field_at at.old number (one (Integer Any)) None (front number (rest parts.now at.old))) }
     ensures place { at.new ≡ next_place at.old (front number (rest parts.now at.old)) }

@@ -8,7 +8,7 @@ use crate::WriteOperation;
 use vf_base::{Actions, Context, Control, FaduId};
 
 /// The number, where it is from `low` to `high`.
-pub(crate) fn natural_in(n: i64, low: u64, high: u64) -> Option<u64>
+pub fn natural_in(n: i64, low: u64, high: u64) -> Option<u64>
     ensures { MatchOption result (is_from_to low high n ≡ false) (λ m. (n ≡ pos m) × (is_from_to low high n ≡ true) × (low ≤ m) × (m ≤ high)) }
 {
     if n < 0 {

@@ -45,7 +45,7 @@ pub fn end(parts: &[Value], at: u32) -> Result<(), PduError>
 
 /// No part of a sequence is left.
 #[tactic(auto, using(crate::proofs::Behind::parts))]
-pub(crate) fn close(parts: &[Value], at: u32) -> Option<()>
+pub fn close(parts: &[Value], at: u32) -> Option<()>
     requires { length parts.now < 2 ^ 32 }
     ensures { option_map (λ _. nil) result ≡ ended (rest parts.now at) }
 {

@@ -6,7 +6,7 @@ ghost use Rattle.vf_fields.specs.Forms.{within};
 ghost use Rattle.vf_fields.specs.Reading.{checked, needed, shape};
 ghost use Rattle.vf_fields.specs.Results.{Gives};
 ghost use Rattle.vf_fields.specs.Rows.{Boolean, Controls, String as StringField, Text, int, one};
-ghost use Rattle.vf_fields.specs.SharedTypes.{fadu};
+ghost use Rattle.vf_fields.specs.Rows.{fadu};
 ghost use Rattle.vf_fields.specs.Slots.{attribute_controls, content_controls, fadu_slot, num};
 
 use crate::numbers::{control_in, fadu_in, natural_in};

@@ -6,8 +6,9 @@ pub use Rattle.vf_fields.specs.Meaning
 pub use Rattle.vf_fields.specs.Reading
 pub use Rattle.vf_fields.specs.Results
 pub use Rattle.vf_fields.specs.Rows
-pub use Rattle.vf_fields.specs.SharedTypes
 pub use Rattle.vf_fields.specs.Slots
+pub use Rattle.vf_parameters.specs.ParameterSlots
+pub use Rattle.vf_parameters.specs.Parameters
 pub mod Laws
 pub mod PduFaults
 pub mod PduMeaning

@@ -2,7 +2,8 @@
 use Rattle.std.specs.Prelude.{ℕ, false, List, [], ◌∷◌, get_or}
 use Rattle.vf_fields.specs.Content.{Truth}
 use Rattle.vf_fields.specs.Rows.{Boolean, Text, String, Controls, required, optional, default, one, Row, end, row, a, int, or}
-use Rattle.vf_fields.specs.SharedTypes.{activity, attributes, contents, diagnostic, fadu, no_terms, point, terms}
+use Rattle.vf_fields.specs.Rows.{activity, fadu, point}
+use Rattle.vf_parameters.specs.Parameters.{attributes, contents, diagnostic, no_terms, terms}
 
 abbrev pub bare : Row
 bare = end

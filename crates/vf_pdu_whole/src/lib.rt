@@ -11,9 +11,8 @@ mod read_transfer;
 pub use laws::{forms_have_one_content, meaning_has_no_fault, meaning_is_one};
 pub use pdu::Pdu;
 pub use read::of_value;
-pub use vf_fields::{
-    AttributeControls, Attributes, ContentControls, Grant, Grants, PduError, Stamp, WriteOperation,
-};
+pub use vf_fields::{AttributeControls, ContentControls, PduError, WriteOperation};
+pub use vf_parameters::{Attributes, Grant, Grants, Stamp};
 
 #[cfg(test)]
 mod tests;

@@ -9,9 +9,10 @@ use std::alloc::Global;
 use vf_base::Actions;
 use vf_ber::Value;
 use vf_fields::{
-    PduError, actions_of, attribute_controls, attributes, content_controls, contents, diagnostic,
-    end, natural, natural_or, small, string, terms, terms_or_none, text,
+    PduError, actions_of, attribute_controls, content_controls, end, natural, natural_or, small,
+    string, text,
 };
+use vf_parameters::{attributes, contents, diagnostic, terms, terms_or_none};
 
 pub(crate) fn create_request(alloc: Global, parts: &[Value]) -> Result<Pdu, PduError>
     requires { length parts.now < 2 ^ 32 }

@@ -7,9 +7,10 @@ ghost use Rattle.vf_pdu_whole.specs.PduRows.{erase_request as erase_request_row,
 use crate::Pdu;
 use vf_ber::Value;
 use vf_fields::{
-    PduError, boolean_or, context_of, diagnostic, end, fadu, fadu_or_begin, natural, natural_or,
-    operation_of, small,
+    PduError, boolean_or, context_of, end, fadu, fadu_or_begin, natural, natural_or, operation_of,
+    small,
 };
+use vf_parameters::diagnostic;
 
 pub(crate) fn recover_request(parts: &[Value]) -> Result<Pdu, PduError>
     requires { length parts.now < 2 ^ 32 }

@@ -1,0 +1,13 @@
+pub use Rattle.vf_fields.specs.Content
+pub use Rattle.vf_fields.specs.Fault
+pub use Rattle.vf_fields.specs.Faults
+pub use Rattle.vf_fields.specs.Forms
+pub use Rattle.vf_fields.specs.Meaning
+pub use Rattle.vf_fields.specs.Reading
+pub use Rattle.vf_fields.specs.Results
+pub use Rattle.vf_fields.specs.Rows
+pub use Rattle.vf_fields.specs.Slots
+pub mod AttributeTails
+pub mod FormViews
+pub mod ParameterSlots
+pub mod Parameters
