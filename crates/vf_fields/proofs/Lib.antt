@@ -1,3 +1,4 @@
+pub mod Back
 pub mod Behind
 pub mod Complete
 pub mod Faulty
@@ -7,6 +8,9 @@ pub mod Found
 pub mod Nested
 pub mod Numbering
 pub mod Plain
+pub mod ReadAgain
 pub mod Shapes
+pub mod Sizes
 pub mod Steps
 pub mod Tables
+pub mod Written

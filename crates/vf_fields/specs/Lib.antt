@@ -7,3 +7,4 @@ pub mod Reading
 pub mod Results
 pub mod Rows
 pub mod Slots
+pub mod Writing

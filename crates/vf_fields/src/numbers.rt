@@ -1,5 +1,5 @@
 //! Numbers in their ranges, and what they stand for.
-ghost use Rattle.std.specs.Prelude.{◌≡◌, ◌≤◌, pos, true, false, IfSome, MatchOption, Some};
+ghost use Rattle.std.specs.Prelude.{◌≡◌, ◌≤◌, pos, true, false, IfSome, IsSome, MatchOption, Some};
 ghost use Rattle.vf_fields.specs.Content.{Number};
 ghost use Rattle.vf_fields.specs.Forms.{is_control, is_from_to, is_unit};
 ghost use Rattle.vf_fields.specs.Slots.{context_slot, control_octet, fadu_slot, maybe_actions, maybe_num, num, operation_slot};
@@ -93,5 +93,54 @@ pub fn actions_of(n: Option<u64>) -> Option<Actions>
     match n {
         Some(n) => Some(Actions { value: n as u8 }),
         None => None,
+    }
+}
+
+/// The number of a FADU; units are numbered from 1 on.
+pub(crate) fn fadu_number(fadu: FaduId) -> i64
+    requires { IsSome (fadu_slot fadu) }
+    ensures { fadu_slot fadu ≡ Some (Number result) }
+{
+    match fadu {
+        FaduId::Begin => 0,
+        FaduId::End => -1,
+        FaduId::First => -2,
+        FaduId::Last => -3,
+        FaduId::Current => -4,
+        FaduId::Next => -5,
+        FaduId::Previous => -6,
+        FaduId::Number(n) => i64::from(n),
+    }
+}
+
+pub(crate) fn context_number(context: Context) -> i64
+    ensures { context_slot context ≡ Some (Number result) }
+{
+    match context {
+        Context::HA => 0,
+        Context::FA => 1,
+        Context::UA => 2,
+        Context::US => 3,
+    }
+}
+
+pub(crate) fn operation_number(operation: WriteOperation) -> i64
+    ensures { operation_slot operation ≡ Some (Number result) }
+{
+    match operation {
+        WriteOperation::Insert => 1,
+        WriteOperation::Replace => 2,
+        WriteOperation::Extend => 3,
+    }
+}
+
+pub(crate) fn octet_of(control: Control) -> u8
+    ensures { result ≡ control_octet control }
+{
+    match control {
+        Control::NotRequired => 0,
+        Control::Shared => 1,
+        Control::Exclusive => 2,
+        Control::NoAccess => 3,
     }
 }
