@@ -1,0 +1,4 @@
+pub mod ElementFaults
+pub mod Elements
+pub mod Kinds
+pub mod Stages

@@ -1,0 +1,15 @@
+//! Data elements as values of the basic encoding rules, and the messages of the file service with the stages that
+//! take them (ISO 8571-4).
+#![tactic(auto)]
+
+mod elements;
+mod kind;
+mod message;
+mod stage;
+
+pub use elements::of_value;
+pub use message::{Message, Said};
+pub use stage::Stage;
+
+#[cfg(test)]
+mod tests;
