@@ -1,4 +1,5 @@
 pub mod ElementFaults
+pub mod ElementReading
 pub mod Elements
 pub mod Kinds
 pub mod Stages

@@ -1,14 +1,15 @@
 //! Values as data elements.
-ghost use Rattle.std.specs.Prelude.{◌≡◌, ◌<◌, ◌^◌, ℕ, Bool, true, false, List, Option, None, Some, length, IfOk, IfErr};
+ghost use Rattle.std.specs.Prelude.{◌≡◌, ◌<◌, ◌^◌, ℕ, Bool, true, false, List, Option, None, Some, Ok, length, IfOk, IfErr};
 ghost use Rattle.std.specs.Option.{option_map};
 ghost use Rattle.vf_ber.specs.Primitive.{octets_of};
 ghost use Rattle.vf_fields.specs.Fault.{Field};
 ghost use Rattle.vf_ber.specs.Tree.{Tree, plain, root};
 ghost use Rattle.vf_ber.specs.Views.{tag_of, tree_of, trees_in};
 ghost use Rattle.vf_elements.specs.ElementFaults.{element_fault, is_descriptor as descriptor_tag, is_segment as segment_tree, is_string as string_tag, wrong_segment};
+ghost use Rattle.vf_elements.specs.ElementReading.{element_in};
 ghost use Rattle.vf_elements.specs.Elements.{Means, descriptor as descriptor_row, descriptor_slots, is_text as text_class};
 ghost use Rattle.vf_fields.specs.Reading.{reading};
-ghost use Rattle.vf_fields.specs.Results.{Gives, Names};
+ghost use Rattle.vf_fields.specs.Results.{Fails, Gives, Names};
 
 use std::alloc::Global;
 use vf_base::{Element, NoMemory, Octets};
@@ -22,6 +23,7 @@ use vf_fields::{PduError, boolean_or, end, text};
 pub fn of_value(alloc: Global, value: &Value) -> Result<Element, PduError>
     ensures meaning { IfOk result (λ element. Means (tree_of value.now) element) }
     ensures faults { IfErr result (λ error. Names error (element_fault (tree_of value.now))) }
+    ensures read { Gives (λ element. element) result (element_in (tree_of value.now)) }
 {
     let tag = value.tag();
     if is_string(tag) {
@@ -65,6 +67,7 @@ fn string_in(alloc: Global, value: &Value) -> Result<Element, PduError>
     requires { string_tag (root (tree_of value.now)) ≡ true }
     ensures meaning { IfOk result (λ element. Means (tree_of value.now) element) }
     ensures faults { IfErr result (λ error. Names error (element_fault (tree_of value.now))) }
+    ensures read { Gives (λ element. element) result (element_in (tree_of value.now)) }
 {
     let Some(octets) = vf_ber::octets(alloc, value)? else {
         return Err(wrong_in(alloc, value)?);
@@ -75,7 +78,8 @@ fn string_in(alloc: Global, value: &Value) -> Result<Element, PduError>
 /// The element of these octets, by a tag of a string.
 fn string_of(tag: Tag, octets: Octets) -> Element
     requires { string_tag (tag_of tag) ≡ true }
-    ensures { (tree : Tree) → root tree ≡ tag_of tag → octets_of tree ≡ Some octets → Means tree result }
+    ensures meaning { (tree : Tree) → root tree ≡ tag_of tag → octets_of tree ≡ Some octets → Means tree result }
+    ensures read { (tree : Tree) → root tree ≡ tag_of tag → octets_of tree ≡ Some octets → element_in tree ≡ Ok result }
 {
     if tag.number == OCTET_STRING {
         return Element::Binary { octets };
@@ -90,7 +94,8 @@ fn string_of(tag: Tag, octets: Octets) -> Element
 fn wrong_in(alloc: Global, value: &Value) -> Result<PduError, NoMemory>
     requires string { string_tag (root (tree_of value.now)) ≡ true }
     requires none { octets_of (tree_of value.now) ≡ None }
-    ensures { IfOk result (λ error. Names error (element_fault (tree_of value.now))) }
+    ensures fault { IfOk result (λ error. Names error (element_fault (tree_of value.now))) }
+    ensures read { IfOk result (λ error. Fails error (element_in (tree_of value.now))) }
 {
     let Value::Built { parts, .. } = value else {
         unreachable!()
@@ -131,6 +136,7 @@ fn mark_in(tag: Tag, octets: &Octets) -> Result<Element, PduError>
     requires { string_tag (tag_of tag) ≡ false }
     ensures meaning { IfOk result (λ element. Means (plain (tag_of tag) octets.now) element) }
     ensures faults { IfErr result (λ error. Names error (element_fault (plain (tag_of tag) octets.now))) }
+    ensures read { Gives (λ element. element) result (element_in (plain (tag_of tag) octets.now)) }
 {
     if tag.class != 1 || !octets.is_empty() {
         return Err(PduError::Unknown { tag });
