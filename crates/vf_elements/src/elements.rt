@@ -7,6 +7,7 @@ ghost use Rattle.vf_ber.specs.Tree.{Tree, plain, root};
 ghost use Rattle.vf_ber.specs.Views.{tag_of, tree_of, trees_in};
 ghost use Rattle.vf_elements.specs.ElementFaults.{element_fault, is_descriptor as descriptor_tag, is_segment as segment_tree, is_string as string_tag, wrong_segment};
 ghost use Rattle.vf_elements.specs.ElementReading.{element_in};
+ghost use Rattle.vf_elements.specs.ElementValue.{IsWritable};
 ghost use Rattle.vf_elements.specs.Elements.{Means, descriptor as descriptor_row, descriptor_slots, is_text as text_class};
 ghost use Rattle.vf_fields.specs.Reading.{reading};
 ghost use Rattle.vf_fields.specs.Results.{Fails, Gives, Names};
@@ -20,10 +21,12 @@ use vf_fields::{PduError, boolean_or, end, text};
 /// (OCTET STRING) of universal class, in segments or not, or a descriptor, enter or exit of application class 0, 1, 2
 /// (profile). `Unknown` exactly where it has none of these tags or isn't primitive or constructed as they are; `Field`
 /// with the place of the outermost wrong segment; else the fault of a descriptor's fields, as of those of a PDU.
+#[tactic(auto, using(crate::proofs::Written::ok_writable))]
 pub fn of_value(alloc: Global, value: &Value) -> Result<Element, PduError>
     ensures meaning { IfOk result (λ element. Means (tree_of value.now) element) }
     ensures faults { IfErr result (λ error. Names error (element_fault (tree_of value.now))) }
     ensures read { Gives (λ element. element) result (element_in (tree_of value.now)) }
+    ensures writable { IfOk result (λ element. IsWritable element) }
 {
     let tag = value.tag();
     if is_string(tag) {

@@ -6,10 +6,12 @@ mod elements;
 mod kind;
 mod message;
 mod stage;
+mod writing;
 
 pub use elements::of_value;
 pub use message::{Message, Said};
 pub use stage::Stage;
+pub use writing::{to_value, value_means};
 
 #[cfg(test)]
 mod tests;
