@@ -1,15 +1,13 @@
 -- What reading a descriptor's fields answers is what its value means, or its fault.
-use Rattle.std.proofs.Common.{◌≡◌, ℕ, Bool, true, false, cond, List, [], ap, sym, subst, ◌∙◌, refl, rules, arith}
-use Rattle.std.specs.Prelude.{Option, Some, None, Result, Ok, Err, IsTrue, IfOk, IfErr, nat_eq}
+use Rattle.std.proofs.Common.{◌≡◌, ℕ, Bool, true, List, ap, sym, subst, ◌∙◌, refl, rules, arith}
+use Rattle.std.specs.Prelude.{Option, Result, Ok, Err, IsTrue, IfOk, IfErr, nat_eq}
 use Rattle.vf_base.specs.declared.element.Element.{Element}
 use Rattle.vf_base.specs.declared.element.Element.TheVariants.{Descriptor}
 use Rattle.vf_ber.specs.Tree.{Tag, Tree, built, Trees}
-use Rattle.vf_elements.specs.ElementFaults.{element_fault, is_descriptor, is_string}
+use Rattle.vf_elements.specs.ElementFaults.{element_fault, is_descriptor}
 use Rattle.vf_elements.specs.Elements.{Means, IsDescriptor, application, descriptor, descriptor_slots}
 use Rattle.vf_fields.specs.Content.{slots}
-use Rattle.vf_fields.specs.Fault.{Fault, Unknown}
-use Rattle.vf_fields.specs.Faults.{fault_in}
-use Rattle.vf_fields.specs.Meaning.{Holds, all_fit}
+use Rattle.vf_fields.specs.Meaning.{all_fit}
 use Rattle.vf_fields.specs.Reading.{reading}
 use Rattle.vf_fields.specs.Results.{Gives, Names}
 use Rattle.vf_fields.specs.declared.errors.PduError.{PduError}
@@ -17,7 +15,7 @@ use Rattle.vf_fields.specs.declared.errors.PduError.TheVariants as errors
 use Rattle.vf_fields.proofs.Faulty.{fault_told}
 use Rattle.vf_fields.proofs.FirstFaults.{told}
 use Rattle.vf_fields.proofs.Found.{Kept, reading_kept}
-use Rattle.vf_fields.proofs.Plain.{both_true, tag_is as same_tag}
+use Rattle.vf_fields.proofs.Plain.{both_true}
 
 abbrev pub IsSome : Element → Type 0
 IsSome element = (name : Option (List ℕ)) × (filled : Bool) × (element ≡ Descriptor name filled)

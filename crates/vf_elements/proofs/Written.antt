@@ -1,13 +1,13 @@
 -- The value of an element means it.
-use Rattle.std.proofs.Common.{Bool, true, false, List, ℕ, refl, inl, inr, rules}
+use Rattle.std.proofs.Common.{Bool, true, false, List, ℕ, refl, inl, inr}
 use Rattle.std.specs.Prelude.{Option, Some, None, Result, Ok, Err, IfOk, ◌&&◌, IsTrue, [], ◌∷◌}
 use Rattle.vf_base.specs.Name.{is_name}
 use Rattle.vf_base.specs.declared.element.Element.{Element}
 use Rattle.vf_base.specs.declared.element.Element.TheVariants.{Descriptor, Enter, Exit, Text, Binary}
-use Rattle.vf_ber.specs.Tree.{Tree, plain, built, Trees, none, more}
+use Rattle.vf_ber.specs.Tree.{Tree, plain, built, none}
 use Rattle.vf_elements.specs.ElementValue.{IsNamed, IsWritable, ValueMeans, descriptor_parts, filled_part}
 use Rattle.vf_elements.specs.Elements.{IsDescriptor, Means, application, descriptor, descriptor_slots}
-use Rattle.vf_fields.specs.Content.{Octets, Truth, nil, present, slots}
+use Rattle.vf_fields.specs.Content.{Octets, Truth, nil, slots}
 use Rattle.vf_fields.specs.Meaning.{Holds, context}
 use Rattle.vf_fields.specs.declared.errors.PduError.{PduError}
 use Rattle.vf_fields.specs.Rows.{Boolean, Row, end, field, default, one}
