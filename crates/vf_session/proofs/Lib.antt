@@ -1,5 +1,9 @@
 pub mod NumberLemmas
 pub mod PartLemmas
+pub mod FrontLemmas
+pub mod DigitLemmas
+pub mod ParameterLemmas
+pub mod RoundTrip
 pub mod TraceLemmas
 pub mod GrowLemmas
 pub mod TakeLemmas

@@ -2,6 +2,7 @@ pub mod Kinds
 pub mod Table
 pub mod Numbers
 pub mod Parts
+pub mod Grammar
 pub mod Fields
 pub mod Reading
 pub mod Steps

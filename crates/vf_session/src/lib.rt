@@ -5,6 +5,7 @@ mod advance;
 mod errors;
 mod hearing;
 mod kinds;
+mod laws;
 mod numbers;
 mod parts;
 mod phase;
@@ -20,6 +21,7 @@ mod units;
 mod writing;
 
 pub use errors::{SessionError, SpduError};
+pub use laws::written_is_read_again;
 pub use phase::Phase;
 pub use reading::{read, second_place};
 pub use session::Session;
