@@ -4,6 +4,9 @@ pub mod FrontLemmas
 pub mod DigitLemmas
 pub mod ParameterLemmas
 pub mod RoundTrip
+pub mod AfterLemmas
+pub mod GrammarLemmas
+pub mod HoldsLemmas
 pub mod TraceLemmas
 pub mod GrowLemmas
 pub mod TakeLemmas

@@ -96,18 +96,18 @@ value-numbered UserData code v s f h = h
 
 -- ---- reading
 
-bound : {A B : Type 0} (r : Result A SpduError) (f : A → Result B SpduError) (y : B) → (r >>= f) ≡ Ok y → (x : A) × (r ≡ Ok x) × (f x ≡ Ok y)
+pub bound : {A B : Type 0} (r : Result A SpduError) (f : A → Result B SpduError) (y : B) → (r >>= f) ≡ Ok y → (x : A) × (r ≡ Ok x) × (f x ≡ Ok y)
 bound (Ok x) f y h = (x, refl, h)
 bound (Err e) f y h = absurd cc
 
-guarded : (b : Bool) (x y : Spdu) (e : SpduError) → cond b (Ok x) (Err e) ≡ Ok y → (b ≡ true) × (x ≡ y)
+pub guarded : (b : Bool) (x y : Spdu) (e : SpduError) → cond b (Ok x) (Err e) ≡ Ok y → (b ≡ true) × (x ≡ y)
 guarded true x y e h = (refl, cc)
 guarded false x y e h = absurd cc
 
 abbrev done : {A : Type 0} → A → Result A SpduError
 done x = Ok x
 
-is_ok : {A : Type 0} (x y : A) → done x ≡ done y → x ≡ y
+pub is_ok : {A : Type 0} (x y : A) → done x ≡ done y → x ≡ y
 is_ok x y h = cc
 
 along : (x y : Spdu) → x ≡ y → Numbered x.fields → Numbered y.fields

@@ -1,9 +1,11 @@
 //! The SPDUs of a TSDU.
-ghost use Rattle.std.specs.Prelude.{◌≡◌, ◌∷◌, ◌+◌, ◌<◌, ◌≤◌, ◌^◌, [], IfOk, length};
+ghost use Rattle.std.specs.Prelude.{◌≡◌, ◌∷◌, ◌+◌, ◌<◌, ◌≤◌, ◌^◌, [], IfOk, List, Ok, length};
 ghost use Rattle.std.specs.List.{AllByRecursion};
 ghost use Rattle.vf_session.specs.Fields.{Gives, IsReadable};
+ghost use Rattle.vf_session.specs.Grammar.{Holds};
 ghost use Rattle.vf_session.specs.Reading.{assembled, last, one as one_read, reading, second as second_read, second_place as place_read};
 ghost use Rattle.vf_session.specs.Steps.{viewed};
+ghost use Rattle.vf_session.specs.declared.spdu.Spdu.{Spdu};
 
 use crate::kinds::{first_kind, is_dt, is_gt, second_kind};
 use crate::parts::{take_parts, value_at};
@@ -17,10 +19,16 @@ use vf_base::{Octets, SpduKind};
 /// the TSDU (ISO 8327, 8).
 pub fn read(alloc: Global, tsdu: &[u8]) -> Result<Vec<Spdu>, SpduError>
     ensures exact { Gives (λ spdus. spdus.items) result (reading tsdu.now) }
+    // By the terms of the standard, the SPDUs are those of which the octets are a spelling, and there is no fault where
+    // there are such.
+    ensures held { IfOk result (λ spdus. Holds tsdu.now spdus.items) }
+    ensures told { (held : List Spdu) → Holds tsdu.now held → Gives (λ spdus. spdus.items) result (Ok held) }
     ensures readable { IfOk result (λ spdus. AllByRecursion IsReadable spdus.items) }
 {
-    let spdus = spdus_of(alloc, tsdu)?;
-    Ok(spdus)
+    match spdus_of(alloc, tsdu) {
+        Ok(spdus) => Ok(spdus),
+        Err(fault) => Err(fault),
+    }
 }
 
 fn spdus_of(alloc: Global, tsdu: &[u8]) -> Result<Vec<Spdu>, SpduError>
