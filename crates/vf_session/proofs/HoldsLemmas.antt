@@ -130,7 +130,7 @@ one-sound kind place octets b o h = one-by-sound kind place octets (front octets
 
 -- ---- the kinds
 
-abbrev Begins : ℕ → SpduKind → Type 0
+abbrev pub Begins : ℕ → SpduKind → Type 0
 Begins code kind = (code ≡ code_of kind) × (goes_behind kind ≡ false)
 
 begun : (b : Bool) (code n : ℕ) (k kind : SpduKind) (rest : Option SpduKind) → nat_eq code n ≡ b → Begins n k → (rest ≡ Some kind → Begins code kind) → cond b (Some k) rest ≡ Some kind → Begins code kind
@@ -141,7 +141,7 @@ begun true code n k kind rest t b more h =
     subst P e (c ∙ b.0, b.1)
 begun false code n k kind rest t b more h = more h
 
-begins-kind : (code : ℕ) (kind : SpduKind) → first_kind code ≡ Some kind → Begins code kind
+pub begins-kind : (code : ℕ) (kind : SpduKind) → first_kind code ≡ Some kind → Begins code kind
 begins-kind code kind =
     begun (nat_eq code 13) code 13 CN kind _ refl (refl, refl)
     (begun (nat_eq code 14) code 14 AC kind _ refl (refl, refl)
@@ -167,7 +167,7 @@ kind-begins MIA h = absurd cc
 kind-begins RS h = absurd cc
 kind-begins RA h = absurd cc
 
-abbrev Follows : ℕ → SpduKind → Type 0
+abbrev pub Follows : ℕ → SpduKind → Type 0
 Follows code kind = (code ≡ code_of kind) × (goes_behind kind ≡ true)
 
 followed : (b : Bool) (code n : ℕ) (k kind : SpduKind) (rest : Option SpduKind) → nat_eq code n ≡ b → Follows n k → (rest ≡ Some kind → Follows code kind) → cond b (Some k) rest ≡ Some kind → Follows code kind
@@ -178,7 +178,7 @@ followed true code n k kind rest t b more h =
     subst P e (c ∙ b.0, b.1)
 followed false code n k kind rest t b more h = more h
 
-follows-kind : (code : ℕ) (kind : SpduKind) → second_kind code ≡ Some kind → Follows code kind
+pub follows-kind : (code : ℕ) (kind : SpduKind) → second_kind code ≡ Some kind → Follows code kind
 follows-kind code kind =
     followed (nat_eq code 1) code 1 DT kind _ refl (refl, refl)
     (followed (nat_eq code 49) code 49 MIP kind _ refl (refl, refl)
@@ -217,7 +217,7 @@ last-is : (place : ℕ) (more : List ℕ) (spdus found : List Spdu) → last pla
 last-is place [] spdus found h = (refl, is_ok spdus found h)
 last-is place (x ∷ more) spdus found h = absurd cc
 
-gt-is : (kind : SpduKind) → is_gt kind ≡ true → kind ≡ GT
+pub gt-is : (kind : SpduKind) → is_gt kind ≡ true → kind ≡ GT
 gt-is CN h = absurd cc
 gt-is AC h = absurd cc
 gt-is RF h = absurd cc

@@ -7,10 +7,12 @@ pub mod RoundTrip
 pub mod AfterLemmas
 pub mod GrammarLemmas
 pub mod HoldsLemmas
+pub mod PlaceLemmas
 pub mod TraceLemmas
 pub mod GrowLemmas
 pub mod TakeLemmas
 pub mod RoomLemmas
 pub mod SaidLemmas
 pub mod WriteLemmas
+pub mod AllowedLemmas
 pub mod ReadableLemmas

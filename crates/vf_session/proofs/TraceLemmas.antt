@@ -12,7 +12,7 @@ use Rattle.vf_session.specs.declared.units.SessionSay.TheVariants as say
 use Rattle.vf_session.specs.declared.units.TokenSide.{TokenSide}
 use Rattle.vf_session.specs.Advances.{Grows, advanced, kept_after}
 use Rattle.vf_session.specs.Represents.{Kept, Represents, numbers_up, newest_resync}
-use Rattle.vf_session.specs.Trace.{Entry, Trace, standing, acknowledged_by, acknowledgements, checks, since, unacknowledged, base, next, token, resync, settled, is_resync, resync_by, is_from, with_heard, with_said, other}
+use Rattle.vf_session.specs.Trace.{Entry, Trace, standing, acknowledged_by, acknowledgements, checks, since, unacknowledged, next, token, resync, settled, is_resync, resync_by, is_from, with_heard, with_said, other}
 
 -- ---- numbers of checks
 

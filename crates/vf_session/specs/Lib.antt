@@ -12,4 +12,5 @@ pub mod Hearing
 pub mod Saying
 pub mod Rooms
 pub mod Represents
+pub mod Allowed
 pub mod Advances

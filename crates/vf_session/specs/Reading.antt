@@ -3,7 +3,7 @@ use Rattle.std.specs.Prelude.{ℕ, ◌+◌, Bool, true, false, if◌then◌else�
 use Rattle.vf_base.specs.declared.spdu_kind.SpduKind.{SpduKind}
 use Rattle.vf_base.specs.declared.spdu_kind.SpduKind.TheVariants.{DT, GT}
 use Rattle.vf_session.specs.declared.errors.SpduError.{SpduError}
-use Rattle.vf_session.specs.declared.errors.SpduError.TheVariants.{Code, Length}
+use Rattle.vf_session.specs.declared.errors.SpduError.TheVariants.{Code, Length, Missing, Value, NoMemory}
 use Rattle.vf_session.specs.declared.spdu.Spdu.{Spdu}
 use Rattle.vf_session.specs.Fields.{◌>>=◌, bare, with_octets, taking, complete}
 use Rattle.vf_session.specs.Kinds.{first_kind, second_kind}
@@ -74,3 +74,24 @@ place_behind (whole spelled value more) = 1 + spelled + length value
 abbrev pub second_place : List ℕ → ℕ
 second_place [] = 0
 second_place (code ∷ octets) = place_behind (front octets)
+
+-- Where the fault of a TSDU stands: at its own place, or at the first octet of the SPDU that lacks a parameter or has a
+-- wrong one, which is the second SPDU where the first has no fault.
+abbrev pub is_good : {A : Type 0} → Result A SpduError → Bool
+is_good (Ok x) = true
+is_good (Err fault) = false
+
+abbrev pub first_is_good : Option SpduKind → List ℕ → Bool
+first_is_good None octets = false
+first_is_good (Some kind) octets = is_good (one kind 0 octets)
+
+abbrev pub faulty_place : List ℕ → ℕ
+faulty_place [] = 0
+faulty_place (code ∷ octets) = if first_is_good (first_kind code) octets then second_place (code ∷ octets) else 0
+
+abbrev pub fault_place : List ℕ → SpduError → ℕ
+fault_place tsdu (Code at) = at
+fault_place tsdu (Length at) = at
+fault_place tsdu (Missing code) = faulty_place tsdu
+fault_place tsdu (Value code) = faulty_place tsdu
+fault_place tsdu NoMemory = 0

@@ -1,11 +1,11 @@
 -- The steps of reading, as the functions that take them promise.
-use Rattle.std.specs.Prelude.{◌≡◌, ℕ, ◌+◌, ◌≤◌, IsTrue, List, length, Result, Ok, Err}
+use Rattle.std.specs.Prelude.{◌≡◌, ℕ, ◌+◌, ◌≤◌, IsTrue, nat_eq, List, [], ◌∷◌, length, Result, Ok, Err, if◌then◌else◌}
 use Rattle.std.specs.Borrow.{Bor}
 use Rattle.vf_session.specs.declared.errors.SpduError.{SpduError}
 use Rattle.vf_session.specs.declared.errors.SpduError.TheVariants.{Length}
 use Rattle.vf_session.specs.declared.table.Form.{Form}
 use Rattle.vf_session.specs.declared.spdu.Spdu.{Spdu}
-use Rattle.vf_session.specs.Reading.{Behind}
+use Rattle.vf_session.specs.Reading.{Behind, second_place}
 use Rattle.vf_session.specs.Parts.{short, whole, front}
 use Rattle.vf_session.specs.Table.{fits}
 
@@ -21,3 +21,8 @@ IsFit form value = IsTrue (fits form value)
 
 abbrev pub viewed : Spdu → ℕ → List ℕ → Behind
 viewed spdu place more = record { spdu = spdu; place = place; more = more }
+
+-- where the second SPDU begins if the first is a GT
+abbrev pub place_if_gt : List ℕ → ℕ
+place_if_gt [] = 0
+place_if_gt (code ∷ octets) = if nat_eq code 1 then second_place (code ∷ octets) else 0

@@ -84,8 +84,8 @@ counts_from (Accept sync serial octets) = Some serial
 counts_from (Resynced serial token octets) = Some serial
 counts_from told = None
 
-abbrev pub base : Trace → ℕ
-base trace = latest (λ entry. counts_from entry.told) 1 trace
+abbrev pub origin : Trace → ℕ
+origin trace = latest (λ entry. counts_from entry.told) 1 trace
 
 -- what was heard and said since then
 abbrev pub since : Trace → Trace
@@ -109,7 +109,7 @@ acknowledgements trace = filter_map (λ entry. acknowledgement_of entry.told) tr
 
 -- The next serial number: that which checks are counted from, and one for each check since.
 abbrev pub next : Trace → ℕ
-next trace = base trace + length (checks (since trace))
+next trace = origin trace + length (checks (since trace))
 
 -- An acknowledgement of a check acknowledges those before it.
 abbrev pub acknowledged_by : List ℕ → ℕ → Bool

@@ -21,9 +21,9 @@ mod units;
 mod writing;
 
 pub use errors::{SessionError, SpduError};
-pub use laws::written_is_read_again;
+pub use laws::{allowed_traces_are_kept, written_is_read_again};
 pub use phase::Phase;
-pub use reading::{read, second_place};
+pub use reading::{fault_place, read, second_place};
 pub use session::Session;
 pub use spdu::{Spdu, SpduFields};
 pub use units::{ResyncKind, SessionOut, SessionSay, TokenSide};

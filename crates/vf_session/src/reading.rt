@@ -1,10 +1,10 @@
 //! The SPDUs of a TSDU.
-ghost use Rattle.std.specs.Prelude.{◌≡◌, ◌∷◌, ◌+◌, ◌<◌, ◌≤◌, ◌^◌, [], IfOk, List, Ok, length};
+ghost use Rattle.std.specs.Prelude.{◌≡◌, ◌∷◌, ◌+◌, ◌<◌, ◌≤◌, ◌^◌, [], if◌then◌else◌, nat_eq, Err, IfOk, List, Ok, length};
 ghost use Rattle.std.specs.List.{AllByRecursion};
 ghost use Rattle.vf_session.specs.Fields.{Gives, IsReadable};
 ghost use Rattle.vf_session.specs.Grammar.{Holds};
-ghost use Rattle.vf_session.specs.Reading.{assembled, last, one as one_read, reading, second as second_read, second_place as place_read};
-ghost use Rattle.vf_session.specs.Steps.{viewed};
+ghost use Rattle.vf_session.specs.Reading.{assembled, last, one as one_read, reading, second as second_read, second_place as place_read, fault_place as place_of_fault};
+ghost use Rattle.vf_session.specs.Steps.{place_if_gt, viewed};
 ghost use Rattle.vf_session.specs.declared.spdu.Spdu.{Spdu};
 
 use crate::kinds::{first_kind, is_dt, is_gt, second_kind};
@@ -151,5 +151,36 @@ pub fn second_place(tsdu: &[u8]) -> u32
     match value_at(0, octets) {
         Ok((spelled, value, _)) => 1 + spelled as u32 + value.len() as u32,
         Err(_) => 0,
+    }
+}
+
+/// Where the fault that `read` found in a TSDU stands: at its own place, or at the first octet of the SPDU whose
+/// parameter is missing or wrong.
+pub fn fault_place(tsdu: &[u8], fault: SpduError) -> u32
+    ensures { reading tsdu.now ≡ Err fault → result ≡ place_of_fault tsdu.now fault }
+{
+    match fault {
+        SpduError::Code { at } | SpduError::Length { at } => at,
+        SpduError::Missing { .. } => place_behind_gt(tsdu),
+        SpduError::Value { code } => place_of_value(tsdu, code),
+        SpduError::NoMemory => 0,
+    }
+}
+
+/// The parameter of a GT is one that no SPDU has which goes behind it.
+fn place_of_value(tsdu: &[u8], code: u8) -> u32
+    ensures { result ≡ (if nat_eq code 16 then 0 else place_if_gt tsdu.now) }
+{
+    if code == 16 { 0 } else { place_behind_gt(tsdu) }
+}
+
+/// Where the second SPDU begins if the first is a GT, else 0.
+fn place_behind_gt(tsdu: &[u8]) -> u32
+    ensures { result ≡ place_if_gt tsdu.now }
+{
+    if !tsdu.is_empty() && tsdu[0] == 1 {
+        second_place(tsdu)
+    } else {
+        0
     }
 }

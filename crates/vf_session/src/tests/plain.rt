@@ -54,7 +54,7 @@ fn sync(trace: &[Entry]) -> (bool, bool) {
 }
 
 /// The first number, and the number from which checks count with the entries since.
-fn base(trace: &[Entry]) -> (u32, u32, &[Entry]) {
+fn origin(trace: &[Entry]) -> (u32, u32, &[Entry]) {
     let mut found = (1, 1, trace);
     for (place, entry) in trace.iter().enumerate() {
         let since = trace.get(place + 1..).unwrap_or(&[]);
@@ -70,8 +70,8 @@ fn base(trace: &[Entry]) -> (u32, u32, &[Entry]) {
 }
 
 fn next(trace: &[Entry]) -> u32 {
-    let (_, base, since) = base(trace);
-    let mut count = base;
+    let (_, from, since) = origin(trace);
+    let mut count = from;
     for entry in since {
         if matches!(entry.told, SessionSay::Check { .. }) {
             count = count.saturating_add(1);
@@ -81,7 +81,7 @@ fn next(trace: &[Entry]) -> u32 {
 }
 
 fn oldest(trace: &[Entry]) -> u32 {
-    let (_, _, since) = base(trace);
+    let (_, _, since) = origin(trace);
     let mut oldest = next(trace);
     for entry in since {
         if let SessionSay::Check { serial } = &entry.told {
@@ -250,7 +250,7 @@ fn unit(
         }),
         SpduKind::AC => Some(SessionSay::Accept {
             sync: both && sync(trace).0,
-            serial: spdu.fields.first.unwrap_or(base(trace).0),
+            serial: spdu.fields.first.unwrap_or(origin(trace).0),
             data,
         }),
         SpduKind::RF => Some(SessionSay::Refuse { data }),
@@ -298,7 +298,7 @@ pub(super) fn may(own: TokenSide, offer: bool, trace: &[Entry], say: &SessionSay
             serial,
             ..
         } => {
-            let first = base(trace).0;
+            let first = origin(trace).0;
             !calls && state == Phase::Asked && *serial == first && (!*both || sync(trace).0)
         }
         SessionSay::Refuse { .. } => !calls && state == Phase::Asked,
