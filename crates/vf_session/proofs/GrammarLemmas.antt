@@ -240,7 +240,11 @@ parameter-sound kind holder s s' at code indicator value k o size h =
 parameter-full : (kind : SpduKind) (holder : ℕ) → Full kind SpellsParameter any (filled_by kind holder) (opens-parameter holder)
 parameter-full kind holder s p octets k (indicator, size, e) u formed =
     record {
-      code = p.code; indicator = indicator; value = p.value; is_length = size; octets_are = e;
+      code = p.code;
+      indicator = indicator;
+      value = p.value;
+      is_length = size;
+      octets_are = e;
       takes = λ at. bind_ok (taken s (parameter holder p.code p.value)) ∙ ap (λ (kind : SpduKind). taken_by (row_at kind holder p.code) p.code p.value s) k ∙ row-full s kind holder p.code p.value (row_at kind holder p.code) refl formed;
     }
 
@@ -278,7 +282,11 @@ unfolding parameter-full
 element-full kind s (single p) octets k spelled stands formed =
     let u = parameter-full kind 0 s p octets k spelled tt formed in
     record {
-      code = u.code; indicator = u.indicator; value = u.value; is_length = u.is_length; octets_are = u.octets_are;
+      code = u.code;
+      indicator = u.indicator;
+      value = u.value;
+      is_length = u.is_length;
+      octets_are = u.octets_are;
       takes = λ at. element-full-by kind s (after s (filled_by kind 0 p)) p.code p.value at false stands (u.takes at);
     }
 element-full kind s (group code inside) octets k (contents, joined, (indicator, size, e)) stands formed =
@@ -288,6 +296,10 @@ element-full kind s (group code inside) octets k (contents, joined, (indicator, 
     let t : TakesTo inner contents s (after s (flat_map (filled_by kind code) inside)) =
     subst Q (sym five) (joined-full kind SpellsParameter any (filled_by kind 5) inner (parameter-full kind 5) inside contents s k joined (any-all inside) (subst P five formed)) in
     record {
-      code = code; indicator = indicator; value = contents; is_length = size; octets_are = e;
+      code = code;
+      indicator = indicator;
+      value = contents;
+      is_length = size;
+      octets_are = e;
       takes = λ at. element-full-by kind s (after s (flat_map (filled_by kind code) inside)) code contents at true stands (t at);
     }

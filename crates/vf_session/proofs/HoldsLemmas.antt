@@ -80,8 +80,18 @@ spells-made : (kind : SpduKind) (indicator value o more octets : List ℕ) (s : 
     → Spells (record { kind = kind; fields = fields_of (filled kind a.elements); octets = o }) octets
 spells-made kind indicator value o more octets s a size d e =
     record {
-      elements = a.elements; parameters = value; joined = a.joined; stand = a.standing; of_form = a.formed; complete = a.there; fields_are = refl;
-      front = code_of kind ∷ (indicator ++ value); behind = more; is_unit = (indicator, size, refl); has_data = d; octets_are = e;
+      elements = a.elements;
+      parameters = value;
+      joined = a.joined;
+      stand = a.standing;
+      of_form = a.formed;
+      complete = a.there;
+      fields_are = refl;
+      front = code_of kind ∷ (indicator ++ value);
+      behind = more;
+      is_unit = (indicator, size, refl);
+      has_data = d;
+      octets_are = e;
     }
 
 -- what was read of these octets, behind an identifier
@@ -235,9 +245,15 @@ gt-is RA h = absurd cc
 -- a GT, and behind it an SPDU
 two-held : (kind : SpduKind) (code : ℕ) (octets : List ℕ) (b : Behind) (code' : ℕ) (octets' : List ℕ) (kind' : SpduKind) (b' : Behind) → Begins code kind → is_gt kind ≡ true → Found kind octets b → b.more ≡ code' ∷ octets'
     → Follows code' kind' → Found kind' octets' b' → b'.more ≡ [] → Holds (code ∷ octets) (b.spdu ∷ b'.spdu ∷ [])
-two-held kind code octets b code' octets' kind' b' k g f more k' f' none =
-    (f.kind_is ∙ gt-is kind g, ap goes_behind f'.kind_is ∙ k'.1, code_of kind ∷ f.used, code' ∷ octets', f.spells, whole-spells kind' code' octets' b' k'.0 f' none,
-      ap (λ (c : ℕ). c ∷ octets) k.0 ∙ ap (λ (o : List ℕ). code_of kind ∷ o) (f.octets_are ∙ ap (λ (o : List ℕ). f.used ++ o) more))
+two-held kind code octets b code' octets' kind' b' k g f more k' f' none = (
+  f.kind_is ∙ gt-is kind g,
+  ap goes_behind f'.kind_is ∙ k'.1,
+  code_of kind ∷ f.used,
+  code' ∷ octets',
+  f.spells,
+  whole-spells kind' code' octets' b' k'.0 f' none,
+  ap (λ (c : ℕ). c ∷ octets) k.0 ∙ ap (λ (o : List ℕ). code_of kind ∷ o) (f.octets_are ∙ ap (λ (o : List ℕ). f.used ++ o) more),
+)
 
 second-by-held : (kind : SpduKind) (code : ℕ) (octets : List ℕ) (b : Behind) (code' : ℕ) (octets' : List ℕ) (k' : Option SpduKind) (spdus : List Spdu) → Begins code kind → is_gt kind ≡ true → Found kind octets b
     → b.more ≡ code' ∷ octets' → AreOctets octets' → second_kind code' ≡ k' → second_by b.spdu b.place k' octets' ≡ Ok spdus → Holds (code ∷ octets) spdus
@@ -322,7 +338,7 @@ last-full spdu place octets s =
       at = at;
       octets_are = s.octets_are ∙ ap (λ (o : List ℕ). o ++ s.behind) s.is_unit.2;
       one_is = one-front spdu.kind place indicator s.parameters s.behind s.elements s.is_unit.1 s.joined s.stand s.of_form s.complete
-        ∙ ap (λ (b : Behind). Ok b) (ended spdu.kind spdu.fields spdu.octets (filled spdu.kind s.elements) s.behind at s.fields_are s.has_data);
+          ∙ ap (λ (b : Behind). Ok b) (ended spdu.kind spdu.fields spdu.octets (filled spdu.kind s.elements) s.behind at s.fields_are s.has_data);
     }
 
 alone-by : (b : Bool) (spdu : Spdu) (at : ℕ) → cond b (second spdu at []) (last at [] (spdu ∷ [])) ≡ Ok (spdu ∷ [])
@@ -369,7 +385,7 @@ front-full gt octets more k s =
       at = at;
       octets_are = ap (λ (o : List ℕ). o ++ more) own ∙ ap (λ (kind : SpduKind). code_of kind ∷ rest) k;
       one_is = ap (λ (kind : SpduKind). one kind 0 rest) (sym k)
-        ∙ one-front gt.kind 0 indicator s.parameters more s.elements s.is_unit.1 s.joined s.stand s.of_form s.complete ∙ ap (λ (b : Behind). Ok b) o.1;
+          ∙ one-front gt.kind 0 indicator s.parameters more s.elements s.is_unit.1 s.joined s.stand s.of_form s.complete ∙ ap (λ (b : Behind). Ok b) o.1;
     }
 
 two-full : (tsdu : List ℕ) (gt spdu : Spdu) (first rest : List ℕ) → gt.kind ≡ GT → goes_behind spdu.kind ≡ true → Spells gt first → Spells spdu rest → tsdu ≡ first ++ rest → reading tsdu ≡ Ok (gt ∷ spdu ∷ [])

@@ -124,8 +124,8 @@ cn-read fields o (inl e) h =
     let item = spelled 19 (0 ∷ []) ++ (spelled 22 (2 ∷ []) ++ []) in
     subst P (sym e) (record {
       takes = takes-spelled (outer CN) 5 item (spelled 20 (0 ∷ 2 ∷ []) ++ connect-data o) (bare CN) (bare CN) (made CN duplex o)
-        (takes-item CN (λ at. refl) (λ at. refl) [] (bare CN) (takes-none inner (bare CN)))
-        (takes-spelled (outer CN) 20 (0 ∷ 2 ∷ []) (connect-data o) (bare CN) (made CN duplex []) (made CN duplex o) (λ at. refl) (takes-connect-data duplex o h));
+          (takes-item CN (λ at. refl) (λ at. refl) [] (bare CN) (takes-none inner (bare CN)))
+          (takes-spelled (outer CN) 20 (0 ∷ 2 ∷ []) (connect-data o) (bare CN) (made CN duplex []) (made CN duplex o) (λ at. refl) (takes-connect-data duplex o h));
       complete_is = refl;
     })
 cn-read fields o (inr (n, small, e)) h =
@@ -133,8 +133,8 @@ cn-read fields o (inr (n, small, e)) h =
     let item = spelled 19 (0 ∷ []) ++ (spelled 22 (2 ∷ []) ++ (spelled 23 (digits n) ++ (spelled 26 (0 ∷ []) ++ []))) in
     subst P (sym e) (record {
       takes = takes-spelled (outer CN) 5 item (spelled 20 (0 ∷ 42 ∷ []) ++ connect-data o) (bare CN) (made CN (numbered-token n) []) (made CN (sync n) o)
-        (cn-item n small)
-        (takes-spelled (outer CN) 20 (0 ∷ 42 ∷ []) (connect-data o) (made CN (numbered-token n) []) (made CN (sync n) []) (made CN (sync n) o) (λ at. refl) (takes-connect-data (sync n) o h));
+          (cn-item n small)
+          (takes-spelled (outer CN) 20 (0 ∷ 42 ∷ []) (connect-data o) (made CN (numbered-token n) []) (made CN (sync n) []) (made CN (sync n) o) (λ at. refl) (takes-connect-data (sync n) o h));
       complete_is = refl;
     })
 
@@ -144,8 +144,8 @@ ac-read fields o (inl e) =
     let item = spelled 19 (0 ∷ []) ++ (spelled 22 (2 ∷ []) ++ []) in
     subst P (sym e) (record {
       takes = takes-spelled (outer AC) 5 item (spelled 20 (0 ∷ 2 ∷ []) ++ user-data o) (bare AC) (bare AC) (made AC duplex o)
-        (takes-item AC (λ at. refl) (λ at. refl) [] (bare AC) (takes-none inner (bare AC)))
-        (takes-spelled (outer AC) 20 (0 ∷ 2 ∷ []) (user-data o) (bare AC) (made AC duplex []) (made AC duplex o) (λ at. refl) (takes-data (outer AC) AC duplex o (λ at x. refl)));
+          (takes-item AC (λ at. refl) (λ at. refl) [] (bare AC) (takes-none inner (bare AC)))
+          (takes-spelled (outer AC) 20 (0 ∷ 2 ∷ []) (user-data o) (bare AC) (made AC duplex []) (made AC duplex o) (λ at. refl) (takes-data (outer AC) AC duplex o (λ at x. refl)));
       complete_is = refl;
     })
 ac-read fields o (inr (n, small, e)) =
@@ -153,8 +153,8 @@ ac-read fields o (inr (n, small, e)) =
     let item = spelled 19 (0 ∷ []) ++ (spelled 22 (2 ∷ []) ++ (spelled 23 (digits n) ++ (spelled 26 (0 ∷ []) ++ []))) in
     subst P (sym e) (record {
       takes = takes-spelled (outer AC) 5 item (spelled 20 (0 ∷ 42 ∷ []) ++ user-data o) (bare AC) (made AC (numbered-token n) []) (made AC (sync n) o)
-        (ac-item n small)
-        (takes-spelled (outer AC) 20 (0 ∷ 42 ∷ []) (user-data o) (made AC (numbered-token n) []) (made AC (sync n) []) (made AC (sync n) o) (λ at. refl) (takes-data (outer AC) AC (sync n) o (λ at x. refl)));
+          (ac-item n small)
+          (takes-spelled (outer AC) 20 (0 ∷ 42 ∷ []) (user-data o) (made AC (numbered-token n) []) (made AC (sync n) []) (made AC (sync n) o) (λ at. refl) (takes-data (outer AC) AC (sync n) o (λ at x. refl)));
       complete_is = refl;
     })
 
@@ -240,10 +240,10 @@ ra-by t n o side small =
     let f : ℕ → SpduFields = λ k. record no_fields { tokens = Some t; serial = Some k } in
     record {
       takes = takes-spelled (outer RA) 26 (t ∷ []) (spelled 42 (digits n) ++ user-data o) (bare RA) (made RA (token t) []) (made RA (f n) o)
-        (λ at. guarded (fits (Either 0 4) (t ∷ [])) (made RA (token t) []) _ (a-side t side))
-        (takes-number (outer RA) 42 n (user-data o) (made RA (token t) []) (made RA (f n) o) (λ k. made RA (f k) []) small
-        (λ at v g. guarded (fits Digits v) (made RA (f (number v)) []) _ g)
-        (takes-data (outer RA) RA (f n) o (λ at x. refl)));
+          (λ at. guarded (fits (Either 0 4) (t ∷ [])) (made RA (token t) []) _ (a-side t side))
+          (takes-number (outer RA) 42 n (user-data o) (made RA (token t) []) (made RA (f n) o) (λ k. made RA (f k) []) small
+          (λ at v g. guarded (fits Digits v) (made RA (f (number v)) []) _ g)
+          (takes-data (outer RA) RA (f n) o (λ at x. refl)));
       complete_is = refl;
     }
 
@@ -253,12 +253,12 @@ rs-by t r n o side type small =
     let g : SpduFields = record no_fields { tokens = Some t; resync = Some r } in
     record {
       takes = takes-spelled (outer RS) 26 (t ∷ []) (spelled 27 (r ∷ []) ++ (spelled 42 (digits n) ++ user-data o)) (bare RS) (made RS (token t) []) (made RS (f n) o)
-        (λ at. guarded (fits (Either 0 4) (t ∷ [])) (made RS (token t) []) _ (a-side t side))
-        (takes-spelled (outer RS) 27 (r ∷ []) (spelled 42 (digits n) ++ user-data o) (made RS (token t) []) (made RS g []) (made RS (f n) o)
-        (λ at. guarded (fits (Either 0 1) (r ∷ [])) (made RS g []) _ (a-type r type))
-        (takes-number (outer RS) 42 n (user-data o) (made RS g []) (made RS (f n) o) (λ k. made RS (f k) []) small
-        (λ at v g. guarded (fits Digits v) (made RS (f (number v)) []) _ g)
-        (takes-data (outer RS) RS (f n) o (λ at x. refl))));
+          (λ at. guarded (fits (Either 0 4) (t ∷ [])) (made RS (token t) []) _ (a-side t side))
+          (takes-spelled (outer RS) 27 (r ∷ []) (spelled 42 (digits n) ++ user-data o) (made RS (token t) []) (made RS g []) (made RS (f n) o)
+          (λ at. guarded (fits (Either 0 1) (r ∷ [])) (made RS g []) _ (a-type r type))
+          (takes-number (outer RS) 42 n (user-data o) (made RS g []) (made RS (f n) o) (λ k. made RS (f k) []) small
+          (λ at v g. guarded (fits Digits v) (made RS (f (number v)) []) _ g)
+          (takes-data (outer RS) RS (f n) o (λ at x. refl))));
       complete_is = refl;
     }
 
@@ -378,7 +378,7 @@ gt-front gt more w k =
     record {
       at = at;
       one_is = ap (λ (kind : SpduKind). one kind 0 (rest-of gt ++ more)) (sym k) ∙ ap (one gt.kind 0) shape ∙ one-read gt o 0 more r
-        ∙ ap (λ (x : Behind). Ok x) (onward-by gt.kind gt.fields gt.octets at more k);
+          ∙ ap (λ (x : Behind). Ok x) (onward-by gt.kind gt.fields gt.octets at more k);
     }
 
 pub reads-behind : (gt spdu : Spdu) → ReadsBehind gt spdu

@@ -149,9 +149,9 @@ fn set_reason(alloc: Global, value: &[u8], spdu: &mut Spdu) -> Result<(), NoMemo
     ensures ok { OnOk result (spdu.new ≡ value_of Form.Reasoned 50 value.now spdu.old) }
     ensures kind { spdu.new.kind ≡ spdu.old.kind }
 {
-    let (reason, data) = value.split_at(1);
-    let data = if reason[0] == 2 { data } else { &[] };
-    spdu.octets = Octets::of(alloc, data)?;
+    let (reason, octets) = value.split_at(1);
+    let octets = if reason[0] == 2 { octets } else { &[] };
+    spdu.octets = Octets::of(alloc, octets)?;
     spdu.fields.reason = Some(reason[0]);
     Ok(())
 }

@@ -68,13 +68,13 @@ fn put_one(
     alloc: Global,
     kind: SpduKind,
     fields: SpduFields,
-    data: &Octets,
+    user_data: &Octets,
     out: &mut Vec<Spdu>,
 ) -> Result<(), NoMemory>
-    ensures ok { OnOk result (out.new.items ≡ out.old.items ++ record { kind = kind; fields = fields; octets = data.now } ∷ []) }
+    ensures ok { OnOk result (out.new.items ≡ out.old.items ++ record { kind = kind; fields = fields; octets = user_data.now } ∷ []) }
     ensures err { OnErr result (out.new.items ≡ out.old.items) }
 {
-    let octets = data.copy(alloc)?;
+    let octets = user_data.copy(alloc)?;
     out.push(Spdu {
         kind,
         fields,
@@ -89,14 +89,14 @@ fn put_two(
     pass: bool,
     kind: SpduKind,
     fields: SpduFields,
-    data: &Octets,
+    user_data: &Octets,
     out: &mut Vec<Spdu>,
 ) -> Result<(), NoMemory>
-    ensures ok { OnOk result (out.new.items ≡ out.old.items ++ gt_spdu pass ∷ record { kind = kind; fields = fields; octets = data.now } ∷ []) }
+    ensures ok { OnOk result (out.new.items ≡ out.old.items ++ gt_spdu pass ∷ record { kind = kind; fields = fields; octets = user_data.now } ∷ []) }
     ensures err { OnErr result (out.new.items ≡ out.old.items) }
 {
     let gt = gt(alloc, pass)?;
-    let octets = data.copy(alloc)?;
+    let octets = user_data.copy(alloc)?;
     out.reserve(2)?;
     out.push_reserved(gt);
     out.push_reserved(Spdu {

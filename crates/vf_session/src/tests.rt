@@ -3,9 +3,13 @@ use super::*;
 use std::alloc::Global;
 use std::test::Fail;
 use vf_base::{Octets, SpduKind};
+use written::unit;
 
+mod parameters;
 mod plain;
+mod rules;
 mod walks;
+mod written;
 
 const NONE: SpduFields = SpduFields {
     given: None,
@@ -296,111 +300,49 @@ fn open_called(alloc: Global, number: &[u8]) -> Result<Session, Fail> {
 }
 
 #[test]
-fn each_spdu_is_written(rt: HostRuntime) -> Result<(), Fail> {
-    let alloc = rt.alloc();
-    let mut calling = Session::calling(true);
-    let data = Octets::of(alloc, b"hi")?;
-    let connect = SessionSay::Connect {
-        sync: true,
-        serial: 1,
-        data,
-    };
-    let octets = said(alloc, &mut calling, &connect)?.ok_or("a CN may be said")?;
-    assert_eq!(rt;
-        octets.as_slice(),
-        b"\x0D\x16\x05\x0C\x13\x01\x00\x16\x01\x02\x17\x01\x31\x1A\x01\x00\x14\x02\x00\x2A\xC1\x02hi".as_slice()
-    );
-    let mut called = Session::called();
-    let mut out = Vec::new(alloc);
-    heard(alloc, &mut called, octets.as_slice(), &mut out)?;
-    let accept = SessionSay::Accept {
-        sync: false,
-        serial: 1,
-        data: Octets::of(alloc, b"")?,
-    };
-    let octets = said(alloc, &mut called, &accept)?.ok_or("an AC may be said")?;
-    assert_eq!(rt;
-        octets.as_slice(),
-        b"\x0E\x0C\x05\x06\x13\x01\x00\x16\x01\x02\x14\x02\x00\x02".as_slice()
-    );
-    heard(alloc, &mut calling, octets.as_slice(), &mut out)?;
-    let plain = SessionSay::Data {
-        pass: false,
-        data: Octets::of(alloc, b"d")?,
-    };
-    let octets = said(alloc, &mut calling, &plain)?.ok_or("a DT may be said")?;
-    assert_eq!(rt; octets.as_slice(), b"\x01\x00\x01\x00d".as_slice());
-    let abort = SessionSay::Abort {
-        data: Octets::of(alloc, b"")?,
-    };
-    let octets = said(alloc, &mut calling, &abort)?.ok_or("an AB may be said")?;
-    assert_eq!(rt; octets.as_slice(), b"\x19\x03\x11\x01\x05".as_slice());
-    Ok(())
-}
-
-#[test]
 fn the_last_serial_number(rt: HostRuntime) -> Result<(), Fail> {
     let alloc = rt.alloc();
     let mut called = open_called(alloc, b"999999")?;
     let mut out = Vec::new(alloc);
+    heard(alloc, &mut called, b"\x01\x03\x10\x01\x04", &mut out)?;
     assert_eq!(rt; called.next_serial(), 999_999);
-    let check = b"\x01\x00\x31\x08\x2A\x06\x39\x39\x39\x39\x39\x39";
-    assert_eq!(rt; heard(alloc, &mut called, check, &mut out)?, None);
-    assert_eq!(rt; called.next_serial(), 1_000_000);
-    let abandon = SessionSay::Resync {
-        kind: ResyncKind::Abandon,
-        serial: 1_000_000,
-        token: Some(TokenSide::Initiator),
-        data: Octets::of(alloc, b"")?,
-    };
-    assert!(rt; !called.may(&abandon));
-    let acknowledge = SessionSay::Acknowledge { serial: 999_999 };
-    let octets = said(alloc, &mut called, &acknowledge)?.ok_or("it may be said")?;
+    let check = unit(alloc, b'K', 999_999, b"")?;
+    let octets = said(alloc, &mut called, &check)?.ok_or("it may be said")?;
     assert_eq!(rt;
         octets.as_slice(),
-        b"\x01\x00\x32\x08\x2A\x06999999".as_slice()
+        b"\x01\x00\x31\x08\x2A\x06999999".as_slice()
     );
-    let fault = heard(alloc, &mut called, check, &mut out)?;
-    let serial = SessionError::Serial {
-        expected: 1_000_000,
-        found: 999_999,
-    };
-    assert_eq!(rt; fault, Some(serial));
+    assert_eq!(rt; called.next_serial(), 1_000_000);
+    let rows = [
+        (b'K', 1_000_000, false),
+        (b'L', 999_998, false),
+        (b'L', 999_999, true),
+        (b'L', 1_000_000, false),
+        (b'r', 999_999, true),
+        (b'r', 1_000_000, false),
+        (b'S', 999_999, false),
+        (b'S', 1_000_000, false),
+    ];
+    for (letter, serial, may) in rows {
+        let unit = unit(alloc, letter, serial, b"")?;
+        assert_eq!(rt; called.may(&unit), may, "{letter} {serial}");
+    }
     Ok(())
 }
 
+/// An abandon that is heard where there can be no more checks has no answer.
 #[test]
-fn the_token_passes(rt: HostRuntime) -> Result<(), Fail> {
+fn no_answer_has_seven_digits(rt: HostRuntime) -> Result<(), Fail> {
     let alloc = rt.alloc();
-    let mut called = open_called(alloc, b"5")?;
+    let mut called = open_called(alloc, b"999999")?;
     let mut out = Vec::new(alloc);
-    let check = SessionSay::Check { serial: 5 };
-    assert!(rt; !called.may(&check));
-    let fault = heard(
-        alloc,
-        &mut called,
-        b"\x01\x03\x10\x01\x04\x01\x00read",
-        &mut out,
-    )?;
-    assert_eq!(rt; fault, None);
-    assert!(rt;
-        matches!(
-            out.as_slice(),
-            [
-                SessionOut::Token {
-                    to: TokenSide::Responder
-                },
-                SessionOut::Data { pass: false, .. }
-            ]
-        )
-    );
-    assert!(rt; called.may(&check));
-    let fault = heard(
-        alloc,
-        &mut called,
-        b"\x01\x00\x31\x03\x2A\x01\x35",
-        &mut out,
-    )?;
-    assert_eq!(rt; fault, Some(SessionError::Token));
+    let check = b"\x01\x00\x31\x08\x2A\x06999999";
+    let abandon = b"\x01\x00\x35\x06\x1B\x01\x01\x2A\x011";
+    assert_eq!(rt; heard(alloc, &mut called, check, &mut out)?, None);
+    assert_eq!(rt; heard(alloc, &mut called, abandon, &mut out)?, None);
+    for serial in [1, 999_999, 1_000_000] {
+        let answer = unit(alloc, b'E', serial, b"")?;
+        assert!(rt; !called.may(&answer), "{serial}");
+    }
     Ok(())
 }

@@ -28,13 +28,13 @@ pub fn write(alloc: Global, spdu: &Spdu, out: &mut Vec<u8>) -> Result<(), NoMemo
 }
 
 /// Appends two slices, or nothing.
-fn append_both(head: &[u8], data: &[u8], out: &mut Vec<u8>) -> Result<(), NoMemory>
-    ensures ok { OnOk result (out.new.items ≡ out.old.items ++ (head.now ++ data.now)) }
+fn append_both(head: &[u8], behind: &[u8], out: &mut Vec<u8>) -> Result<(), NoMemory>
+    ensures ok { OnOk result (out.new.items ≡ out.old.items ++ (head.now ++ behind.now)) }
     ensures err { OnErr result (out.new.items ≡ out.old.items) }
 {
     let before = out.len();
     out.extend_from_slice(head)?;
-    if out.extend_from_slice(data).is_err() {
+    if out.extend_from_slice(behind).is_err() {
         out.truncate(before);
         return Err(NoMemory);
     }
@@ -165,38 +165,38 @@ fn put_reason(
     alloc: Global,
     code: u8,
     field: Option<u8>,
-    data: &[u8],
+    octets: &[u8],
     out: &mut Vec<u8>,
 ) -> Result<(), NoMemory>
-    requires { length (spelled_if code (option_map (reasoned data.now) field)) ≤ 65535 }
-    ensures { OnOk result (out.new.items ≡ out.old.items ++ spelled_if code (option_map (reasoned data.now) field)) }
+    requires { length (spelled_if code (option_map (reasoned octets.now) field)) ≤ 65535 }
+    ensures { OnOk result (out.new.items ≡ out.old.items ++ spelled_if code (option_map (reasoned octets.now) field)) }
 {
     if let Some(reason) = field {
         let mut value = Vec::from_slice(alloc, &[reason])?;
-        value.extend_from_slice(data)?;
+        value.extend_from_slice(octets)?;
         put(code, value.as_slice(), out)?;
     }
     Ok(())
 }
 
 /// Appends user data, where there is some and this row has room for it.
-fn put_data(row: Row, data: &[u8], out: &mut Vec<u8>) -> Result<(), NoMemory>
-    requires { length (spelled_if row.code (first_data row data.now)) ≤ 65535 }
-    ensures { OnOk result (out.new.items ≡ out.old.items ++ spelled_if row.code (first_data row data.now)) }
+fn put_data(row: Row, octets: &[u8], out: &mut Vec<u8>) -> Result<(), NoMemory>
+    requires { length (spelled_if row.code (first_data row octets.now)) ≤ 65535 }
+    ensures { OnOk result (out.new.items ≡ out.old.items ++ spelled_if row.code (first_data row octets.now)) }
 {
-    if !data.is_empty() && row.form.fits(data) {
-        put(row.code, data, out)?;
+    if !octets.is_empty() && row.form.fits(octets) {
+        put(row.code, octets, out)?;
     }
     Ok(())
 }
 
 /// Appends user data of more than 512 octets.
-fn put_long_data(code: u8, data: &[u8], out: &mut Vec<u8>) -> Result<(), NoMemory>
-    requires { length (spelled_if code (second_data data.now)) ≤ 65535 }
-    ensures { OnOk result (out.new.items ≡ out.old.items ++ spelled_if code (second_data data.now)) }
+fn put_long_data(code: u8, octets: &[u8], out: &mut Vec<u8>) -> Result<(), NoMemory>
+    requires { length (spelled_if code (second_data octets.now)) ≤ 65535 }
+    ensures { OnOk result (out.new.items ≡ out.old.items ++ spelled_if code (second_data octets.now)) }
 {
-    if data.len() > 512 {
-        put(code, data, out)?;
+    if octets.len() > 512 {
+        put(code, octets, out)?;
     }
     Ok(())
 }
