@@ -15,4 +15,5 @@ pub mod RoomLemmas
 pub mod SaidLemmas
 pub mod WriteLemmas
 pub mod AllowedLemmas
+pub mod MutualLemmas
 pub mod ReadableLemmas

@@ -13,4 +13,5 @@ pub mod Saying
 pub mod Rooms
 pub mod Represents
 pub mod Allowed
+pub mod Mutual
 pub mod Advances

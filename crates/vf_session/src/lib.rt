@@ -21,7 +21,7 @@ mod units;
 mod writing;
 
 pub use errors::{SessionError, SpduError};
-pub use laws::{allowed_traces_are_kept, written_is_read_again};
+pub use laws::{allowed_traces_are_kept, said_is_heard, written_is_read_again};
 pub use phase::Phase;
 pub use reading::{fault_place, read, second_place};
 pub use session::Session;
