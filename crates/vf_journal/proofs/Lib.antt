@@ -1,0 +1,5 @@
+mod Runs
+mod Numbers
+mod Parts
+mod Areas
+mod Images

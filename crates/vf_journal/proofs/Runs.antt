@@ -1,0 +1,39 @@
+-- How runs of calls that leave only certain images are joined, and what a crash leaves of a write and a sync.
+use Rattle.std.proofs.Common.{◌≡◌, inl, inr, ⊎_elim, ℕ, ◌+◌, ◌≤◌, max, List, length, take, drop, Option, Some, refl, sym, subst, arith}
+use Rattle.vf_disk.specs.Disk.{Elapses, Follows, LeavesOnly, LeavesShown, Torn, Within}
+use Rattle.vf_disk.specs.Laws.{leaves_at_first, leaves_behind, leaves_octets}
+use Rattle.vf_journal.specs.Writes.{Behind}
+
+pub torn_self : (at count : ℕ) (image : List ℕ) → Torn at count image image
+torn_self at count image = record { before = refl; behind = refl; no_shorter = omega arith; no_longer = omega arith }
+
+module _ {D : Type 0} (moment : D → ℕ) (left_since : D → ℕ → List ℕ → Type 0) where
+  -- a run behind another
+  pub joined : (old mid new : D) (P Q R : List ℕ → Type 0) → LeavesOnly moment left_since old mid P → LeavesOnly moment left_since mid new Q
+      → ((image : List ℕ) → P image → R image) → ((image : List ℕ) → Q image → R image) → LeavesOnly moment left_since old new R
+  joined old mid new P Q R first second p q = record {
+    later = omega (arith, first.later, second.later);
+    each = λ image left. ⊎_elim (λ past. p image (first.each image past)) (q image) (second.earlier (moment old) image first.later left);
+    earlier = λ t image le left. ⊎_elim (λ past. ⊎_elim inl (λ now. inr (p image now)) (first.earlier t image le past)) (λ now. inr (q image now)) (second.earlier t image (omega (arith, le, first.later)) left);
+  }
+
+  pub weaker : (old new : D) (P R : List ℕ → Type 0) → LeavesOnly moment left_since old new P → ((image : List ℕ) → P image → R image) → LeavesOnly moment left_since old new R
+  weaker old new P R run p = record {
+    later = run.later;
+    each = λ image left. p image (run.each image left);
+    earlier = λ t image le left. ⊎_elim inl (λ now. inr (p image now)) (run.earlier t image le left);
+  }
+
+module _ {D : Type 0} (moment : D → ℕ) (left_since : D → ℕ → List ℕ → Type 0) (may_leave : D → List ℕ → Type 0) (at count : ℕ) (old mid : D)
+    (only_now : (disk : D) (image : List ℕ) → left_since disk (moment disk) image → may_leave disk image)
+    (follows : Follows (Torn at count) (may_leave old) (may_leave mid)) (time : Elapses (moment old) (moment mid) (left_since old) (left_since mid) (may_leave mid)) where
+  abbrev Left : List ℕ → Type 0
+  Left = Behind (Torn at count) (may_leave old)
+
+  -- behind the write
+  pub write_run : LeavesOnly moment left_since old mid Left
+  write_run = leaves_behind moment left_since old old mid Left (may_leave mid) (leaves_at_first moment left_since old Left (λ image left. (image, only_now old image left, torn_self at count image))) time follows
+
+  -- and behind the sync
+  pub synced_run : (new : D) → Elapses (moment mid) (moment new) (left_since mid) (left_since new) (may_leave new) → Within (may_leave mid) (may_leave new) → LeavesOnly moment left_since old new Left
+  synced_run new later within = leaves_behind moment left_since old mid new Left (may_leave new) write_run later (λ image left. follows image (within image left))

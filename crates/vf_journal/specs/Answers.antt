@@ -1,0 +1,54 @@
+-- What the calls of a journal answer, and by which causes (profile).
+use Rattle.std.specs.Prelude.{◌≡◌, ℕ, ◌<◌, ◌≤◌, Bool, true, false, List, Option, None, Some, Result, Ok, Err}
+use Rattle.vf_base.specs.Faults.{HasRisen}
+use Rattle.vf_journal.specs.declared.error.JournalError.{JournalError}
+use Rattle.vf_journal.specs.declared.error.JournalError.TheVariants.{NotAStore, Full, DiskFault, NoMemory}
+use Rattle.vf_journal.specs.Image.{Refusal, refusal}
+use Rattle.vf_journal.specs.Standing.{Standing, when_opened}
+
+-- Only a fault of the disk refuses the call, and there is one exactly where the disk's count of faults rose.
+abbrev pub FaultAlone : {T : Type 0} → ℕ → ℕ → Result T JournalError → Type 0
+FaultAlone old new (Ok done) = new ≡ old
+FaultAlone old new (Err DiskFault) = HasRisen old new
+FaultAlone old new (Err (NotAStore place found expected)) = ⊥
+FaultAlone old new (Err (Full end limit)) = ⊥
+FaultAlone old new (Err NoMemory) = ⊥
+
+-- An append that is to end at a place is full exactly where that is past the limit, and then the disk isn't called.
+abbrev pub AppendAnswers : {T : Type 0} → ℕ → ℕ → ℕ → ℕ → Result T JournalError → Type 0
+AppendAnswers end limit old new (Ok done) = (end ≤ limit) × (new ≡ old)
+AppendAnswers end limit old new (Err (Full length bound)) = (limit < end) × (length ≡ end) × (bound ≡ limit) × (new ≡ old)
+AppendAnswers end limit old new (Err DiskFault) = (end ≤ limit) × HasRisen old new
+AppendAnswers end limit old new (Err (NotAStore place found expected)) = ⊥
+AppendAnswers end limit old new (Err NoMemory) = ⊥
+
+-- Opening may want memory, and never is full.
+abbrev pub OpenCauses : {T : Type 0} → ℕ → ℕ → Result T JournalError → Type 0
+OpenCauses old new (Ok journal) = new ≡ old
+OpenCauses old new (Err (NotAStore place found expected)) = new ≡ old
+OpenCauses old new (Err DiskFault) = HasRisen old new
+OpenCauses old new (Err NoMemory) = new ≡ old
+OpenCauses old new (Err (Full end limit)) = ⊥
+
+-- What opening answers on a disk of which a read gives an image. Where the image is no journal that is told, unless
+-- the disk fails or memory is wanting.
+abbrev pub OpenAnswers : List ℕ → ℕ → Result Standing JournalError → Type 0
+OpenAnswers image limit (Ok journal) = (refusal image ≡ None) × (journal ≡ when_opened image limit)
+OpenAnswers image limit (Err (NotAStore place found expected)) = refusal image ≡ Some (record { place = place; found = found; expected = expected })
+OpenAnswers image limit (Err DiskFault) = Unit {0}
+OpenAnswers image limit (Err NoMemory) = Unit {0}
+OpenAnswers image limit (Err (Full end bound)) = ⊥
+
+abbrev pub is_fault : {T : Type 0} → Result T JournalError → Bool
+is_fault (Ok done) = false
+is_fault (Err DiskFault) = true
+is_fault (Err (NotAStore place found expected)) = false
+is_fault (Err (Full end limit)) = false
+is_fault (Err NoMemory) = false
+
+abbrev pub is_full : {T : Type 0} → Result T JournalError → Bool
+is_full (Ok done) = false
+is_full (Err DiskFault) = false
+is_full (Err (NotAStore place found expected)) = false
+is_full (Err (Full end limit)) = true
+is_full (Err NoMemory) = false

@@ -1,0 +1,27 @@
+//! Calls of a disk that belong together.
+ghost use Rattle.std.specs.Prelude.{◌≡◌, ◌+◌, ◌≤◌, ℕ, List, Some, length, is_err, max, OnOk, OnErr};
+ghost use Rattle.vf_base.specs.Faults.{HasRisen};
+ghost use Rattle.vf_disk.specs.Disk.{Torn, LeavesOnly, LeavesShown, greatest_length, overwritten};
+ghost use Rattle.vf_journal.specs.Calls.{MakesChanges};
+ghost use Rattle.vf_journal.specs.Writes.{Behind};
+
+use vf_base::Failed;
+use vf_disk::Disk;
+
+/// Writes octets at a place and syncs. A crash at any moment leaves an image from before, or that write cut short.
+pub(crate) fn write_synced<D: Disk>(disk: &mut D, at: u64, octets: &[u8]) -> Result<(), Failed>
+    requires { at ≤ D.size disk.old }
+    ensures shown { (old : List ℕ) → D.shown disk.old ≡ Some old → OnOk result (D.shown disk.new ≡ Some (overwritten old at octets.now)) }
+    ensures synced { OnOk result (LeavesShown (D.shown disk.new) (D.may_leave disk.new)) }
+    ensures size { OnOk result (D.size disk.new ≡ max (D.size disk.old) (at + length octets.now)) }
+    ensures bound { OnOk result (at + length octets.now ≤ greatest_length) }
+    ensures grows { D.size disk.old ≤ D.size disk.new }
+    ensures any_moment { LeavesOnly D.moment D.left_since disk.old disk.new (Behind (Torn at (length octets.now)) (D.may_leave disk.old)) }
+    ensures calls { MakesChanges 2 (D.plan disk.old) (D.plan disk.new) (is_err result) }
+    ensures ok { OnOk result (D.fault_count disk.new ≡ D.fault_count disk.old) }
+    ensures failed { OnErr result (HasRisen (D.fault_count disk.old) (D.fault_count disk.new)) }
+{
+    disk.write_at(at, octets)?;
+    disk.sync()?;
+    Ok(())
+}

@@ -1,0 +1,8 @@
+/// Where a record is to stand.
+#[derive(Clone, Copy, Debug, PartialEq, Eq)]
+pub struct Placing {
+    /// The start of the new area, where a switch is due and possible.
+    pub switch: Option<u64>,
+    /// The place behind the record and its gate.
+    pub end: u64,
+}
