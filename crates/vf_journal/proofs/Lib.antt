@@ -3,3 +3,6 @@ mod Numbers
 mod Parts
 mod Areas
 mod Images
+mod Plans
+mod Counts
+mod Appending

@@ -37,3 +37,12 @@ module _ {D : Type 0} (moment : D → ℕ) (left_since : D → ℕ → List ℕ 
   -- and behind the sync
   pub synced_run : (new : D) → Elapses (moment mid) (moment new) (left_since mid) (left_since new) (may_leave new) → Within (may_leave mid) (may_leave new) → LeavesOnly moment left_since old new Left
   synced_run new later within = leaves_behind moment left_since old mid new Left (may_leave new) write_run later (λ image left. follows image (within image left))
+
+  -- behind the write and another, with its sync
+  pub both_run : (then_at then : ℕ) (new : D) → LeavesOnly moment left_since mid new (Behind (Torn then_at then) (may_leave mid)) → LeavesOnly moment left_since old new (Behind (Torn then_at then) Left)
+  both_run then_at then new second = joined moment left_since old mid new Left (Behind (Torn then_at then) (may_leave mid)) (Behind (Torn then_at then) Left) write_run second
+      (λ image left. (image, left, torn_self then_at then image))
+      (λ image left. (left.0, follows left.0 left.1, left.2))
+
+  pub first_run : (then_at then : ℕ) → LeavesOnly moment left_since old mid (Behind (Torn then_at then) Left)
+  first_run then_at then = weaker moment left_since old mid Left (Behind (Torn then_at then) Left) write_run (λ image left. (image, left, torn_self then_at then image))

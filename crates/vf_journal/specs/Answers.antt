@@ -3,6 +3,8 @@ use Rattle.std.specs.Prelude.{◌≡◌, ℕ, ◌<◌, ◌≤◌, Bool, true, fa
 use Rattle.vf_base.specs.Faults.{HasRisen}
 use Rattle.vf_journal.specs.declared.error.JournalError.{JournalError}
 use Rattle.vf_journal.specs.declared.error.JournalError.TheVariants.{NotAStore, Full, DiskFault, NoMemory}
+use Rattle.vf_disk.specs.Plans.{StopPlan}
+use Rattle.vf_journal.specs.Calls.{MakesChanges}
 use Rattle.vf_journal.specs.Image.{Refusal, refusal}
 use Rattle.vf_journal.specs.Standing.{Standing, when_opened}
 
@@ -46,9 +48,18 @@ is_fault (Err (NotAStore place found expected)) = false
 is_fault (Err (Full end limit)) = false
 is_fault (Err NoMemory) = false
 
-abbrev pub is_full : {T : Type 0} → Result T JournalError → Bool
-is_full (Ok done) = false
-is_full (Err DiskFault) = false
-is_full (Err (NotAStore place found expected)) = false
-is_full (Err (Full end limit)) = true
-is_full (Err NoMemory) = false
+-- what is full leaves the disk as it is
+abbrev pub IsUntouched : {D T : Type 0} → D → D → Result T JournalError → Type 0
+IsUntouched old new (Ok done) = Unit {0}
+IsUntouched old new (Err DiskFault) = Unit {0}
+IsUntouched old new (Err (NotAStore place found expected)) = Unit {0}
+IsUntouched old new (Err (Full end limit)) = new ≡ old
+IsUntouched old new (Err NoMemory) = Unit {0}
+
+-- An append makes four calls, or fewer of which the last fails, or none.
+abbrev pub AppendCalls : {T : Type 0} → Option StopPlan → Option StopPlan → Result T JournalError → Type 0
+AppendCalls old new (Ok done) = MakesChanges 4 old new false
+AppendCalls old new (Err DiskFault) = MakesChanges 4 old new true
+AppendCalls old new (Err (NotAStore place found expected)) = ⊥
+AppendCalls old new (Err (Full end limit)) = new ≡ old
+AppendCalls old new (Err NoMemory) = ⊥

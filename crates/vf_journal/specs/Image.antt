@@ -50,3 +50,7 @@ refusal image = or_else (difference 0 header image) (misplaced image)
 -- these are the same.
 abbrev pub records_of : List ℕ → List (List ℕ)
 records_of image = records_in (drop (selected_start image) image)
+
+-- no journal, or one without records
+abbrev pub IsNoneOrNew : List ℕ → Type 0
+IsNoneOrNew image = IsSome (refusal image) ⊎ Holds image []

@@ -25,3 +25,29 @@ pub(crate) fn write_synced<D: Disk>(disk: &mut D, at: u64, octets: &[u8]) -> Res
     disk.sync()?;
     Ok(())
 }
+
+/// Writes octets at a place and others at another, and syncs. A crash at any moment leaves an image from before, or
+/// one behind both writes cut short.
+pub(crate) fn write_both_synced<D: Disk>(
+    disk: &mut D,
+    at: u64,
+    octets: &[u8],
+    then_at: u64,
+    then: &[u8],
+) -> Result<(), Failed>
+    requires at { at ≤ D.size disk.old }
+    requires then { then_at ≤ D.size disk.old }
+    ensures shown { (old : List ℕ) → D.shown disk.old ≡ Some old → OnOk result (D.shown disk.new ≡ Some (overwritten (overwritten old at octets.now) then_at then.now)) }
+    ensures synced { OnOk result (LeavesShown (D.shown disk.new) (D.may_leave disk.new)) }
+    ensures size { OnOk result (D.size disk.new ≡ max (max (D.size disk.old) (at + length octets.now)) (then_at + length then.now)) }
+    ensures bound { OnOk result (at + length octets.now ≤ greatest_length) }
+    ensures grows { D.size disk.old ≤ D.size disk.new }
+    ensures any_moment { LeavesOnly D.moment D.left_since disk.old disk.new (Behind (Torn then_at (length then.now)) (Behind (Torn at (length octets.now)) (D.may_leave disk.old))) }
+    ensures calls { MakesChanges 3 (D.plan disk.old) (D.plan disk.new) (is_err result) }
+    ensures ok { OnOk result (D.fault_count disk.new ≡ D.fault_count disk.old) }
+    ensures failed { OnErr result (HasRisen (D.fault_count disk.old) (D.fault_count disk.new)) }
+{
+    disk.write_at(at, octets)?;
+    write_synced(disk, then_at, then)?;
+    Ok(())
+}

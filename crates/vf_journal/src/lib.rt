@@ -5,8 +5,11 @@
 mod area;
 mod device;
 mod error;
+mod journal;
+mod layout;
 mod placing;
 
 pub use area::Area;
 pub use error::JournalError;
+pub use journal::Journal;
 pub use placing::Placing;

@@ -1,0 +1,22 @@
+use Rattle.std.proofs.Common.{length, true}
+use Rattle.std.proofs.lemmas.Result.{err_from_is_err_and}
+use Rattle.vf_journal.proofs.Plans.{changes_joined, one_change}
+use Rattle.vf_journal.proofs.Runs.{both_run, first_run}
+use Rattle.vf_journal.proofs.device.write_both_synced.Goals as goal
+
+pub returns-in_err-write_at-clause-any_moment : goal.returns-in_err-write_at-clause-any_moment
+returns-in_err-write_at-clause-any_moment g c =
+    first_run g.D.Disk.moment g.D.Disk.left_since g.D.Disk.may_leave c.args.at (length c.args.octets.now) c.args.disk.now c.write_at.new.self g.met.D.Disk.only_now c.write_at.ensures.crash c.write_at.ensures.time c.args.then_at (length c.args.then.now)
+
+pub returns-in_err-write_synced-clause-any_moment : goal.returns-in_err-write_synced-clause-any_moment
+returns-in_err-write_synced-clause-any_moment g c =
+    both_run g.D.Disk.moment g.D.Disk.left_since g.D.Disk.may_leave c.args.at (length c.args.octets.now) c.args.disk.now c.write_at.new.self g.met.D.Disk.only_now c.write_at.ensures.crash c.write_at.ensures.time c.args.then_at (length c.args.then.now) c.write_synced.new.disk c.write_synced.ensures.any_moment
+
+pub returns-in_err-write_synced-clause-calls : goal.returns-in_err-write_synced-clause-calls
+returns-in_err-write_synced-clause-calls g c =
+    let p = err_from_is_err_and c.from_residual-in_err-write_synced.result c.from_residual-in_err-write_synced.ensures.1 in
+    rw p.1 (changes_joined 1 2 (g.D.Disk.plan c.args.disk.now) (g.D.Disk.plan c.write_at.new.self) (g.D.Disk.plan c.write_synced.new.disk) true (one_change (g.D.Disk.plan c.args.disk.now) (g.D.Disk.plan c.write_at.new.self) c.in_ok-write_at.ensures.plan) c.in_err-write_synced.ensures.calls)
+
+pub returns-clause-any_moment : goal.returns-clause-any_moment
+returns-clause-any_moment g c =
+    both_run g.D.Disk.moment g.D.Disk.left_since g.D.Disk.may_leave c.args.at (length c.args.octets.now) c.args.disk.now c.write_at.new.self g.met.D.Disk.only_now c.write_at.ensures.crash c.write_at.ensures.time c.args.then_at (length c.args.then.now) c.write_synced.new.disk c.write_synced.ensures.any_moment

@@ -1,0 +1,52 @@
+use Rattle.std.proofs.Common.{◌≡◌, ◌+◌, ◌-◌, ◌≤◌, ◌∷◌, [], None, length, true, false, arith, ap, sym, subst}
+use Rattle.std.proofs.lemmas.Result.{err_from_is_err_and}
+use Rattle.vf_disk.specs.Disk.{greatest_length}
+use Rattle.vf_journal.specs.Standing.{IsPlaced, IsSound}
+use Rattle.vf_journal.specs.declared.area.Area.{Area}
+use Rattle.vf_journal.proofs.Appending.{append_done, append_opened, append_staged, length-entry_of}
+use Rattle.vf_journal.proofs.Counts.{placed_more}
+use Rattle.vf_journal.proofs.Plans.{changes_joined}
+use Rattle.vf_journal.proofs.journal.Journal.append.Goals as goal
+
+pub returns-in_err-write_synced-clause-any_moment : goal.returns-in_err-write_synced-clause-any_moment
+returns-in_err-write_synced-clause-any_moment g c = rw (← c.self.view_is) (λ item records is on.
+    append_staged g.D.Disk.shown g.D.Disk.may_leave g.D.Disk.moment g.D.Disk.left_since g.met.D.Disk.only_now _ c.args.disk.now item records c.args.entry.now c.requires.entry is on c.write_synced.new.disk c.write_synced.ensures.any_moment)
+
+pub returns-in_err-write_synced-2-clause-any_moment : goal.returns-in_err-write_synced-2-clause-any_moment
+returns-in_err-write_synced-2-clause-any_moment g c = rw (← c.self.view_is) (λ item records is on.
+    append_opened g.D.Disk.shown g.D.Disk.may_leave g.D.Disk.moment g.D.Disk.left_since g.met.D.Disk.only_now _ c.args.disk.now item records c.args.entry.now c.requires.entry is on c.write_synced.new.disk c.write_synced-2.new.disk
+        (c.in_ok-write_synced.ensures.shown on.image on.shows) c.in_ok-write_synced.ensures.synced c.write_synced.ensures.any_moment c.write_synced-2.ensures.any_moment)
+
+pub returns-in_err-write_synced-2-clause-calls : goal.returns-in_err-write_synced-2-clause-calls
+returns-in_err-write_synced-2-clause-calls g c =
+    let p = err_from_is_err_and c.from_residual-in_err-write_synced-2.result c.from_residual-in_err-write_synced-2.ensures.1 in
+    rw (p.1, p.2) (changes_joined 2 2 (g.D.Disk.plan c.args.disk.now) (g.D.Disk.plan c.write_synced.new.disk) (g.D.Disk.plan c.write_synced-2.new.disk) true c.in_ok-write_synced.ensures.calls c.in_err-write_synced-2.ensures.calls)
+
+pub overflow_sub-entry : goal.overflow_sub-entry
+overflow_sub-entry g c = let built = c.requires.entry in omega (arith, ap length built.2, length-entry_of built.0)
+
+pub with-self-inside-requires-clause-end : goal.with-self-inside-requires-clause-end
+with-self-inside-requires-clause-end g c = let built = c.requires.entry in omega (arith, ap length built.2, length-entry_of built.0, c.in_ok-write_synced.ensures.bound)
+
+pub invariant_of-self : goal.invariant_of-self
+invariant_of-self g c =
+    let built = c.requires.entry in
+    let bound : c.self.inside.area.end + (length c.args.entry.now - 5) + 5 ≤ greatest_length = omega (arith, ap length built.2, length-entry_of built.0, c.in_ok-write_synced.ensures.bound) in
+    let placed = placed_more c.self.inside.area (length c.args.entry.now - 5) c.self.invariant.selected bound in
+    subst (λ (area : Area). IsSound area None) (sym c.with-self-inside.ensures) (record { selected = placed; prepared = tt })
+
+pub returns-clause-ok : goal.returns-clause-ok
+returns-clause-ok g c = rw (c.with-self-inside.ensures, ← c.self.view_is) (λ item records is on.
+    append_done g.D.Disk.shown g.D.Disk.may_leave g.D.Disk.moment g.D.Disk.left_since g.met.D.Disk.only_now _ c.args.disk.now item records c.args.entry.now c.requires.entry is on c.write_synced-2.new.disk
+        (c.in_ok-write_synced-2.ensures.shown _ (c.in_ok-write_synced.ensures.shown on.image on.shows)) c.in_ok-write_synced-2.ensures.synced)
+
+pub returns-clause-any_moment : goal.returns-clause-any_moment
+returns-clause-any_moment g c = rw (← c.self.view_is) (λ item records is on.
+    append_opened g.D.Disk.shown g.D.Disk.may_leave g.D.Disk.moment g.D.Disk.left_since g.met.D.Disk.only_now _ c.args.disk.now item records c.args.entry.now c.requires.entry is on c.write_synced.new.disk c.write_synced-2.new.disk
+        (c.in_ok-write_synced.ensures.shown on.image on.shows) c.in_ok-write_synced.ensures.synced c.write_synced.ensures.any_moment c.write_synced-2.ensures.any_moment)
+
+pub returns-clause-within : goal.returns-clause-within
+returns-clause-within g c =
+    let built = c.requires.entry in
+    let area = ap (λ (area : Area). area.end) c.with-self-inside.ensures in
+    record { area = omega (arith, area, ap length built.2, length-entry_of built.0, c.in_ok-write_synced.ensures.size, c.write_synced-2.ensures.grows); prepared = tt }

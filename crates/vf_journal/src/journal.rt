@@ -1,0 +1,182 @@
+ghost use Rattle.std.specs.Prelude.{◌≡◌, ◌+◌, ◌-◌, ◌<◌, ◌≤◌, ◌⊎◌, [], ◌∷◌, ◌++◌, ℕ, List, None, Some, IsSome, OnOk, OnErr, IfSome, length, is_err};
+ghost use Rattle.vf_disk.specs.Disk.{LeavesOnly, LeavesShown, greatest_length};
+ghost use Rattle.vf_journal.specs.Answers.{AppendAnswers, AppendCalls, FaultAlone, IsUntouched};
+ghost use Rattle.vf_journal.specs.Calls.{MakesChanges};
+ghost use Rattle.vf_journal.specs.Layout.{new_journal};
+ghost use Rattle.vf_journal.specs.Records.{IsArea, IsEntry, area_with, entry_of, longest};
+ghost use Rattle.vf_journal.specs.Image.{Holds, HoldsEither, IsNoneOrNew};
+
+use crate::area::Area;
+use crate::device::{write_both_synced, write_synced};
+use crate::layout::{FIRST_START, LONGEST, REST, SELECTOR, anchor_place};
+use crate::{JournalError, Placing};
+use std::marker::Model;
+use vf_disk::Disk;
+
+/// Where a journal stands on its disk, which every call is handed. After `DiskFault` it is spent: the disk has to be
+/// opened again.
+#[derive(Drop)]
+pub struct Journal {
+    second: bool,
+    area: Area,
+    limit: u64,
+    prepared: Option<Area>,
+}
+
+impl Model for Journal {
+    ghost use Rattle.vf_journal.specs.Standing.{IsSound, Standing};
+
+    ghost Value = { Standing };
+
+    ghost view = { λ journal. record { second = journal.second; area = journal.area; limit = journal.limit; prepared = journal.prepared } };
+
+    ghost invariant = { λ journal. IsSound journal.area journal.prepared };
+}
+
+impl Journal {
+    ghost use Rattle.vf_journal.specs.Standing.{HasPrepared, IsWithin, StandsOn, after_append, after_prepare, after_switch, new_area, new_start, placing};
+
+    /// Makes a journal without records on an empty disk, in six calls. A crash at any moment leaves no journal, or
+    /// that one.
+    pub fn create<D: Disk>(disk: &mut D) -> Result<(), JournalError>
+        requires { D.size disk.old ≡ 0 }
+        ensures made { (octets : List ℕ) → D.shown disk.old ≡ Some octets → OnOk result (D.shown disk.new ≡ Some new_journal) }
+        ensures synced { OnOk result (LeavesShown (D.shown disk.new) (D.may_leave disk.new)) }
+        ensures any_moment { (octets : List ℕ) → D.shown disk.old ≡ Some octets → LeavesShown (D.shown disk.old) (D.may_leave disk.old) → LeavesOnly D.moment D.left_since disk.old disk.new IsNoneOrNew }
+        ensures calls { MakesChanges 6 (D.plan disk.old) (D.plan disk.new) (is_err result) }
+        ensures causes { FaultAlone (D.fault_count disk.old) (D.fault_count disk.new) result }
+    {
+        // The header is whole only with the last write, when all else stands on the disk.
+        write_synced(disk, 0, &[0])?;
+        write_synced(disk, 1, &REST)?;
+        write_synced(disk, 0, b"F")?;
+        Ok(())
+    }
+
+    /// The start and the end of the selected area, in octets; the end is the place behind its closed gate.
+    pub fn area(&self) -> (u64, u64)
+        ensures { result ≡ (self.now.area.start, self.now.area.end) }
+    {
+        (self.area.start, self.area.end)
+    }
+
+    /// Where a record of `length` octets is to stand, when a record that makes all tables has `snapshot` octets:
+    /// whether a switch to a new area comes first, and where the record ends.
+    pub fn plan(&self, length: u64, snapshot: u64) -> Placing
+        requires length { length ≤ longest }
+        requires snapshot { snapshot ≤ greatest_length }
+        ensures { result ≡ placing self.now length snapshot }
+    {
+        let end = self.area.end + length + 5;
+        let is_due = self.area.later > 4096 && self.area.first < self.area.later || end > self.limit;
+        if is_due && snapshot <= LONGEST {
+            let count = snapshot + 6;
+            let start = self.new_start(count);
+            if start + count <= self.limit {
+                return Placing {
+                    switch: Some(start),
+                    end: start + count + length + 5,
+                };
+            }
+        }
+        Placing { switch: None, end }
+    }
+
+    /// The start of a new area of so many octets.
+    fn new_start(&self, count: u64) -> u64
+        requires { count ≤ longest + 6 }
+        ensures { result ≡ new_start self.now count }
+    {
+        if FIRST_START + count <= self.area.start {
+            FIRST_START
+        } else {
+            self.area.end
+        }
+    }
+
+    /// Appends a record, which is handed in its built form: its length in four octets, the record, and the octet 0.
+    /// In four calls, or in none where the record would end past the limit. A crash at any moment leaves the records
+    /// with the new one or without.
+    pub fn append<D: Disk>(&mut self, disk: &mut D, entry: &[u8]) -> Result<(), JournalError>
+        requires entry { IsEntry entry.now }
+        requires within { IsWithin self.old (D.size disk.old) }
+        ensures ok { OnOk result ((item : List ℕ) (records : List (List ℕ)) → entry.now ≡ entry_of item → StandsOn D.shown D.may_leave self.old disk.old records
+            → StandsOn D.shown D.may_leave self.new disk.new (records ++ item ∷ [])) }
+        ensures any_moment { (item : List ℕ) (records : List (List ℕ)) → entry.now ≡ entry_of item → StandsOn D.shown D.may_leave self.old disk.old records
+            → LeavesOnly D.moment D.left_since disk.old disk.new (HoldsEither records (records ++ item ∷ [])) }
+        ensures moved { OnOk result (self.new ≡ after_append self.old (length entry.now - 5)) }
+        ensures err { OnErr result (self.new ≡ self.old) }
+        ensures full { IsUntouched disk.old disk.new result }
+        ensures within { IsWithin self.new (D.size disk.new) }
+        ensures calls { AppendCalls (D.plan disk.old) (D.plan disk.new) result }
+        ensures causes { AppendAnswers (self.old.area.end + length entry.now) self.old.limit (D.fault_count disk.old) (D.fault_count disk.new) result }
+    {
+        let end = self.area.end + entry.len() as u64;
+        if end > self.limit {
+            return Err(JournalError::Full {
+                length: end,
+                limit: self.limit,
+            });
+        }
+        write_synced(disk, self.area.end, entry)?;
+        write_synced(disk, self.area.end - 1, &[1])?;
+        self.area = self.area.with(entry.len() as u64 - 5);
+        self.prepared = None;
+        Ok(())
+    }
+
+    /// Writes an area of one record, in its built form, beside the selected one, and the anchor that isn't selected,
+    /// in three calls. The area is to end within the limit. A crash at any moment leaves the records as they are.
+    pub fn prepare<D: Disk>(&mut self, disk: &mut D, area: &[u8]) -> Result<(), JournalError>
+        requires area { IsArea area.now }
+        requires planned { new_start self.old (length area.now) + length area.now ≤ self.old.limit }
+        requires within { IsWithin self.old (D.size disk.old) }
+        ensures ok { OnOk result ((item : List ℕ) (records : List (List ℕ)) → area.now ≡ area_with item → StandsOn D.shown D.may_leave self.old disk.old records
+            → StandsOn D.shown D.may_leave self.new disk.new records × HasPrepared D.shown self.new disk.new item) }
+        ensures any_moment { (records : List (List ℕ)) → StandsOn D.shown D.may_leave self.old disk.old records
+            → LeavesOnly D.moment D.left_since disk.old disk.new (λ image. Holds image records) }
+        ensures moved { OnOk result (self.new ≡ after_prepare self.old (length area.now)) }
+        ensures err { OnErr result (self.new ≡ self.old) }
+        ensures within { IsWithin self.new (D.size disk.new) }
+        ensures calls { MakesChanges 3 (D.plan disk.old) (D.plan disk.new) (is_err result) }
+        ensures causes { FaultAlone (D.fault_count disk.old) (D.fault_count disk.new) result }
+    {
+        let count = area.len() as u64;
+        let start = self.new_start(count);
+        let anchor = start.to_be_bytes();
+        write_both_synced(disk, start, area, anchor_place(!self.second), &anchor)?;
+        self.prepared = Some(Area {
+            start,
+            end: start + count,
+            first: count - 6,
+            later: 0,
+        });
+        Ok(())
+    }
+
+    /// Selects the area that the last call prepared, in two calls. A crash at any moment leaves the records of the
+    /// area before, or those of that one.
+    pub fn switch<D: Disk>(&mut self, disk: &mut D) -> Result<(), JournalError>
+        requires prepared { IsSome self.old.prepared }
+        requires within { IsWithin self.old (D.size disk.old) }
+        ensures ok { OnOk result ((item : List ℕ) (records : List (List ℕ)) → StandsOn D.shown D.may_leave self.old disk.old records → HasPrepared D.shown self.old disk.old item
+            → StandsOn D.shown D.may_leave self.new disk.new (item ∷ [])) }
+        ensures any_moment { (item : List ℕ) (records : List (List ℕ)) → StandsOn D.shown D.may_leave self.old disk.old records → HasPrepared D.shown self.old disk.old item
+            → LeavesOnly D.moment D.left_since disk.old disk.new (HoldsEither records (item ∷ [])) }
+        ensures moved { OnOk result (IfSome self.old.prepared (λ area. self.new ≡ after_switch self.old area)) }
+        ensures err { OnErr result (self.new ≡ self.old) }
+        ensures within { IsWithin self.new (D.size disk.new) }
+        ensures calls { MakesChanges 2 (D.plan disk.old) (D.plan disk.new) (is_err result) }
+        ensures causes { FaultAlone (D.fault_count disk.old) (D.fault_count disk.new) result }
+    {
+        let Some(area) = self.prepared else {
+            unreachable!()
+        };
+        let selector: u8 = if self.second { 0 } else { 1 };
+        write_synced(disk, SELECTOR, &[selector])?;
+        self.second = !self.second;
+        self.area = area;
+        self.prepared = None;
+        Ok(())
+    }
+}
