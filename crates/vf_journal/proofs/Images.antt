@@ -160,7 +160,7 @@ module _ (records : List (List ℕ)) (entry rest old new : List ℕ) (holds : Ho
 -- A write of the selector: the selected area stays so, or the other one is.
 module _ (records others : List (List ℕ)) (old new : List ℕ) (holds : Holds old records) (start : first_start ≤ anchor old (not (selects_second old)))
     (area : HoldsArea (drop (anchor old (not (selects_second old))) old) others) (torn : Torn selector_place 1 old new) where
-  anchors : (second : Bool) → anchor new second ≡ anchor old second
+  pub anchors : (second : Bool) → anchor new second ≡ anchor old second
   anchors second = same_anchor second old new (part_apart selector_place 1 (anchor_place second) 8 old new torn (inr (anchor_high second)))
 
   areas : (place : ℕ) → first_start ≤ place → drop place new ≡ drop place old

@@ -6,3 +6,6 @@ mod Images
 mod Plans
 mod Counts
 mod Appending
+mod Preparing
+mod Switching
+mod Creating

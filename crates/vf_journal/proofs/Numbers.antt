@@ -1,5 +1,6 @@
 -- Places in eight octets, and lengths in four.
-use Rattle.std.proofs.Common.{◌≡◌, ℕ, ◌<◌, ◌≤◌, ◌^◌, List, ◌++◌, length, take, sym, arith, ◌∙◌}
+use Rattle.std.proofs.Common.{◌≡◌, ℕ, ◌<◌, ◌≤◌, ◌^◌, List, ◌++◌, length, take, refl, sym, arith, ◌∙◌}
+use Rattle.std.specs.Int.{to_be_bytes, w64}
 use Rattle.byteorder.specs.Endian.{big_bytes, big_number}
 use Rattle.byteorder.specs.Numbers.{big_number-reads_back, length-bytes_high_first, big_from-append, big_from-take}
 use Rattle.vf_journal.specs.Layout.{place_octets, place_named, length_octets, length_named}
@@ -27,3 +28,8 @@ length_read_back count rest small = big_number-reads_back 4 count rest small
 pub length_named-append : (octets rest : List ℕ) → 4 ≤ length octets → length_named (octets ++ rest) ≡ length_named octets
 unfolding length_named
 length_named-append octets rest long = big_from-append 4 octets rest long
+
+-- as the code makes them
+pub place_octets_are : (place : ℕ) → to_be_bytes w64 place ≡ place_octets place
+unfolding place_octets
+place_octets_are place = refl

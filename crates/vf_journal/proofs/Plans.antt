@@ -1,5 +1,5 @@
 -- How rows of calls are counted.
-use Rattle.std.proofs.Common.{◌≡◌, ℕ, zero, suc, ◌+◌, ◌<◌, Bool, true, false, not, ◌&&◌, Option, None, Some, refl, sym, ◌∙◌, ap, subst, arith, true≢false}
+use Rattle.std.proofs.Common.{◌≡◌, ℕ, zero, suc, ◌+◌, ◌<◌, ◌≤◌, Bool, true, false, not, ◌&&◌, Option, None, Some, refl, sym, ◌∙◌, ap, subst, arith, true≢false}
 use Rattle.vf_disk.specs.Plans.{StopPlan, after_change, change_fails, ChangesWherePlanned}
 use Rattle.vf_journal.specs.Calls.{MakesChanges, after_changes, no_change_fails}
 
@@ -50,3 +50,8 @@ not_of false fails = refl
 pub one_change : (old new : Option StopPlan) → ChangesWherePlanned old new false → MakesChanges 1 old new false
 one_change None new is = is
 one_change (Some old) new (fails, is) = (not_of (change_fails old) fails, is)
+
+-- a row that ends early, counted as a longer one
+pub changes_fewer : (a b : ℕ) (old new : Option StopPlan) → a ≤ b → MakesChanges a old new true → MakesChanges b old new true
+changes_fewer a b None new le made = made
+changes_fewer a b (Some old) new le (made, less, none, is) = (made, omega arith, none, is)

@@ -12,6 +12,10 @@ header = 70 ∷ 84 ∷ 65 ∷ 77 ∷ 74 ∷ 78 ∷ 76 ∷ 49 ∷ 0 ∷ 0 ∷ 0 �
 abbrev pub selector_place : ℕ
 selector_place = 16
 
+-- what is written there to select an anchor
+abbrev pub selector_of : Bool → ℕ
+selector_of second = if second then 1 else 0
+
 abbrev pub anchor_place : Bool → ℕ
 anchor_place second = if second then 25 else 17
 

@@ -8,7 +8,7 @@ ghost use Rattle.vf_journal.specs.Image.{Holds, HoldsEither, IsNoneOrNew};
 
 use crate::area::Area;
 use crate::device::{write_both_synced, write_synced};
-use crate::layout::{FIRST_START, LONGEST, REST, SELECTOR, anchor_place};
+use crate::layout::{FIRST_START, LONGEST, REST, SELECTOR, anchor_place, selector};
 use crate::{JournalError, Placing};
 use std::marker::Model;
 use vf_disk::Disk;
@@ -172,8 +172,7 @@ impl Journal {
         let Some(area) = self.prepared else {
             unreachable!()
         };
-        let selector: u8 = if self.second { 0 } else { 1 };
-        write_synced(disk, SELECTOR, &[selector])?;
+        write_synced(disk, SELECTOR, &[selector(!self.second)])?;
         self.second = !self.second;
         self.area = area;
         self.prepared = None;

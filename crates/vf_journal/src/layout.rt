@@ -1,6 +1,6 @@
 //! Where the parts of a journal stand on a disk.
 ghost use Rattle.std.specs.Prelude.{◌≡◌};
-ghost use Rattle.vf_journal.specs.Layout.{anchor_place as place_of};
+ghost use Rattle.vf_journal.specs.Layout.{anchor_place as place_of, selector_of};
 
 /// `FTAMJNL1`, the number 2, and four zeros.
 pub(crate) const HEADER: [u8; 16] = *b"FTAMJNL1\x00\x00\x00\x02\x00\x00\x00\x00";
@@ -19,4 +19,11 @@ pub(crate) fn anchor_place(second: bool) -> u64
     ensures { result ≡ place_of second }
 {
     if second { 25 } else { 17 }
+}
+
+/// What is written at the selector's place to select an anchor.
+pub(crate) fn selector(second: bool) -> u8
+    ensures { result ≡ selector_of second }
+{
+    if second { 1 } else { 0 }
 }

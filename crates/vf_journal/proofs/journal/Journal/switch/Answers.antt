@@ -1,0 +1,15 @@
+use Rattle.std.proofs.Common.{◌≡◌, Some, length, arith}
+use Rattle.vf_journal.proofs.Switching.{switch_done, switch_left}
+use Rattle.vf_journal.proofs.journal.Journal.switch.Goals as goal
+
+pub returns-in_err-write_synced-clause-any_moment : goal.returns-in_err-write_synced-clause-any_moment
+returns-in_err-write_synced-clause-any_moment g c = λ item records on has.
+    switch_left g.D.Disk.shown g.D.Disk.may_leave g.D.Disk.moment g.D.Disk.left_since c.args.self.now c.args.disk.now item records on has c.write_synced.new.disk c.write_synced.ensures.any_moment
+
+pub returns-clause-any_moment : goal.returns-clause-any_moment
+returns-clause-any_moment g c = λ item records on has.
+    switch_left g.D.Disk.shown g.D.Disk.may_leave g.D.Disk.moment g.D.Disk.left_since c.args.self.now c.args.disk.now item records on has c.write_synced.new.disk c.write_synced.ensures.any_moment
+
+pub returns-clause-ok : goal.returns-clause-ok
+returns-clause-ok g c = rw (← c.self.view_is) (λ item records on has.
+    switch_done g.D.Disk.shown g.D.Disk.may_leave g.D.Disk.moment g.D.Disk.left_since _ c.args.disk.now item records on has c.in-Some.area c.in-Some.is c.write_synced.new.disk (rw c.selector.ensures at (c.in_ok-write_synced.ensures.shown on.image on.shows)) c.in_ok-write_synced.ensures.synced)
