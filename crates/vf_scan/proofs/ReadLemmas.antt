@@ -1,5 +1,5 @@
 -- What is wanting where one reading follows another.
-use Rattle.std.proofs.Common.{◌≡◌, ℕ, Bool, true, false, cond, List, [], ◌∷◌, length, refl, ap, sym, ◌∙◌}
+use Rattle.std.proofs.Common.{◌≡◌, ℕ, Bool, true, false, cond, List, length, refl}
 use Rattle.std.specs.Prelude.{Ok, Err}
 use Rattle.vf_ber.specs.declared.fault.Fault.TheVariants as faults
 use Rattle.vf_ber.specs.Reader.{Reads, then_read, checked, as_verdict}

@@ -1,13 +1,13 @@
 -- What an octet leads to at each place.
-use Rattle.std.proofs.Common.{◌≡◌, ◌≢◌, ℕ, zero, suc, ◌+◌, ◌-◌, ◌*◌, ◌/◌, ◌%◌, ◌<◌, ◌≤◌, ◌^◌, Bool, true, false, cond, List, [], ◌∷◌, ◌++◌, length, take, drop, get_or, refl, ap, sym, ◌∙◌, arith, length-append, length-take, nat_eq, nat_lt, inl, inr, ◌⊎◌}
+use Rattle.std.proofs.Common.{◌≡◌, ◌≢◌, ℕ, zero, suc, ◌+◌, ◌-◌, ◌*◌, ◌/◌, ◌%◌, ◌<◌, ◌≤◌, ◌^◌, Bool, true, false, cond, List, [], ◌∷◌, ◌++◌, length, take, drop, get_or, refl, ap, sym, ◌∙◌, arith, length-append, nat_eq, nat_lt, inl, inr, ◌⊎◌}
 use Rattle.std.specs.Prelude.{Option, Some, None, ◌&&◌, slice_get}
 use Rattle.std.proofs.Math.Seq.{drop-append-add}
 use Rattle.std.proofs.lemmas.Bool.{and_from, cond-true, cond-false, lt-ltb, le-ltb, ltb-true, ltb-false, ne_eqb}
-use Rattle.std.proofs.lemmas.List.{take_all, drop_at, length-take-le}
+use Rattle.std.proofs.lemmas.List.{take_all}
 use Rattle.vf_ber.specs.declared.fitting.Around.{Around}
 use Rattle.vf_ber.specs.declared.room.Room.{Room}
 use Rattle.vf_ber.specs.Reader.{digits_at, end_at, ended_at, parts_at, value_at}
-use Rattle.vf_ber.specs.Steps.{first_fits, second_fits, length_fits, reaches, grown, less}
+use Rattle.vf_ber.specs.Steps.{first_fits, length_fits, reaches, grown, less}
 use Rattle.vf_ber.specs.Verdict.{bounded}
 use Rattle.vf_ber.proofs.Digits.{grown_step, grown_few, grown_more}
 use Rattle.vf_ber.proofs.NameSteps.{first_parts}
@@ -18,7 +18,7 @@ use Rattle.vf_scan.specs.declared.place.Place.{Place}
 use Rattle.vf_scan.specs.declared.place.Place.TheVariants.{Start, Second, Third, Length, Digits, Contents, End}
 use Rattle.vf_scan.specs.Frames.{depth_in, end_room_in, ended_in, less_in, room_in}
 use Rattle.vf_scan.specs.Places.{IsGoing, IsOpen}
-use Rattle.vf_scan.specs.Wanting.{left_wants, after, then_wants, value_wants, contents_wants, length_wants, third_wants, second_wants, wanting, Leads}
+use Rattle.vf_scan.specs.Wanting.{left_wants, after, then_wants, value_wants, contents_wants, wanting, Leads}
 use Rattle.vf_scan.proofs.FrameLemmas.{less_in-less_in}
 use Rattle.vf_scan.proofs.ValueLemmas.{definite_goes_on, definite_ends, indefinite_goes_on, indefinite_ends, value_none, value_some, length_first, digit_first}
 

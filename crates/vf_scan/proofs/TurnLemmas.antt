@@ -1,11 +1,11 @@
 -- How many octets the reader's parts take, and that their turns don't matter where they are enough.
-use Rattle.std.proofs.Common.{◌≡◌, ℕ, zero, suc, ◌+◌, ◌-◌, ◌*◌, ◌≤◌, Bool, true, false, cond, List, [], ◌∷◌, ◌++◌, length, refl, ap, sym, ◌∙◌, arith, length-append, nat_eq, nat_lt}
+use Rattle.std.proofs.Common.{◌≡◌, ℕ, zero, suc, ◌+◌, ◌-◌, ◌*◌, ◌≤◌, Bool, cond, List, [], ◌∷◌, length, refl, ap, ◌∙◌, arith, length-append, nat_eq, nat_lt}
 use Rattle.std.specs.Prelude.{Option, Some, None, Ok, Err, ◌&&◌}
 use Rattle.vf_ber.specs.declared.room.Room.{Room}
 use Rattle.vf_ber.specs.declared.room.Room.TheVariants.{Exact}
-use Rattle.vf_ber.specs.Reader.{Reads, Reader, then_read, digits_at, size_at, parts_at, end_at, ended_at, value_at}
+use Rattle.vf_ber.specs.Reader.{Reads, Reader, then_read, digits_at, size_at, parts_at, end_at, ended_at}
 use Rattle.vf_ber.specs.Steps.{Values, length_fits, less, reaches}
-use Rattle.vf_ber.specs.Tree.{Tree, Trees, none, more}
+use Rattle.vf_ber.specs.Tree.{Tree, Trees, more}
 use Rattle.vf_ber.specs.Verdict.{bounded}
 use Rattle.vf_ber.proofs.Fits.{exact_rest}
 use Rattle.vf_ber.proofs.OneTree.{spelling_long}

@@ -1,11 +1,11 @@
 -- What is wanting behind the octets of a value, as the reading of the value goes on.
-use Rattle.std.proofs.Common.{◌≡◌, ◌≢◌, ℕ, zero, suc, ◌+◌, ◌-◌, ◌*◌, ◌/◌, ◌%◌, ◌<◌, ◌≤◌, Bool, true, false, cond, List, [], ◌∷◌, ◌++◌, length, take, drop, refl, ap, sym, subst, ◌∙◌, arith, length-drop, nat_eq, nat_lt, inl, inr}
+use Rattle.std.proofs.Common.{◌≡◌, ◌≢◌, ℕ, zero, suc, ◌+◌, ◌-◌, ◌*◌, ◌/◌, ◌%◌, ◌<◌, ◌≤◌, Bool, true, false, cond, List, [], ◌∷◌, length, take, drop, refl, ap, sym, ◌∙◌, arith, length-drop, nat_eq, nat_lt}
 use Rattle.std.specs.Prelude.{Option, Some, None, Ok, Err, ◌&&◌}
 use Rattle.std.proofs.lemmas.Bool.{and_from, cond-true, cond-false, lt-ltb, ltb-true, ltb-false, ne_eqb}
 use Rattle.vf_ber.specs.declared.fault.Fault.TheVariants as faults
 use Rattle.vf_ber.specs.declared.room.Room.{Room}
-use Rattle.vf_ber.specs.declared.room.Room.TheVariants.{Exact, Within}
-use Rattle.vf_ber.specs.Reader.{Reads, Reader, then_read, checked, name_from, third_at, second_at, name_at, digits_at, size_at, parts_at, end_at, ended_at, contents_at, value_with, value_at, verdict}
+use Rattle.vf_ber.specs.declared.room.Room.TheVariants.{Exact}
+use Rattle.vf_ber.specs.Reader.{Reads, Reader, then_read, name_from, third_at, second_at, name_at, digits_at, size_at, parts_at, end_at, ended_at, contents_at, value_with, value_at}
 use Rattle.vf_ber.specs.Steps.{Name, first_fits, second_fits, length_fits, reaches, less}
 use Rattle.vf_ber.specs.Tree.{Tag, Tree, Trees, plain, built, none, more}
 use Rattle.vf_ber.specs.Verdict.{bounded}
@@ -14,9 +14,9 @@ use Rattle.vf_ber.proofs.Plain.{IsReader, value_answers}
 use Rattle.vf_scan.specs.declared.frames.Frame.{Frame}
 use Rattle.vf_scan.specs.declared.frames.Frame.TheVariants.{Definite, Indefinite}
 use Rattle.vf_scan.specs.Frames.{depth_in, ended_in, less_in, room_in}
-use Rattle.vf_scan.specs.Wanting.{is_short, then_wants, left_wants, after, value_wants, contents_wants, length_wants, third_wants, second_wants}
+use Rattle.vf_scan.specs.Wanting.{then_wants, left_wants, after, value_wants, contents_wants, length_wants, third_wants, second_wants}
 use Rattle.vf_scan.proofs.FrameLemmas.{length-less_in, length-ended_in, less-less, less-zero, ended_is_less}
-use Rattle.vf_scan.proofs.ReadLemmas.{Leaves, wants_same, wants_then, wants_checked, wants_verdict}
+use Rattle.vf_scan.proofs.ReadLemmas.{Leaves, wants_same, wants_then, wants_checked}
 use Rattle.vf_scan.proofs.TurnLemmas.{digits_leave, size_leaves, value_leaves, parts_leave, parts_turns, ended_leave, ended_turns}
 
 abbrev Any : ℕ → Type 0

@@ -1,5 +1,5 @@
 -- What is known of a place by the values that are open around it.
-use Rattle.std.specs.Prelude.{ℕ, ◌+◌, ◌^◌, ◌<◌, ◌≤◌, List, [], ◌∷◌, length, Option, Some, None}
+use Rattle.std.specs.Prelude.{◌+◌, ◌^◌, ◌<◌, ◌≤◌, List, [], ◌∷◌, length, Option, Some, None}
 use Rattle.std.specs.Coded.{×_prop, Unit-prop, le_prop}
 use Rattle.vf_ber.specs.Steps.{grown}
 use Rattle.vf_scan.specs.declared.frames.Frame.{Frame}

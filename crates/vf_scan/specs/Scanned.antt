@@ -1,5 +1,5 @@
 -- What a scan says of the octets that it was given.
-use Rattle.std.specs.Prelude.{◌≡◌, ◌≢◌, ℕ, ◌<◌, ◌≤◌, List, [], ◌++◌, length, take, Option, Some, None}
+use Rattle.std.specs.Prelude.{◌≡◌, ◌≢◌, ℕ, ◌<◌, List, ◌++◌, take, Option, Some, None}
 use Rattle.vf_ber.specs.Reader.{verdict}
 use Rattle.vf_ber.specs.Verdict.{Short}
 use Rattle.vf_scan.specs.declared.scan.Scan.{Scan}

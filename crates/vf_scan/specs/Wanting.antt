@@ -1,6 +1,6 @@
 -- Whether octets are wanting, as the reading of a value goes on from a place in it. It reads what is left by the words
 -- of the reading of all octets.
-use Rattle.std.specs.Prelude.{◌≡◌, ℕ, zero, suc, ◌+◌, ◌-◌, Bool, true, false, ◌&&◌, nat_lt, List, [], ◌∷◌, ◌++◌, length, drop, Option, Some, None, Ok, Err, if◌then◌else◌}
+use Rattle.std.specs.Prelude.{◌≡◌, ℕ, zero, suc, ◌+◌, ◌-◌, Bool, true, false, ◌&&◌, nat_lt, List, [], ◌∷◌, length, drop, Option, Some, None, Ok, Err, if◌then◌else◌}
 use Rattle.vf_ber.specs.declared.fault.Fault.TheVariants as faults
 use Rattle.vf_ber.specs.Reader.{Reads, digits_at, end_at, ended_at, parts_at, size_at, value_at}
 use Rattle.vf_ber.specs.Steps.{less, second_fits}

@@ -3,37 +3,40 @@ use std::alloc::Global;
 use std::test::*;
 use vf_ber::{BerError, read};
 
-/// Whether octets are wanting, by a reading of them all.
-fn is_short(alloc: Global, octets: &[u8]) -> bool {
-    matches!(read(alloc, octets), Err(BerError::Short))
-}
-
-/// How many octets there are up to the first with which no more are wanting.
+/// How many octets there are up to the first with which none are wanting, by readings of all octets so far.
 fn plain(alloc: Global, octets: &[u8]) -> Option<usize> {
-    for n in 1..=octets.len() {
-        if !is_short(alloc, &octets[..n]) {
+    for n in 1..octets.len() + 1 {
+        let (front, _) = octets.split_at(n);
+        if !matches!(read(alloc, front), Err(BerError::Short)) {
             return Some(n);
         }
     }
     None
 }
 
-/// The same by a scan of pieces of up to `most` octets.
-fn in_pieces(octets: &[u8], most: usize, seed: &mut u32) -> Option<usize> {
+/// The next number of a sequence that looks random.
+fn next(seed: u32) -> u32 {
+    seed.wrapping_mul(1_664_525).wrapping_add(1_013_904_223)
+}
+
+/// The same by a scan of pieces of one octet up to `most`.
+fn in_pieces(octets: &[u8], most: u32, first: u32) -> Option<usize> {
     let mut scan = Scan::new();
-    let mut at = 0;
-    while at < octets.len() {
-        *seed = seed.wrapping_mul(1_664_525).wrapping_add(1_013_904_223);
-        let wanted = 1 + (*seed >> 16) as usize % most;
-        let size = wanted.min(octets.len() - at);
-        if let Some(n) = scan.feed(&octets[at..at + size]) {
-            return Some(at + n);
+    let mut seed = first;
+    let mut rest = octets;
+    for _ in 0..octets.len() {
+        seed = next(seed);
+        let size = 1 + (seed >> 16) % most.max(1);
+        let (piece, behind) = rest.split_at((size as usize).min(rest.len()));
+        if let Some(n) = scan.feed(piece) {
+            return Some(octets.len().wrapping_sub(rest.len()).wrapping_add(n));
         }
-        at += size;
+        rest = behind;
     }
     None
 }
 
+/// With primitive and constructed values, lengths of each form and in each other, and octets behind them.
 const VALUES: [&[u8]; 8] = [
     &[0x04, 0x00],
     &[0x5f, 0xff, 0x7f, 0x82, 0x00, 0x03, 1, 2, 3, 4],
@@ -50,7 +53,7 @@ const VALUES: [&[u8]; 8] = [
         0x30, 0x80, 0x30, 0x04, 0x30, 0x80, 0x00, 0x00, 0x30, 0x00, 0x00, 0x00,
     ],
     &[
-        0x7f, 0x81, 0x00, 0x81, 0x06, 0x9f, 0x1f, 0x88, 0, 0, 0, 0, 0, 0, 0, 1, 9,
+        0x7f, 0x81, 0x00, 0x81, 0x0e, 0x9f, 0x1f, 0x88, 0, 0, 0, 0, 0, 0, 0, 1, 9, 0x02, 0x00,
     ],
     &[
         0xa1, 0x80, 0xa2, 0x80, 0xa3, 0x80, 0xa4, 0x05, 0x9f, 0x81, 0x02, 0x01, 0x07, 0, 0, 0, 0,
@@ -58,21 +61,60 @@ const VALUES: [&[u8]; 8] = [
     ],
 ];
 
+const OCTETS: [u8; 9] = [0x00, 0x01, 0x02, 0x1f, 0x30, 0x80, 0x81, 0x88, 0xff];
+
 #[test]
 fn ends_where_a_reading_ends(rt: HostRuntime) -> Result<(), Fail> {
-    let mut seed = 1;
     for value in VALUES {
         for at in 0..value.len() {
-            for octet in [0x00, 0x01, 0x02, 0x1f, 0x30, 0x80, 0x81, 0x88, 0xff] {
-                let mut octets = value.to_vec(rt.alloc())?;
-                octets[at] = octet;
-                let octets = octets.as_slice();
-                let wanted = plain(rt.alloc(), octets);
-                assert_eq!(rt; in_pieces(octets, 1, &mut seed), wanted, "{octets:?}");
-                assert_eq!(rt; in_pieces(octets, 5, &mut seed), wanted, "{octets:?}");
-                assert_eq!(rt; in_pieces(octets, 40, &mut seed), wanted, "{octets:?}");
+            for octet in OCTETS {
+                let mut changed = value.to_vec(rt.alloc())?;
+                if at < changed.len() {
+                    changed[at] = octet;
+                }
+                let octets = changed.as_slice();
+                let end = plain(rt.alloc(), octets);
+                for most in [1, 3, 40] {
+                    assert_eq!(rt; in_pieces(octets, most, at as u32), end, "{octets:?}");
+                }
             }
         }
     }
     Ok(())
+}
+
+#[test]
+fn ends_at_depth_32(rt: HostRuntime) -> Result<(), Fail> {
+    // so many sequences, one in the other, in definite or indefinite lengths
+    for depth in [32u8, 33] {
+        let mut definite = Vec::new(rt.alloc());
+        let mut indefinite = Vec::new(rt.alloc());
+        for inside in (0..depth).rev() {
+            definite.extend_from_slice(&[0x30, inside.wrapping_mul(2)])?;
+            indefinite.extend_from_slice(&[0x30, 0x80])?;
+        }
+        for _ in 0..depth {
+            indefinite.extend_from_slice(&[0x00, 0x00])?;
+        }
+        for octets in [definite.as_slice(), indefinite.as_slice()] {
+            let end = in_pieces(octets, 5, 1);
+            assert_eq!(rt; end, plain(rt.alloc(), octets));
+            assert_eq!(rt; end == Some(octets.len()), depth == 32);
+        }
+    }
+    Ok(())
+}
+
+#[test]
+fn begins_anew(rt: HostRuntime) {
+    // behind the end of a value in a piece, behind a fault, and where the octets are forgotten
+    let mut scan = Scan::new();
+    assert_eq!(rt; scan.feed(&[0x04, 0x01, 0x07, 0x04]), Some(3));
+    assert_eq!(rt; scan.feed(&[0x04, 0x01]), None);
+    assert_eq!(rt; scan.feed(&[0x07, 0x00]), Some(1));
+    assert_eq!(rt; scan.feed(&[0x00]), Some(1));
+    assert_eq!(rt; scan.feed(&[0x30, 0x80, 0x04]), None);
+    scan.clear();
+    assert_eq!(rt; scan.feed(&[]), None);
+    assert_eq!(rt; scan.feed(&[0x04, 0x00]), Some(2));
 }

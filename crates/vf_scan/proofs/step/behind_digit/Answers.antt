@@ -1,6 +1,4 @@
-use Rattle.std.proofs.Common.{◌≡◌, ◌+◌, ◌-◌, ◌*◌, true, false, ap, sym, ◌∙◌, arith}
-use Rattle.vf_ber.specs.Steps.{reaches}
-use Rattle.vf_ber.specs.Verdict.{bounded}
+use Rattle.std.proofs.Common.{◌+◌, ◌-◌, ◌*◌, true, false, arith}
 use Rattle.vf_ber.proofs.Digits.{grown_le, grown_less}
 use Rattle.vf_scan.proofs.StepLemmas.{digit_none, digit_last, digit_next, digit_small, reaches_around}
 use Rattle.vf_scan.proofs.step.behind_digit.Goals as goal

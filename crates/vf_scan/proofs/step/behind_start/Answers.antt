@@ -1,4 +1,4 @@
-use Rattle.std.proofs.Common.{◌∙◌, sym, inl, inr, arith}
+use Rattle.std.proofs.Common.{◌∙◌, sym, inl, inr}
 use Rattle.vf_scan.proofs.StepLemmas.{start_ends, start_begins}
 use Rattle.vf_scan.proofs.step.behind_start.Goals as goal
 

@@ -1,8 +1,8 @@
-use Rattle.std.proofs.Common.{◌≤◌, ◌+◌, ap, arith, length, subst, take, drop, ℕ, List, ◌++◌}
-use Rattle.std.specs.Prelude.{Option, None, Some}
+use Rattle.std.proofs.Common.{arith, subst, take, ◌++◌}
+use Rattle.std.specs.Prelude.{Option}
 use Rattle.vf_scan.specs.declared.place.Place.{Place}
 use Rattle.vf_scan.specs.Wanting.{wanting, Leads}
-use Rattle.vf_scan.proofs.VerdictLemmas.{Fed, fed_ended, fed_more, new_ahead, new_short}
+use Rattle.vf_scan.proofs.VerdictLemmas.{fed_ended, fed_more, new_ahead, new_short}
 use Rattle.vf_scan.proofs.scan.Scan.feed.Goals as goal
 
 pub returns-in_default-clause-fed : goal.returns-in_default-clause-fed
