@@ -1,6 +1,7 @@
 mod TopLemmas
 mod LineLemmas
 mod PrintedLemmas
+mod ScanLemmas
 mod TakenLemmas
 mod ContinuesLemmas
 mod ReceivedLemmas

@@ -16,6 +16,8 @@ use Rattle.vf_regime.specs.Refusal.{not_built}
 use Rattle.vf_regime.specs.Represents.{Represents}
 use Rattle.vf_regime.specs.State.{State, StandingParty}
 use Rattle.vf_regime.specs.Transition.{Consequence}
+use Rattle.vf_scan.specs.Scanned.{HasTaken}
+use Rattle.vf_scan.specs.declared.scan.Scan.{Scan}
 use Rattle.vf_cli.specs.declared.conversation.After.{After}
 use Rattle.vf_cli.specs.declared.conversation.After.TheVariants as after
 use Rattle.vf_cli.specs.declared.conversation.Conversation.{Conversation}
@@ -62,9 +64,16 @@ Holds None tables state = state.parties ≡ []
 abbrev pub IsQuiet : State → List ℕ → Type 0
 IsQuiet state pending = said_to state (received pending) ≡ []
 
+-- the scan of a party that goes on has taken the octets
+abbrev pub IsScanned : Option Party → Scan → List ℕ → Type 0
+IsScanned (Some party) scan pending = HasTaken scan pending
+IsScanned None scan pending = Unit {0}
+
 -- a conversation stands in this state of the filestore
 abbrev pub Stands : Conversation → State → Type 0
-Stands conversation state = Holds conversation.party conversation.tables state × IsQuiet state conversation.pending.items
+Stands conversation state =
+    Holds conversation.party conversation.tables state × IsQuiet state conversation.pending.items
+    × IsScanned conversation.party conversation.scan conversation.pending.items
 
 -- where the party goes on, the octets that are left are a proper front of a message
 abbrev pub IsRest : After → List ℕ → Type 0

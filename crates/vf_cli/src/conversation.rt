@@ -5,7 +5,7 @@ ghost use Rattle.vf_regime.specs.declared.message.Message.TheVariants as message
 ghost use Rattle.vf_regime.specs.Represents.{Represents, with_tables};
 ghost use Rattle.vf_regime.specs.State.{State, StandingParty};
 ghost use Rattle.vf_regime.specs.Transition.{transition};
-ghost use Rattle.vf_cli.specs.Conversation.{Appends, Holds, IsRest, IsSayable, Makes, Stands, TakesPiece};
+ghost use Rattle.vf_cli.specs.Conversation.{Appends, Holds, IsRest, IsSayable, IsScanned, Makes, Stands, TakesPiece};
 ghost use Rattle.vf_cli.specs.Dialogue.{is_abort as abort_test, opened, reply};
 
 use crate::message::{Front, append_reply, front_of};
@@ -13,6 +13,7 @@ use std::alloc::Global;
 use vf_base::{Moment, NoMemory};
 use vf_pdu::Pdu;
 use vf_regime::{Message, Outcome, Party, Said, Stage, Tables};
+use vf_scan::Scan;
 
 /// A conversation with one party over a filestore that starts empty.
 #[derive(Drop)]
@@ -22,6 +23,8 @@ pub(crate) struct Conversation {
     tables: Tables,
     /// Octets of a message that isn't whole yet.
     pending: Vec<u8>,
+    /// What they say of those that may follow.
+    scan: Scan,
 }
 
 impl Conversation {
@@ -33,18 +36,21 @@ impl Conversation {
             party: Some(Party::idle(LINK)),
             tables: Tables::new(alloc),
             pending: Vec::new(alloc),
+            scan: Scan::new(),
         }
     }
 
     /// Takes a piece of the stream, appends the replies to its messages as lines, and says whether an abort is
-    /// among them. A party that is gone takes nothing.
+    /// among them. A party that is gone takes nothing. Pending octets are read once, when a message is whole or
+    /// faulty with the piece.
     pub(crate) fn take(
         &mut self,
         alloc: Global,
         piece: &[u8],
         replies: &mut Vec<u8>,
     ) -> Result<bool, NoMemory>
-        requires { (state : State) × Holds self.old.party self.old.tables state }
+        requires holds { (state : State) × Holds self.old.party self.old.tables state }
+        requires scanned { IsScanned self.old.party self.old.scan self.old.pending.items }
         ensures { IfOk result (λ aborted. (state : State) → Holds self.old.party self.old.tables state
             → TakesPiece state self.old.pending.items piece.now replies.old.items replies.new.items self.new aborted) }
     {
@@ -52,6 +58,10 @@ impl Conversation {
             return Ok(false);
         };
         self.pending.extend_from_slice(piece)?;
+        if self.scan.feed(piece).is_none() {
+            self.party = Some(party);
+            return Ok(false);
+        }
         let (after, used) = take_messages(
             alloc,
             party,
@@ -62,6 +72,7 @@ impl Conversation {
         drop_front(&mut self.pending, used);
         match after {
             After::Goes(party) => {
+                let _ = self.scan.feed(self.pending.as_slice());
                 self.party = Some(party);
                 Ok(false)
             }

@@ -1,5 +1,6 @@
 use Rattle.std.proofs.Common.{List, [], ℕ, refl, sym, subst}
 use Rattle.vf_regime.specs.State.{arrived}
+use Rattle.vf_scan.specs.Scanned.{HasTaken}
 use Rattle.vf_cli.specs.Conversation.{IsQuiet}
 use Rattle.vf_cli.specs.Dialogue.{link, opened}
 use Rattle.vf_cli.proofs.ContinuesLemmas.{quiet_short}
@@ -10,4 +11,5 @@ pub returns-clause-stands : goal.returns-clause-stands
 returns-clause-stands c = (
   (arrived link, refl, refl, c.idle.ensures, sym c.new.ensures),
   subst (λ (l : List ℕ). IsQuiet opened l) (sym c.new-2.ensures.items) (quiet_short opened [] verdict_none),
+  subst (λ (l : List ℕ). HasTaken c.new-3.result l) (sym c.new-2.ensures.items) c.new-3.ensures,
 )

@@ -1,0 +1,33 @@
+-- Where a scan stands behind octets that were read as no whole value.
+use Rattle.std.proofs.Common.{◌≡◌, true, false, ◌++◌, ℕ, List, [], ◌∷◌, subst, sym, append-nil, append_assoc}
+use Rattle.std.proofs.lemmas.List.{take-append-drop}
+use Rattle.std.specs.Prelude.{Option, Some, None, OnSome, is_some, take, drop}
+use Rattle.vf_ber.proofs.Plain.{verdict_found}
+use Rattle.vf_ber.proofs.Verdicts.{one_verdict}
+use Rattle.vf_ber.specs.Reader.{verdict}
+use Rattle.vf_ber.specs.Verdict.{IsVerdict, IsSpelling, Short, bounded}
+use Rattle.vf_scan.specs.Scanned.{HasTaken, IsFed}
+use Rattle.vf_scan.specs.declared.scan.Scan.{Scan}
+
+-- where octets are wanting behind some, they are behind those in front
+prefix_short : (octets more : List ℕ) → verdict (octets ++ more) ≡ Short → verdict octets ≡ Short
+prefix_short octets [] e = subst (λ (l : List ℕ). verdict l ≡ Short) (append-nil octets) e
+prefix_short octets (next ∷ more) e =
+    let whole : IsVerdict (octets ++ next ∷ more) Short =
+    subst (λ v. IsVerdict (octets ++ next ∷ more) v) e (verdict_found (octets ++ next ∷ more)) in
+    let front : IsVerdict octets Short =
+    (next, more ++ whole.0 ∷ whole.1, whole.2, subst (λ (l : List ℕ). IsSpelling bounded l whole.2) (append_assoc octets (next ∷ more) (whole.0 ∷ whole.1)) whole.3) in
+    one_verdict octets (verdict octets) Short (verdict_found octets) front
+
+pub scanned : (rest : List ℕ) (result : Option ℕ) (scan : Scan) → verdict rest ≡ Short → IsFed [] rest result scan → HasTaken scan rest
+scanned rest None scan short fed = fed
+scanned rest (Some n) scan short fed =
+    absurd (fed.ended (prefix_short (take n rest) (drop n rest) (subst (λ (l : List ℕ). verdict l ≡ Short) (sym (take-append-drop n rest)) short)))
+
+pub still_wanting : (octets piece : List ℕ) (result : Option ℕ) (scan : Scan) → is_some result ≡ false → IsFed octets piece result scan → HasTaken scan (octets ++ piece)
+still_wanting octets piece None scan some fed = fed
+still_wanting octets piece (Some n) scan some fed = absurd cc
+
+pub on_some : (result : Option ℕ) (holds : Type 0) → is_some result ≡ true → OnSome result holds → holds
+on_some None holds some h = absurd cc
+on_some (Some n) holds some h = h
