@@ -7,7 +7,9 @@ pub use Rattle.vf_fields.specs.Reading
 pub use Rattle.vf_fields.specs.Results
 pub use Rattle.vf_fields.specs.Rows
 pub use Rattle.vf_fields.specs.Slots
+pub use Rattle.vf_fields.specs.Writing
 pub mod AttributeTails
 pub mod FormViews
+pub mod Laws
 pub mod ParameterSlots
 pub mod Parameters

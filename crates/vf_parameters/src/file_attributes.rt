@@ -1,4 +1,7 @@
-use vf_base::{Actions, Contents, Name, Octets, Sequence};
+ghost use Rattle.std.specs.Prelude.{◌≡◌, IfOk};
+
+use std::alloc::Global;
+use vf_base::{Actions, Contents, Duplicate, Name, NoMemory, Octets, Sequence, copy_option};
 
 /// A term of an access control list as it is shown: its password stays out.
 #[derive(Drop)]
@@ -7,6 +10,26 @@ pub struct Grant {
     pub identity: Option<Name>,
     /// What it grants.
     pub actions: Actions,
+}
+
+impl Grant {
+    /// The same grant; its octets are shared.
+    pub fn copy(&self, alloc: Global) -> Result<Grant, NoMemory>
+        ensures { IfOk result (λ made. made ≡ self.now) }
+    {
+        let identity = copy_option(alloc, &self.identity)?;
+        Ok(Grant {
+            identity,
+            actions: self.actions,
+        })
+    }
+}
+
+impl Duplicate for Grant {
+    fn duplicate(&self, alloc: Global) -> Result<Grant, NoMemory> {
+        let made = self.copy(alloc)?;
+        Ok(made)
+    }
 }
 
 /// An access control list as it is shown.
@@ -18,6 +41,24 @@ pub struct Stamp {
     /// A moment of the years 1970 to 9999 as `YYYYMMDDHHMMSSZ`.
     pub date: Octets,
     pub identity: Name,
+}
+
+impl Stamp {
+    /// The same stamp; its octets are shared.
+    pub fn copy(&self, alloc: Global) -> Result<Stamp, NoMemory>
+        ensures { IfOk result (λ made. made ≡ self.now) }
+    {
+        let date = self.date.copy(alloc)?;
+        let identity = self.identity.copy(alloc)?;
+        Ok(Stamp { date, identity })
+    }
+}
+
+impl Duplicate for Stamp {
+    fn duplicate(&self, alloc: Global) -> Result<Stamp, NoMemory> {
+        let made = self.copy(alloc)?;
+        Ok(made)
+    }
 }
 
 /// The attributes of a file that were asked for and are there (ISO 8571-2, file attributes).
@@ -34,4 +75,58 @@ pub struct Attributes {
     pub changed: Option<Stamp>,
     /// In octets.
     pub size: Option<i64>,
+}
+
+impl Attributes {
+    /// The same attributes; their octets are shared.
+    pub fn copy(&self, alloc: Global) -> Result<Attributes, NoMemory>
+        ensures { IfOk result (λ made. made ≡ self.now) }
+    {
+        let name = copy_option(alloc, &self.name)?;
+        let contents = copy_contents(alloc, &self.contents)?;
+        let terms = copy_grants(alloc, &self.terms)?;
+        let created = copy_option(alloc, &self.created)?;
+        let modified = copy_option(alloc, &self.modified)?;
+        let read = copy_option(alloc, &self.read)?;
+        let changed = copy_option(alloc, &self.changed)?;
+        Ok(Attributes {
+            name,
+            permitted: self.permitted,
+            contents,
+            terms,
+            created,
+            modified,
+            read,
+            changed,
+            size: self.size,
+        })
+    }
+}
+
+/// The same contents type, where there is one.
+pub fn copy_contents(
+    alloc: Global,
+    contents: &Option<Contents>,
+) -> Result<Option<Contents>, NoMemory>
+    ensures { IfOk result (λ made. made ≡ contents.now) }
+{
+    match contents {
+        Some(contents) => {
+            let made = contents.copy(alloc)?;
+            Ok(Some(made))
+        }
+        None => Ok(None),
+    }
+}
+
+fn copy_grants(alloc: Global, grants: &Option<Grants>) -> Result<Option<Grants>, NoMemory>
+    ensures { IfOk result (λ made. made ≡ grants.now) }
+{
+    match grants {
+        Some(grants) => {
+            let made = grants.copy(alloc)?;
+            Ok(Some(made))
+        }
+        None => Ok(None),
+    }
 }
