@@ -9,3 +9,8 @@ mod Appending
 mod Preparing
 mod Switching
 mod Creating
+mod Gates
+mod Held
+mod Fronts
+mod Looks
+mod Takings

@@ -33,3 +33,11 @@ length_named-append octets rest long = big_from-append 4 octets rest long
 pub place_octets_are : (place : ℕ) → to_be_bytes w64 place ≡ place_octets place
 unfolding place_octets
 place_octets_are place = refl
+
+pub length_named_is : (octets : List ℕ) → big_number 4 octets ≡ length_named octets
+unfolding length_named
+length_named_is octets = refl
+
+pub place_named_is : (octets : List ℕ) → big_number 8 octets ≡ place_named octets
+unfolding place_named
+place_named_is octets = refl

@@ -1,7 +1,7 @@
 -- How rows of calls are counted.
 use Rattle.std.proofs.Common.{◌≡◌, ℕ, zero, suc, ◌+◌, ◌<◌, ◌≤◌, Bool, true, false, not, ◌&&◌, Option, None, Some, refl, sym, ◌∙◌, ap, subst, arith, true≢false}
-use Rattle.vf_disk.specs.Plans.{StopPlan, after_change, change_fails, ChangesWherePlanned}
-use Rattle.vf_journal.specs.Calls.{MakesChanges, after_changes, no_change_fails}
+use Rattle.vf_disk.specs.Plans.{StopPlan, after_change, after_look, change_fails, look_fails, ChangesWherePlanned, LooksAsPlanned}
+use Rattle.vf_journal.specs.Calls.{MakesChanges, MakesLooks, after_changes, after_looks, no_change_fails, no_look_fails}
 
 after_add : (a b : ℕ) (plan : StopPlan) → after_changes b (after_changes a plan) ≡ after_changes (a + b) plan
 after_add a zero plan = let same : a ≡ a + 0 = omega arith in ap (λ (n : ℕ). after_changes n plan) same
@@ -55,3 +55,41 @@ one_change (Some old) new (fails, is) = (not_of (change_fails old) fails, is)
 pub changes_fewer : (a b : ℕ) (old new : Option StopPlan) → a ≤ b → MakesChanges a old new true → MakesChanges b old new true
 changes_fewer a b None new le made = made
 changes_fewer a b (Some old) new le (made, less, none, is) = (made, omega arith, none, is)
+
+look_add : (a b : ℕ) (plan : StopPlan) → after_looks b (after_looks a plan) ≡ after_looks (a + b) plan
+look_add a zero plan = let same : a ≡ a + 0 = omega arith in ap (λ (n : ℕ). after_looks n plan) same
+look_add a (suc b) plan = let same : suc (a + b) ≡ a + suc b = omega arith in ap after_look (look_add a b plan) ∙ ap (λ (n : ℕ). after_looks n plan) same
+
+no_look_add : (a b : ℕ) (plan : StopPlan) → no_look_fails a plan ≡ true → no_look_fails b (after_looks a plan) ≡ true → no_look_fails (a + b) plan ≡ true
+no_look_add a zero plan first second = let same : a ≡ a + 0 = omega arith in subst (λ (n : ℕ). no_look_fails n plan ≡ true) same first
+no_look_add a (suc b) plan first second =
+    let same : suc (a + b) ≡ a + suc b = omega arith in
+    let parts = both (no_look_fails b (after_looks a plan)) (not (look_fails (after_looks b (after_looks a plan)))) second in
+    let last : not (look_fails (after_looks (a + b) plan)) ≡ true = subst (λ (p : StopPlan). not (look_fails p) ≡ true) (look_add a b plan) parts.1 in
+    subst (λ (n : ℕ). no_look_fails n plan ≡ true) same (and_of (no_look_fails (a + b) plan) (not (look_fails (after_looks (a + b) plan))) (no_look_add a b plan first parts.0) last)
+
+pub looks_joined : (old mid new : Option StopPlan) (failed : Bool) → MakesLooks old mid false → MakesLooks mid new failed → MakesLooks old new failed
+looks_joined None None new true first second = second
+looks_joined None None new false first second = second
+looks_joined None (Some plan) new failed first second = cc
+looks_joined (Some old) None new failed (a, none, is) second = cc is
+looks_joined (Some old) (Some mid) new false (a, none, is) (b, still, last) =
+    let same : mid ≡ after_looks a old = cc in
+    let none_b : no_look_fails b (after_looks a old) ≡ true = subst (λ (p : StopPlan). no_look_fails b p ≡ true) same still in
+    (a + b, no_look_add a b old none none_b, last ∙ ap (λ (p : StopPlan). Some (after_looks b p)) same ∙ ap Some (look_add a b old))
+looks_joined (Some old) (Some mid) new true (a, none, is) (b, still, fails, last) =
+    let same : mid ≡ after_looks a old = cc in
+    let none_b : no_look_fails b (after_looks a old) ≡ true = subst (λ (p : StopPlan). no_look_fails b p ≡ true) same still in
+    let at : after_looks b mid ≡ after_looks (a + b) old = ap (after_looks b) same ∙ look_add a b old in
+    (a + b, no_look_add a b old none none_b, subst (λ (p : StopPlan). look_fails p ≡ true) at fails, last ∙ ap (λ (p : StopPlan). Some (after_look p)) at)
+
+-- one call, and none
+pub one_look : (old new : Option StopPlan) (failed : Bool) → LooksAsPlanned old new failed → MakesLooks old new failed
+one_look None new true is = is
+one_look None new false is = is
+one_look (Some old) new true (fails, is) = (0, refl, sym fails, is)
+one_look (Some old) new false (fails, is) = (1, ap not (sym fails), is)
+
+pub no_look : (plan : Option StopPlan) → MakesLooks plan plan false
+no_look None = refl
+no_look (Some plan) = (0, refl, refl)

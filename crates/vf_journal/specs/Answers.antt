@@ -24,7 +24,15 @@ AppendAnswers end limit old new (Err DiskFault) = (end ≤ limit) × HasRisen ol
 AppendAnswers end limit old new (Err (NotAStore place found expected)) = ⊥
 AppendAnswers end limit old new (Err NoMemory) = ⊥
 
--- Opening may want memory, and never is full.
+-- Reading may want memory, and nothing else but a fault refuses it.
+abbrev pub ReadCauses : {T : Type 0} → ℕ → ℕ → Result T JournalError → Type 0
+ReadCauses old new (Ok done) = new ≡ old
+ReadCauses old new (Err DiskFault) = HasRisen old new
+ReadCauses old new (Err NoMemory) = new ≡ old
+ReadCauses old new (Err (NotAStore place found expected)) = ⊥
+ReadCauses old new (Err (Full end limit)) = ⊥
+
+-- Opening may want memory or find no journal, and never is full.
 abbrev pub OpenCauses : {T : Type 0} → ℕ → ℕ → Result T JournalError → Type 0
 OpenCauses old new (Ok journal) = new ≡ old
 OpenCauses old new (Err (NotAStore place found expected)) = new ≡ old

@@ -6,3 +6,4 @@ pub mod Answers
 pub mod Calls
 pub mod Writes
 pub mod Looking
+pub mod Reading

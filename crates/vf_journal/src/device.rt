@@ -1,8 +1,10 @@
 //! Calls of a disk that belong together.
-ghost use Rattle.std.specs.Prelude.{◌≡◌, ◌+◌, ◌≤◌, ℕ, List, Some, length, is_err, max, OnOk, OnErr};
+ghost use Rattle.std.specs.Prelude.{◌≡◌, ◌+◌, ◌≤◌, ℕ, List, Some, length, is_err, max, IfOk, OnOk, OnErr};
 ghost use Rattle.vf_base.specs.Faults.{HasRisen};
 ghost use Rattle.vf_disk.specs.Disk.{Torn, LeavesOnly, LeavesShown, greatest_length, overwritten};
 ghost use Rattle.vf_journal.specs.Calls.{MakesChanges};
+ghost use Rattle.vf_journal.specs.Layout.{part};
+ghost use Rattle.vf_journal.specs.Looking.{IsLookedAt};
 ghost use Rattle.vf_journal.specs.Writes.{Behind};
 
 use vf_base::Failed;
@@ -49,5 +51,29 @@ pub(crate) fn write_both_synced<D: Disk>(
 {
     disk.write_at(at, octets)?;
     write_synced(disk, then_at, then)?;
+    Ok(())
+}
+
+/// The number of octets of a disk.
+pub(crate) fn measure<D: Disk>(disk: &mut D) -> Result<u64, Failed>
+    ensures length { IfOk result (λ length. length ≡ D.size disk.old) }
+    ensures bound { IfOk result (λ length. length ≤ greatest_length) }
+    ensures looks { IsLookedAt D.shown D.size D.may_leave D.moment D.left_since D.plan (is_err result) disk.old disk.new }
+    ensures ok { OnOk result (D.fault_count disk.new ≡ D.fault_count disk.old) }
+    ensures failed { OnErr result (HasRisen (D.fault_count disk.old) (D.fault_count disk.new)) }
+{
+    let length = disk.len()?;
+    Ok(length)
+}
+
+/// Fills `into` with the octets from a place on.
+pub(crate) fn read_at<D: Disk>(disk: &mut D, at: u64, into: &mut [u8]) -> Result<(), Failed>
+    requires { at + length into.old ≤ D.size disk.old }
+    ensures octets { (image : List ℕ) → D.shown disk.old ≡ Some image → OnOk result (into.new ≡ part image at (length into.old)) }
+    ensures looks { IsLookedAt D.shown D.size D.may_leave D.moment D.left_since D.plan (is_err result) disk.old disk.new }
+    ensures ok { OnOk result (D.fault_count disk.new ≡ D.fault_count disk.old) }
+    ensures failed { OnErr result (HasRisen (D.fault_count disk.old) (D.fault_count disk.new)) }
+{
+    disk.read(at, into)?;
     Ok(())
 }

@@ -6,10 +6,13 @@ mod area;
 mod device;
 mod error;
 mod journal;
+mod laws;
 mod layout;
 mod placing;
+mod reading;
 
 pub use area::Area;
 pub use error::JournalError;
 pub use journal::Journal;
+pub use laws::{held_is_read, new_holds_none};
 pub use placing::Placing;

@@ -1,0 +1,42 @@
+-- A disk that is looked at once more.
+use Rattle.std.proofs.Common.{◌≡◌, ℕ, Bool, true, false, List, Option, refl, ◌∙◌}
+use Rattle.vf_disk.specs.Disk.{Elapses, LeavesOnly, Within}
+use Rattle.vf_disk.specs.Laws.{leaves_at_first, leaves_behind}
+use Rattle.vf_disk.specs.Plans.{StopPlan, LooksAsPlanned}
+use Rattle.vf_journal.specs.Calls.{MakesLooks}
+use Rattle.vf_journal.specs.Looking.{IsLookedAt}
+use Rattle.vf_journal.proofs.Plans.{looks_joined, no_look, one_look}
+use Rattle.vf_journal.proofs.Runs.{joined}
+
+module _ {D : Type 0} (shown : D → Option (List ℕ)) (size : D → ℕ) (may_leave : D → List ℕ → Type 0) (moment : D → ℕ) (left_since : D → ℕ → List ℕ → Type 0) (plan : D → Option StopPlan)
+    (only_now : (disk : D) (image : List ℕ) → left_since disk (moment disk) image → may_leave disk image) where
+  pub looked_once : (old new : D) (failed : Bool) → shown new ≡ shown old → size new ≡ size old → Within (may_leave old) (may_leave new)
+      → Elapses (moment old) (moment new) (left_since old) (left_since new) (may_leave new) → LooksAsPlanned (plan old) (plan new) failed
+      → IsLookedAt shown size may_leave moment left_since plan failed old new
+  looked_once old new failed same long within time planned = record {
+    same = same;
+    as_long = long;
+    now = within;
+    since = leaves_behind moment left_since old old new (may_leave old) (may_leave new) (leaves_at_first moment left_since old (may_leave old) (only_now old)) time within;
+    calls = one_look (plan old) (plan new) failed planned;
+  }
+
+  pub looked_none : (disk : D) → IsLookedAt shown size may_leave moment left_since plan false disk disk
+  looked_none disk = record {
+    same = refl;
+    as_long = refl;
+    now = λ image left. left;
+    since = leaves_at_first moment left_since disk (may_leave disk) (only_now disk);
+    calls = no_look (plan disk);
+  }
+
+pub looked_then : {D : Type 0} (shown : D → Option (List ℕ)) (size : D → ℕ) (may_leave : D → List ℕ → Type 0) (moment : D → ℕ) (left_since : D → ℕ → List ℕ → Type 0) (plan : D → Option StopPlan)
+    (old mid new : D) (failed : Bool) → IsLookedAt shown size may_leave moment left_since plan false old mid → IsLookedAt shown size may_leave moment left_since plan failed mid new
+    → IsLookedAt shown size may_leave moment left_since plan failed old new
+looked_then shown size may_leave moment left_since plan old mid new failed first second = record {
+  same = second.same ∙ first.same;
+  as_long = second.as_long ∙ first.as_long;
+  now = λ image left. first.now image (second.now image left);
+  since = joined moment left_since old mid new (may_leave old) (may_leave mid) (may_leave old) first.since second.since (λ image left. left) (λ image left. first.now image left);
+  calls = looks_joined (plan old) (plan mid) (plan new) failed first.calls second.calls;
+}

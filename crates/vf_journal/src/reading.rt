@@ -1,0 +1,164 @@
+//! Reading the records of an area, in blocks.
+ghost use Rattle.std.specs.Prelude.{◌≡◌, ◌+◌, ◌-◌, ◌<◌, ◌≤◌, ◌^◌, ℕ, List, [], ◌∷◌, ◌++◌, take, drop, length, length as size_of, false, IfOk, IfNone, IfSome, None, OnErr, option_map, Some};
+ghost use Rattle.vf_disk.specs.Disk.{greatest_length};
+ghost use Rattle.vf_journal.specs.Answers.{ReadCauses, is_fault};
+ghost use Rattle.vf_journal.specs.Looking.{IsLookedAt};
+ghost use Rattle.vf_journal.specs.Reading.{BeginsWith, IsFront, IsWhole, StandsFrom, Takes};
+ghost use Rattle.vf_journal.specs.Layout.{length_named, part};
+ghost use Rattle.vf_journal.specs.Records.{first_record};
+ghost use Rattle.vf_journal.specs.Standing.{IsPlaced, area_of};
+
+use crate::JournalError;
+use crate::area::Area;
+use crate::device::read_at;
+use byteorder::{BigEndian, ByteOrder};
+use std::alloc::Global;
+use vf_base::{NoMemory, Octets};
+use vf_disk::Disk;
+
+/// The octets that are read at a time.
+const BLOCK: u64 = 65_536;
+
+/// What stands at the front of octets that begin with a gate.
+pub(crate) enum Front {
+    /// No record.
+    End,
+    /// The octets end before that can be told, or before the record and its gate do.
+    Cut,
+    /// A record of so many octets.
+    Record(usize),
+}
+
+/// The length that four octets name.
+#[tactic(auto, unfolding(crate::specs::Layout::length_named))]
+fn named_length(octets: &[u8]) -> u32
+    requires { 4 ≤ length octets.now }
+    ensures { result ≡ length_named octets.now }
+{
+    BigEndian::read_u32(octets)
+}
+
+/// The length of the record behind a gate, where it stands there whole with the next gate: by the first octets from
+/// the gate on, of which there are `left`.
+fn record_length(octets: &[u8], left: u64) -> Option<u32>
+    requires octets { 5 ≤ length octets.now }
+    requires left { length octets.now ≤ left }
+    ensures some { (all : List ℕ) → BeginsWith octets.now left all → IfSome result (λ count. first_record all ≡ Some (take count (drop 5 all), drop (count + 5) all)) }
+    ensures none { (all : List ℕ) → BeginsWith octets.now left all → IfNone result (first_record all ≡ None) }
+    ensures whole { IfSome result (λ count. count + 6 ≤ left) }
+{
+    if octets[0] == 0 || left < 6 {
+        return None;
+    }
+    let (_, behind) = octets.split_at(1);
+    let count = named_length(behind);
+    if left - 6 < u64::from(count) {
+        return None;
+    }
+    Some(count)
+}
+
+/// What stands at the front of these octets, where `left` stand from the gate on.
+pub(crate) fn front_of(octets: &[u8], left: u64) -> Front
+    requires { length octets.now ≤ left }
+    ensures front { (all : List ℕ) → BeginsWith octets.now left all → IsFront result octets.now all }
+    ensures whole { IsWhole result (length octets.now) }
+{
+    if left < 6 {
+        return Front::End;
+    }
+    if octets.len() < 5 {
+        return Front::Cut;
+    }
+    let Some(count) = record_length(octets, left) else {
+        return Front::End;
+    };
+    let count = count as usize;
+    if octets.len() - 5 <= count {
+        return Front::Cut;
+    }
+    Front::Record(count)
+}
+
+/// Takes the whole records at the front of a block, which begins with the closing gate of the area so far; `left`
+/// octets stand from that gate on. Answers the area with them, and whether the block ended first.
+pub(crate) fn take_records(
+    alloc: Global,
+    block: &[u8],
+    left: u64,
+    area: Area,
+    records: &mut Vec<Octets>,
+) -> Result<(Area, bool), NoMemory>
+    requires block { length block.now ≤ left }
+    requires some { 0 < length block.now }
+    requires placed { IsPlaced area }
+    requires bound { area.end + left ≤ greatest_length + 1 }
+    ensures taken { IfOk result (λ found. Takes (BeginsWith block.now left) records.old.items records.new.items left area found.0 found.1) }
+    ensures kept { OnErr result (take (length records.old.items) records.new.items ≡ records.old.items) }
+{
+    let mut rest = block;
+    let mut left = left;
+    let mut area = area;
+    loop {
+        match front_of(rest, left) {
+            Front::End => return Ok((area, false)),
+            Front::Cut => return Ok((area, true)),
+            Front::Record(count) => {
+                let (record, behind) = rest.split_at(5 + count);
+                let (_, octets) = record.split_at(5);
+                let octets = Octets::of(alloc, octets)?;
+                records.push(octets)?;
+                area = area.with(count as u64);
+                left -= 5 + count as u64;
+                rest = behind;
+            }
+        }
+    }
+}
+
+/// So many octets of a disk, from a place on.
+fn read_octets<D: Disk>(
+    alloc: Global,
+    disk: &mut D,
+    at: u64,
+    count: u64,
+) -> Result<Octets, JournalError>
+    requires place { at + count ≤ D.size disk.old }
+    requires count { count < 2 ^ 32 }
+    ensures octets { (image : List ℕ) → D.shown disk.old ≡ Some image → IfOk result (λ octets. octets ≡ part image at count) }
+    ensures count { IfOk result (λ octets. size_of octets ≡ count) }
+    ensures looks { IsLookedAt D.shown D.size D.may_leave D.moment D.left_since D.plan (is_fault result) disk.old disk.new }
+    ensures causes { ReadCauses (D.fault_count disk.old) (D.fault_count disk.new) result }
+{
+    let mut octets = vec![in alloc; 0; count as usize]?;
+    read_at(disk, at, &mut octets)?;
+    let octets = Octets::from_vec(octets)?;
+    Ok(octets)
+}
+
+/// The record behind the gate at a place of a disk of so many octets, read by itself.
+fn read_record<D: Disk>(
+    alloc: Global,
+    disk: &mut D,
+    gate: u64,
+    length: u64,
+) -> Result<Option<Octets>, JournalError>
+    requires gate { gate < length }
+    requires length { length ≡ D.size disk.old }
+    ensures found { (image : List ℕ) → D.shown disk.old ≡ Some image → IfOk result (λ found. found ≡ option_map (λ item. item.0) (first_record (drop gate image))) }
+    ensures bound { IfOk result (λ found. IfSome found (λ item. gate + size_of item + 6 ≤ length)) }
+    ensures looks { IsLookedAt D.shown D.size D.may_leave D.moment D.left_since D.plan (is_fault result) disk.old disk.new }
+    ensures causes { ReadCauses (D.fault_count disk.old) (D.fault_count disk.new) result }
+{
+    let left = length - gate;
+    if left < 6 {
+        return Ok(None);
+    }
+    let mut head = [0; 5];
+    read_at(disk, gate, &mut head)?;
+    let Some(count) = record_length(&head, left) else {
+        return Ok(None);
+    };
+    let record = read_octets(alloc, disk, gate + 5, u64::from(count))?;
+    Ok(Some(record))
+}
