@@ -1,0 +1,11 @@
+pub mod Carried
+pub mod CarriedCode
+pub mod Forms
+pub mod Laws
+pub mod Marks
+pub mod Parts
+pub mod Primitives
+pub mod Syntaxes
+pub mod Texts
+pub mod Types
+pub mod Written

@@ -1,0 +1,15 @@
+//! Presentation (ISO 8823) and ACSE (ISO 8650) as this profile carries them.
+#![tactic(auto)]
+
+mod contexts;
+mod errors;
+mod labels;
+mod primitive;
+mod results;
+mod values;
+
+pub use contexts::{ContextEntry, Contexts, Offer, Offers};
+pub use errors::UpperError;
+pub use primitive::Primitive;
+pub use results::Results;
+pub use values::{CarriedValue, CarriedValues};
