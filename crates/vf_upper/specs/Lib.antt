@@ -8,4 +8,5 @@ pub mod Primitives
 pub mod Syntaxes
 pub mod Texts
 pub mod Types
+pub mod Views
 pub mod Written

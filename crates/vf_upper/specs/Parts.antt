@@ -98,8 +98,11 @@ pub record Piece : Type 0 where
   pub whole : Bool
   pub rest : List ℕ
 
+abbrev pub cut_piece : List ℕ → Piece
+cut_piece octets = record { octets = octets; whole = false; rest = [] }
+
 abbrev pub ended_piece : List ℕ → Option (List ℕ) → Piece
-ended_piece octets None = record { octets = octets; whole = false; rest = [] }
+ended_piece octets None = cut_piece octets
 ended_piece octets (Some rest) = record { octets = take (length octets - length rest - 2) octets; whole = true; rest = rest }
 
 abbrev pub piece_of : Option ℕ → List ℕ → Piece
@@ -111,25 +114,26 @@ pub record Taken : Type 0 where
   pub part : Part
   pub rest : Text
 
--- the place of octets that are the last of a text
-abbrev pub place_in : Text → List ℕ → ℕ
-place_in text rest = text.at + (length text.octets - length rest)
+-- the place in a text behind which so many octets are left
+abbrev pub place_in : Text → ℕ → ℕ
+place_in text left = text.at + (length text.octets - left)
 
-abbrev pub part_with : Text → ℕ → List ℕ → Piece → Taken
+-- a part by what is left behind its length
+abbrev pub part_with : Text → ℕ → ℕ → Piece → Taken
 part_with text first contents piece = record {
   part = record {
     at = text.at;
     first = first;
     contents = record { octets = piece.octets; at = place_in text contents; whole = piece.whole };
-    behind = place_in text piece.rest;
+    behind = place_in text (length piece.rest);
   };
-  rest = record { octets = piece.rest; at = place_in text piece.rest; whole = piece.whole && text.whole };
+  rest = record { octets = piece.rest; at = place_in text (length piece.rest); whole = piece.whole && text.whole };
 }
 
 -- of a part whose length isn't there no contents are seen
 abbrev pub taken_by : Text → ℕ → Option Header → Taken
-taken_by text first None = part_with text first [] (record { octets = []; whole = false; rest = [] })
-taken_by text first (Some header) = part_with text first header.rest (piece_of header.count header.rest)
+taken_by text first None = part_with text first 0 (cut_piece [])
+taken_by text first (Some header) = part_with text first (length header.rest) (piece_of header.count header.rest)
 
 abbrev pub taken_at : Text → List ℕ → Option Taken
 taken_at text [] = None

@@ -104,7 +104,7 @@ then_held text held = record { octets = text.octets ++ held.octets; places = pla
 
 -- a text without its first octets
 abbrev pub cut_to : Text → List ℕ → Text
-cut_to text rest = record { octets = rest; at = place_in text rest; whole = text.whole }
+cut_to text rest = record { octets = rest; at = place_in text (length rest); whole = text.whole }
 
 abbrev pub primitive_segment : (Text → Held) → Option Taken → Held
 primitive_segment others None = nothing_held Unseen

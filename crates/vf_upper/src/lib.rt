@@ -4,8 +4,10 @@
 mod contexts;
 mod errors;
 mod labels;
+mod parts;
 mod primitive;
 mod results;
+mod text;
 mod values;
 
 pub use contexts::{ContextEntry, Contexts, Offer, Offers};
