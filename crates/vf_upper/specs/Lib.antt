@@ -2,6 +2,7 @@ pub mod Carried
 pub mod CarriedCode
 pub mod Forms
 pub mod Laws
+pub mod MarkViews
 pub mod Marks
 pub mod Parts
 pub mod Primitives

@@ -4,6 +4,8 @@
 mod contexts;
 mod errors;
 mod labels;
+mod leaf;
+mod marks;
 mod parts;
 mod primitive;
 mod results;
