@@ -1,3 +1,4 @@
+mod Apdus
 mod Ends
 mod Numbers
 mod Turns

@@ -6,6 +6,7 @@ pub mod MarkViews
 pub mod Marks
 pub mod Parts
 pub mod Primitives
+pub mod Rows
 pub mod Syntaxes
 pub mod Texts
 pub mod Types

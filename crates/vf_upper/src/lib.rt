@@ -3,12 +3,14 @@
 
 mod contexts;
 mod errors;
+mod form;
 mod labels;
 mod leaf;
 mod marks;
 mod parts;
 mod primitive;
 mod results;
+mod table;
 mod text;
 mod values;
 

@@ -221,7 +221,12 @@ fn place_in(text: Text<'_>, rest: usize) -> u32
 }
 
 /// A part and what is behind it, by its contents and the octets behind it.
-fn part_with<'a>(text: Text<'a>, first: u8, contents: usize, piece: Piece<'a>) -> (Part<'a>, Text<'a>)
+fn part_with<'a>(
+    text: Text<'a>,
+    first: u8,
+    contents: usize,
+    piece: Piece<'a>,
+) -> (Part<'a>, Text<'a>)
     requires contents { contents ≤ length text.octets.now }
     requires inside { length piece.octets.now ≤ contents }
     requires behind { length piece.rest.now ≤ length text.octets.now }
