@@ -1,4 +1,5 @@
 mod Apdus
 mod Ends
 mod Numbers
+mod Readings
 mod Turns

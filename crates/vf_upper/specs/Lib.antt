@@ -1,3 +1,4 @@
+pub mod CargoViews
 pub mod Carried
 pub mod CarriedCode
 pub mod Forms

@@ -11,21 +11,30 @@ use Rattle.vf_upper.specs.Parts.{is_constructed, number_of, header_at, parts_of,
 abbrev pub Cargo : Type 0
 Cargo = List ℕ → List Mark → Found
 
+-- where octets are no value: the place of the fault
+abbrev pub fault_in : Verdict → ℕ → ℕ
+fault_in (Read tree n) len = n
+fault_in Short len = len
+fault_in (Bad at) len = at
+fault_in (Deep at) len = at
+fault_in (Long at) len = at
+
 -- The octets in front of the fault of a reading of one value, whether they are a whole value, and the fault, if any.
 pub record Front : Type 0 where
   pub octets : List ℕ
   pub whole : Bool
   pub fault : Option ℕ
 
+-- octets behind a value are a fault
 abbrev pub behind : ℕ → ℕ → Option ℕ
 behind n len = if nat_eq n len then None else Some n
 
+abbrev pub cut_at : ℕ → List ℕ → Front
+cut_at place octets = record { octets = take place octets; whole = false; fault = Some place }
+
 abbrev pub front : List ℕ → Verdict → Front
 front octets (Read tree n) = record { octets = take n octets; whole = true; fault = behind n (length octets) }
-front octets Short = record { octets = octets; whole = false; fault = Some (length octets) }
-front octets (Bad at) = record { octets = take at octets; whole = false; fault = Some at }
-front octets (Deep at) = record { octets = take at octets; whole = false; fault = Some at }
-front octets (Long at) = record { octets = take at octets; whole = false; fault = Some at }
+front octets other = cut_at (fault_in other (length octets)) octets
 
 abbrev pub unless : Option ℕ → List Mark → Found
 unless None found = Ok found
@@ -44,10 +53,7 @@ typed tags read octets found = typed_by tags read (front octets (verdict octets)
 -- a value and what is found behind it
 abbrev pub then_read : ℕ → List ℕ → (ℕ → List ℕ → List Mark → Found) → List Mark → Verdict → Found
 then_read at octets others found (Read tree n) = others (at + n) (drop n octets) (found ++ value tree ∷ [])
-then_read at octets others found Short = Err (at + length octets)
-then_read at octets others found (Bad place) = Err (at + place)
-then_read at octets others found (Deep place) = Err (at + place)
-then_read at octets others found (Long place) = Err (at + place)
+then_read at octets others found other = Err (at + fault_in other (length octets))
 
 -- nothing more may stand at this place
 abbrev pub nothing : ℕ → List ℕ → List Mark → Found
@@ -73,93 +79,80 @@ some octets found = some_in (suc (length octets)) 0 octets found
 
 -- ---- octets within [0] or [1]
 
--- How octets end: at a place, where they are all; at the place of a wrong segment; or unseen.
-pub data Close : Type 0 where
-  Ended : ℕ → Close
-  Broken : ℕ → Close
-  Unseen : Close
-
+-- Octets with the place of each, the place where they end, and whether a wrong segment stands there. Octets that are
+-- cut off end where they are no longer seen.
 pub record Held : Type 0 where
   pub octets : List ℕ
-  -- of each octet
   pub places : List ℕ
-  pub close : Close
+  pub end : ℕ
+  pub broken : Bool
 
 -- the places of so many octets in turn, from this one on
 abbrev pub places_from : ℕ → List ℕ → List ℕ
 places_from at [] = []
 places_from at (octet ∷ octets) = at ∷ places_from (at + 1) octets
 
-abbrev pub close_at : Bool → ℕ → Close
-close_at whole place = if whole then Ended place else Unseen
+abbrev pub held_in : Text → ℕ → Held
+held_in text end = record { octets = text.octets; places = places_from text.at text.octets; end = end; broken = false }
 
-abbrev pub in_turn : Text → Close → Held
-in_turn text close = record { octets = text.octets; places = places_from text.at text.octets; close = close }
-
-abbrev pub nothing_held : Close → Held
-nothing_held close = record { octets = []; places = []; close = close }
+abbrev pub nothing_held : ℕ → Bool → Held
+nothing_held end broken = record { octets = []; places = []; end = end; broken = broken }
 
 abbrev pub then_held : Text → Held → Held
-then_held text held = record { octets = text.octets ++ held.octets; places = places_from text.at text.octets ++ held.places; close = held.close }
+then_held text held =
+    record { octets = text.octets ++ held.octets; places = places_from text.at text.octets ++ held.places; end = held.end; broken = held.broken }
 
 -- a text without its first octets
 abbrev pub cut_to : Text → List ℕ → Text
 cut_to text rest = record { octets = rest; at = place_in text (length rest); whole = text.whole }
 
-abbrev pub primitive_segment : (Text → Held) → Option Taken → Held
-primitive_segment others None = nothing_held Unseen
-primitive_segment others (Some taken) = then_held taken.part.contents (others taken.rest)
+abbrev pub primitive_segment : (Text → Held) → ℕ → Option Taken → Held
+primitive_segment others end None = nothing_held end false
+primitive_segment others end (Some taken) = then_held taken.part.contents (others taken.rest)
 
-abbrev pub constructed_segment : (Text → Held) → Text → Option Header → Held
-constructed_segment others text None = nothing_held Unseen
-constructed_segment others text (Some header) = others (cut_to text header.rest)
+abbrev pub constructed_segment : (Text → Held) → Text → ℕ → Option Header → Held
+constructed_segment others text end None = nothing_held end false
+constructed_segment others text end (Some header) = others (cut_to text header.rest)
 
 -- What stands at a place among segments: the end of contents of one, an OCTET STRING with octets, one with segments,
 -- which stand there too, or something else.
 abbrev pub segment : (Text → Held) → Text → ℕ → List ℕ → Held
-segment others text behind [] = nothing_held (close_at text.whole behind)
-segment others text behind (first ∷ octets) =
+segment others text end [] = nothing_held end false
+segment others text end (first ∷ octets) =
     if nat_eq first 0 then others (cut_to text (drop 1 octets))
-    else (if nat_eq first 4 then primitive_segment others (taken text)
-    else (if nat_eq first 36 then constructed_segment others text (header_at (first ∷ octets))
-    else nothing_held (Broken text.at)))
+    else (if nat_eq first 4 then primitive_segment others end (taken text)
+    else (if nat_eq first 36 then constructed_segment others text end (header_at (first ∷ octets))
+    else nothing_held text.at true))
 
--- The octets of a segmented octet string (ISO 8825, 8.7.3), whose segments are OCTET STRINGs at any depth. It ends at
--- the place behind its value.
+-- The octets of a segmented octet string (ISO 8825, 8.7.3), whose segments are OCTET STRINGs at any depth; turns bound
+-- the number of segments.
 unfoldable pub segments_in : ℕ → ℕ → Text → Held
-segments_in zero behind text = nothing_held (close_at text.whole behind)
-segments_in (suc turns) behind text = segment (segments_in turns behind) text behind text.octets
+segments_in zero end text = nothing_held end false
+segments_in (suc turns) end text = segment (segments_in turns end) text end text.octets
 
 unfoldable pub segments : ℕ → Text → Held
-segments behind text = segments_in (suc (length text.octets)) behind text
+segments end text = segments_in (suc (length text.octets)) end text
 
 -- What is held by a part with tag [0], which is explicit, or [1], octets. The first ends behind its last part, the
 -- second behind its value.
 abbrev pub held : Part → Option Held
 held part =
     if nat_eq (number_of part.first) 0
-    then (if is_constructed part.first
-    then Some (in_turn part.contents (close_at part.contents.whole (part.contents.at + length part.contents.octets)))
-    else None)
-    else (if is_constructed part.first
-    then Some (segments part.behind part.contents)
-    else Some (in_turn part.contents (close_at part.contents.whole part.behind)))
+    then (if is_constructed part.first then Some (held_in part.contents (part.contents.at + length part.contents.octets)) else None)
+    else (if is_constructed part.first then Some (segments part.behind part.contents) else Some (held_in part.contents part.behind))
 
 -- ---- a cargo within [0] or [1]
 
--- what is wanting at the end of octets, or nothing more
-abbrev pub closed : Close → Bool → List Mark → Found
-closed (Ended place) wanting found = if wanting then Err place else Ok found
-closed (Broken place) wanting found = Err place
-closed Unseen wanting found = Ok found
+abbrev pub place_of : Held → ℕ → ℕ
+place_of held offset = if nat_lt offset (length held.octets) then get_or held.places offset 0 else held.end
 
-abbrev pub landed : Held → List Mark → Found → Found
-landed held found (Ok more) = closed held.close false more
-landed held found (Err offset) = if nat_lt offset (length held.octets) then Err (get_or held.places offset 0) else closed held.close true found
+abbrev pub landed : Held → Found → Found
+landed held (Ok found) = if held.broken then Err held.end else Ok found
+landed held (Err offset) = Err (place_of held offset)
 
 abbrev pub carried_by : Cargo → ℕ → List Mark → Option Held → Found
 carried_by cargo at found None = Err at
-carried_by cargo at found (Some held) = landed held found (cargo held.octets found)
+carried_by cargo at found (Some held) = landed held (cargo held.octets found)
 
 abbrev pub carried : Cargo → Reading
 carried cargo part found = carried_by cargo part.at found (held part)

@@ -1,6 +1,7 @@
 //! Presentation (ISO 8823) and ACSE (ISO 8650) as this profile carries them.
 #![tactic(auto)]
 
+mod cargo;
 mod contexts;
 mod errors;
 mod form;

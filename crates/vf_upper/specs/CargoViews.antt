@@ -1,0 +1,27 @@
+-- What readings of values answer, in the words of texts.
+use Rattle.std.specs.Prelude.{◌≡◌, ℕ, ◌≤◌, List, length, take, Result, Ok, Err}
+use Rattle.vf_ber.specs.declared.value.Value.{Value}
+use Rattle.vf_ber.specs.Reader.{verdict}
+use Rattle.vf_ber.specs.Verdict.{Verdict, Read, Short, Bad, Deep, Long}
+use Rattle.vf_ber.specs.Views.{tree_of}
+use Rattle.vf_upper.specs.declared.cargo.Front.{Front}
+use Rattle.vf_upper.specs.declared.marks.Stop.{Stop}
+use Rattle.vf_upper.specs.declared.marks.Stop.TheVariants.{At, NoMemory}
+use Rattle.vf_upper.specs.Texts as texts
+
+abbrev pub front_of : List ℕ → Front → texts.Front
+front_of octets front = record { octets = take front.len octets; whole = front.whole; fault = front.fault }
+
+-- so many octets are no value, by a fault at this place
+abbrev pub IsMisread : Verdict → ℕ → ℕ → Type 0
+IsMisread (Read tree n) len place = ⊥
+IsMisread other len place = place ≡ texts.fault_in other len
+
+abbrev pub IsSmall : ℕ → ℕ → Type 0
+IsSmall n len = (n ≤ len) × (n ≤ 1048576)
+
+-- a value and its length, or the fault
+abbrev pub IsValueIn : List ℕ → Result (Value × ℕ) Stop → Type 0
+IsValueIn octets (Ok x) = (verdict octets ≡ Read (tree_of x.0) x.1) × IsSmall x.1 (length octets) × (1 ≤ x.1)
+IsValueIn octets (Err (At place)) = IsMisread (verdict octets) (length octets) place × IsSmall place (length octets)
+IsValueIn octets (Err NoMemory) = Unit {0}
