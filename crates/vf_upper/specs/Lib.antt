@@ -8,6 +8,7 @@ pub mod Marks
 pub mod Parts
 pub mod Primitives
 pub mod Rows
+pub mod SegmentViews
 pub mod Syntaxes
 pub mod Texts
 pub mod Types

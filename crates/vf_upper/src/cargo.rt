@@ -59,6 +59,7 @@ pub(crate) fn seen(alloc: Global, octets: &[u8]) -> Result<Front, NoMemory>
 
 /// One value, whatever it is.
 pub(crate) fn one(alloc: Global, octets: &[u8], found: &mut Marks) -> Result<(), Stop>
+    requires { length octets.now < 2 ^ 32 }
     ensures { Gives result (marks_of found.new) (one_value octets.now (marks_of found.old)) }
 {
     let n = next_value(alloc, 0, octets, found)?;
@@ -70,7 +71,7 @@ pub(crate) fn one(alloc: Global, octets: &[u8], found: &mut Marks) -> Result<(),
 
 /// One value or more.
 pub(crate) fn some(alloc: Global, octets: &[u8], found: &mut Marks) -> Result<(), Stop>
-    requires { length octets.now < 2 ^ 31 }
+    requires { length octets.now < 2 ^ 32 }
     ensures { Gives result (marks_of found.new) (some_values octets.now (marks_of found.old)) }
 {
     let mut at = 0;
@@ -93,7 +94,7 @@ fn next_value(
     octets: &[u8],
     found: &mut Marks,
 ) -> Result<usize, Stop>
-    requires { at < 2 ^ 31 }
+    requires { at + length octets.now < 2 ^ 32 }
     ensures next { IsNext at octets.now (marks_of found.old) result (marks_of found.new) }
     ensures within { IfOk result (λ n. n ≤ length octets.now) }
     ensures small { IfOk result (λ n. n ≤ 1048576) }

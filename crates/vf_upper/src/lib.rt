@@ -11,6 +11,7 @@ mod marks;
 mod parts;
 mod primitive;
 mod results;
+mod segments;
 mod table;
 mod text;
 mod values;

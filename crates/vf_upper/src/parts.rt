@@ -112,7 +112,7 @@ fn behind_length(octets: &[u8]) -> Option<Header<'_>>
 }
 
 /// Identifier and length.
-fn header_at(octets: &[u8]) -> Option<Header<'_>>
+pub(crate) fn header_at(octets: &[u8]) -> Option<Header<'_>>
     ensures { option_map header_of result ≡ header_read octets.now }
 {
     let rest = behind_identifier(octets)?;
