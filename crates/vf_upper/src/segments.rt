@@ -1,6 +1,6 @@
 //! Octets in segments (ISO 8825, 8.7.3) with their places.
-ghost use Rattle.std.specs.Prelude.{◌≡◌, ◌+◌, ◌<◌, ◌≤◌, ◌^◌, IfOk, drop, length};
-ghost use Rattle.vf_upper.specs.SegmentViews.{IsConstructed, IsPrimitive, IsStep, Shortens};
+ghost use Rattle.std.specs.Prelude.{◌≡◌, ◌+◌, ◌<◌, ◌≤◌, ◌^◌, [], false, IfOk, IfSome, drop, length};
+ghost use Rattle.vf_upper.specs.SegmentViews.{IsConstructed, IsPiece, IsPrimitive, IsStep, no_segment, Shortens};
 ghost use Rattle.vf_upper.specs.Texts.{cut_to as cut, place_of, segments};
 ghost use Rattle.vf_upper.specs.Views.{text_of};
 
@@ -17,8 +17,6 @@ pub(crate) enum Segment<'a> {
     /// Where segments begin or end: what is behind it.
     Bound(Text<'a>),
     /// No segment.
-    Wrong,
-    /// Nothing that is seen.
     Nothing,
 }
 
@@ -59,10 +57,11 @@ fn next_segment(text: Text<'_>) -> Segment<'_>
     if first == 36 {
         return constructed(text);
     }
-    Segment::Wrong
+    Segment::Nothing
 }
 
 fn primitive(text: Text<'_>) -> Segment<'_>
+    requires { no_segment text.octets.now ≡ false }
     ensures step { IsPrimitive (text_of text.entry) result }
     ensures shorter { Shortens (length text.entry.octets.now) result }
 {
@@ -73,11 +72,46 @@ fn primitive(text: Text<'_>) -> Segment<'_>
 }
 
 fn constructed(text: Text<'_>) -> Segment<'_>
+    requires { no_segment text.octets.now ≡ false }
     ensures step { IsConstructed (text_of text.entry) result }
     ensures shorter { Shortens (length text.entry.octets.now) result }
 {
     match header_at(text.octets) {
         Some(header) => Segment::Bound(cut_to(text, header.rest)),
         None => Segment::Nothing,
+    }
+}
+
+/// The next octets, none where segments begin or end, and what is behind them; `None` where nothing or no segment
+/// follows.
+fn next_octets(text: Text<'_>) -> Option<(Text<'_>, Text<'_>)>
+    ensures piece { IsPiece (text_of text.entry) result }
+    ensures shorter { IfSome result (λ x. length x.0.octets.now + length x.1.octets.now < length text.entry.octets.now) }
+{
+    match next_segment(text) {
+        Segment::Octets(contents, rest) => Some((contents, rest)),
+        Segment::Bound(rest) => Some((empty(rest), rest)),
+        Segment::Nothing => None,
+    }
+}
+
+/// No octets in front of a text.
+fn empty(text: Text<'_>) -> Text<'_>
+    ensures { text_of result ≡ record { octets = []; at = text.entry.at; whole = text.entry.whole } }
+{
+    Text {
+        octets: &[],
+        at: text.at,
+        whole: text.whole,
+    }
+}
+
+/// No segment begins or ends here, and yet there is an octet.
+fn is_wrong(text: Text<'_>) -> bool
+    ensures { result ≡ no_segment text.entry.octets.now }
+{
+    match text.octets {
+        [] => false,
+        [first, ..] => *first != 0 && *first != 4 && *first != 36,
     }
 }
