@@ -2,7 +2,7 @@
 use Rattle.std.proofs.Common.{◌≡◌, ◌≢◌, ◌==◌, ◌||◌, inl, inr, ℕ, zero, suc, ◌+◌, ◌-◌, ◌<◌, ◌≤◌, Bool, true, false, if◌then◌else◌, nat_lt, List, [], ◌∷◌, ◌++◌, length, take, drop, Option, None, Some, refl, sym, ◌∙◌, ap, subst, arith, append_assoc, length-append, length-drop}
 use Rattle.std.proofs.lemmas.Bool.{cases_eq, cases_lt, ltb-true, ltb-false}
 use Rattle.std.proofs.lemmas.Bool.Decides.{nat_tests}
-use Rattle.std.proofs.lemmas.List.{take_at, drop_at, drop-drop, append-nil}
+use Rattle.std.proofs.lemmas.List.{take_at, drop_at, drop-drop, append-nil, length-take-le}
 use Rattle.vf_journal.specs.Layout.{length_named, length_octets}
 use Rattle.vf_journal.specs.Records.{HoldsArea, before_rest, first_record, longest, octets_of, records_in, records_up_to, sized}
 use Rattle.vf_journal.proofs.Areas.{gated, length-gated, length-sized}
@@ -95,3 +95,18 @@ area_read [] octets (rest, is) = reads_none octets (ap first_record is ∙ first
 area_read (item ∷ records) octets (gate, rest, opened, short, is, more) =
     reads_some octets (item, rest) (ap first_record is ∙ area_first gate item rest opened short (area_some records rest more))
     ∙ ap (λ (l : List (List ℕ)). item ∷ l) (area_read records rest more)
+
+-- what stands behind a record
+pub first_rest : (octets : List ℕ) (found : List ℕ × List ℕ) → first_record octets ≡ Some found → found.1 ≡ drop (length found.0 + 5) octets
+first_rest [] found is = cc
+first_rest (gate ∷ behind) found is =
+    let count = length_named behind in
+    let pick = chosen ((gate == 0) || nat_lt (length behind) (count + 5)) found (take count (drop 4 behind), drop (count + 4) behind) is in
+    let long : count + 5 ≤ length behind = enough_behind (gate == 0) (length behind) (count + 5) pick.0 in
+    let size : length found.0 ≡ count = sym (ap (λ (x : List ℕ × List ℕ). length x.0) pick.1) ∙ length-take-le count (drop 4 behind) (omega (arith, length-drop 4 behind, long)) in
+    let next : suc (count + 4) ≡ length found.0 + 5 = omega (arith, size) in
+    sym (ap (λ (x : List ℕ × List ℕ). x.1) pick.1) ∙ ap (λ (n : ℕ). drop n (gate ∷ behind)) next
+  where
+    enough_behind : (b : Bool) (m n : ℕ) → (b || nat_lt m n) ≡ false → n ≤ m
+    enough_behind true m n is = cc
+    enough_behind false m n is = grind (arith, nat_tests)

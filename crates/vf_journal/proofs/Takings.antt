@@ -1,13 +1,14 @@
 -- Records that are taken one after another from the front of a block.
-use Rattle.std.proofs.Common.{◌≡◌, ℕ, ◌+◌, ◌-◌, ◌<◌, ◌≤◌, Bool, true, false, if◌then◌else◌, List, [], ◌∷◌, ◌++◌, length, take, drop, Option, None, Some, refl, sym, ◌∙◌, ap, subst, arith, append_assoc, length-append, length-drop}
-use Rattle.std.proofs.lemmas.List.{append-nil, drop-drop, drop-take, length-take-le, take_at}
+use Rattle.std.proofs.Common.{◌≡◌, ℕ, ◌+◌, ◌-◌, ◌<◌, ◌≤◌, Bool, true, false, if◌then◌else◌, List, [], ◌∷◌, ◌++◌, length, take, drop, Option, None, Some, IsTrue, refl, sym, ◌∙◌, ap, subst, arith, append_assoc, length-append, length-drop}
+use Rattle.std.proofs.lemmas.List.{append-nil, drop-drop, drop-take, length-take-le, take-take, take_at}
 use Rattle.vf_disk.specs.Disk.{greatest_length}
 use Rattle.vf_journal.specs.declared.area.Area.{Area}
 use Rattle.vf_journal.specs.Records.{first_record, octets_of, records_in}
-use Rattle.vf_journal.specs.Reading.{BeginsWith, Takes, with_records}
-use Rattle.vf_journal.specs.Standing.{IsPlaced, with_record}
+use Rattle.std.specs.Prelude.{option_map}
+use Rattle.vf_journal.specs.Reading.{BeginsWith, StandsFrom, Takes, with_records}
+use Rattle.vf_journal.specs.Standing.{IsPlaced, area_of, with_record}
 use Rattle.vf_journal.proofs.Counts.{octets_push, placed_more}
-use Rattle.vf_journal.proofs.Gates.{reads_none, reads_some}
+use Rattle.vf_journal.proofs.Gates.{first_rest, reads_none, reads_some}
 
 -- where a block, and what stands behind it, was taken from so far
 pub record Taking (block : List ℕ) (count : ℕ) (area : Area) (old : List (List ℕ)) (rest : List ℕ) (left : ℕ) (now : Area) (new : List (List ℕ)) : Type 0 where
@@ -106,3 +107,136 @@ module _ (block : List ℕ) (count : ℕ) (area : Area) (old : List (List ℕ)) 
 -- what was there stays in front
 pub front_stays : (old new taken : List (List ℕ)) → new ≡ old ++ taken → take (length old) new ≡ old
 front_stays old new taken is = ap (λ (l : List (List ℕ)). take (length old) l) is ∙ take_at old taken (length old) refl
+
+-- what the first record is, from what a read of it found
+none_first : (found : Option (List ℕ × List ℕ)) → None ≡ option_map (λ (x : List ℕ × List ℕ). x.0) found → found ≡ None
+none_first None is = refl
+none_first (Some x) is = cc
+
+some_first : (found : Option (List ℕ × List ℕ)) (item : List ℕ) → Some item ≡ option_map (λ (x : List ℕ × List ℕ). x.0) found → (rest : List ℕ) × (found ≡ Some (item, rest))
+some_first None item is = cc
+some_first (Some x) item is = let same : x.0 ≡ item = cc in (x.1, ap (λ (l : List ℕ). Some (l, x.1)) same)
+
+module _ (shown : Option (List ℕ)) (place count : ℕ) (area : Area) (old : List (List ℕ)) where
+  -- no record stands there
+  pub alone_none : 0 < count → ((image : List ℕ) → shown ≡ Some image → None ≡ option_map (λ (x : List ℕ × List ℕ). x.0) (first_record (drop place image))) → Takes (StandsFrom shown place) old old count area area false
+  alone_none some found = record {
+    taken = [];
+    records = sym (append-nil old);
+    counts = refl;
+    bound = some;
+    reads = λ all (image, shows, is). ap records_in is ∙ reads_none (drop place image) (none_first (first_record (drop place image)) (found image shows));
+  }
+
+  -- one does
+  pub alone_some : (item : List ℕ) (new : List (List ℕ)) (further : Area) → length item + 5 < count → new ≡ old ++ item ∷ [] → further ≡ with_record area (length item)
+      → ((image : List ℕ) → shown ≡ Some image → Some item ≡ option_map (λ (x : List ℕ × List ℕ). x.0) (first_record (drop place image))) → Takes (StandsFrom shown place) old new count area further true
+  alone_some item new further less new_is further_is found = record {
+    taken = item ∷ [];
+    records = new_is;
+    counts = further_is;
+    bound = omega arith;
+    reads = λ all (image, shows, is).
+        let first = some_first (first_record (drop place image)) item (found image shows) in
+        let rest = first_rest (drop place image) (item, first.0) first.1 in
+        let count_is : length item + 5 ≡ octets_of (item ∷ []) = omega arith in
+        ap records_in is ∙ reads_some (drop place image) (item, first.0) first.1
+        ∙ ap (λ (l : List ℕ). item ∷ records_in l) (rest ∙ ap (λ (n : ℕ). drop n (drop place image)) count_is ∙ ap (λ (l : List ℕ). drop (octets_of (item ∷ [])) l) (sym is));
+  }
+
+octets_append : (first second : List (List ℕ)) → octets_of (first ++ second) ≡ octets_of first + octets_of second
+octets_append [] second = omega arith
+octets_append (item ∷ first) second = omega (arith, octets_append first second)
+
+with_records_append : (area : Area) (first second : List (List ℕ)) → with_records area (first ++ second) ≡ with_records (with_records area first) second
+with_records_append area [] second = refl
+with_records_append area (item ∷ first) second = with_records_append (with_record area (length item)) first second
+
+pub with_records_end : (area : Area) (taken : List (List ℕ)) → (with_records area taken).end ≡ area.end + octets_of taken
+with_records_end area [] = omega arith
+with_records_end area (item ∷ taken) = omega (arith, with_records_end (with_record area (length item)) taken)
+
+pub with_records_start : (area : Area) (taken : List (List ℕ)) → (with_records area taken).start ≡ area.start
+with_records_start area [] = refl
+with_records_start area (item ∷ taken) = with_records_start (with_record area (length item)) taken
+
+pub with_records_placed : (area : Area) (taken : List (List ℕ)) → IsPlaced area → area.end + octets_of taken ≤ greatest_length → IsPlaced (with_records area taken)
+with_records_placed area [] placed bound = placed
+with_records_placed area (item ∷ taken) placed bound = with_records_placed (with_record area (length item)) taken (placed_more area (length item) placed (omega arith)) (omega arith)
+
+none_octets : (taken : List (List ℕ)) → octets_of taken ≡ 0 → taken ≡ []
+none_octets [] is = refl
+none_octets (item ∷ taken) is = absurd (omega arith)
+
+-- an area that didn't grow has no record more
+pub takes_none : (IsAll : List ℕ → Type 0) (old new : List (List ℕ)) (count : ℕ) (area found : Area) (more : Bool) → Takes IsAll old new count area found more → found.end ≤ area.end → new ≡ old
+takes_none IsAll old new count area found more takes le =
+    let end = ap (λ (a : Area). a.end) takes.counts in
+    let none : takes.taken ≡ [] = none_octets takes.taken (omega (arith, end, with_records_end area takes.taken)) in
+    takes.records ∙ ap (λ (l : List (List ℕ)). old ++ l) none ∙ append-nil old
+
+-- records that are taken where others were
+pub takes_joined : (IsAll IsRest : List ℕ → Type 0) (old mid new : List (List ℕ)) (count left : ℕ) (area found further : Area) (more : Bool) → (first : Takes IsAll old mid count area found true)
+    → ((all : List ℕ) → IsAll all → IsRest (drop (octets_of first.taken) all)) → left + octets_of first.taken ≡ count → Takes IsRest mid new left found further more → Takes IsAll old new count area further more
+takes_joined IsAll IsRest old mid new count left area found further more first rests size second = record {
+  taken = first.taken ++ second.taken;
+  records = second.records ∙ ap (λ (l : List (List ℕ)). l ++ second.taken) first.records ∙ append_assoc old first.taken second.taken;
+  counts = second.counts ∙ ap (λ (a : Area). with_records a second.taken) first.counts ∙ sym (with_records_append area first.taken second.taken);
+  bound = omega (arith, octets_append first.taken second.taken, second.bound);
+  reads = λ all is.
+      let k = octets_of first.taken in
+      let behind : drop (octets_of second.taken) (drop k all) ≡ drop (octets_of (first.taken ++ second.taken)) all =
+      drop-drop (octets_of second.taken) k all ∙ ap (λ (n : ℕ). drop n all) (sym (octets_append first.taken second.taken)) in
+      first.reads all is
+      ∙ ap (λ (l : List (List ℕ)). first.taken ++ l) (second.reads (drop k all) (rests all is))
+      ∙ sym (append_assoc first.taken second.taken (if more then records_in (drop (octets_of second.taken) (drop k all)) else []))
+      ∙ ap (λ (l : List ℕ). (first.taken ++ second.taken) ++ (if more then records_in l else [])) behind;
+}
+
+-- the records of an area before any is taken
+pub area_none : (shown : Option (List ℕ)) (start size : ℕ) (old : List (List ℕ)) → start < size → Takes (StandsFrom shown start) old old (size - start) (area_of start []) (area_of start []) true
+area_none shown start size old within = record {
+  taken = [];
+  records = sym (append-nil old);
+  counts = refl;
+  bound = omega arith;
+  reads = λ all stands. refl;
+}
+
+pub area_end : (IsAll : List ℕ → Type 0) (start count : ℕ) (old new : List (List ℕ)) (found : Area) (more : Bool) → (takes : Takes IsAll old new count (area_of start []) found more) → found.end ≡ start + 1 + octets_of takes.taken
+area_end IsAll start count old new found more takes = let end = ap (λ (a : Area). a.end) takes.counts in omega (arith, end, with_records_end (area_of start []) takes.taken)
+
+pub takes_grow : (IsAll : List ℕ → Type 0) (count : ℕ) (old new : List (List ℕ)) (area found : Area) (more : Bool) → (takes : Takes IsAll old new count area found more) → found.end ≡ area.end + octets_of takes.taken
+takes_grow IsAll count old new area found more takes = let end = ap (λ (a : Area). a.end) takes.counts in omega (arith, end, with_records_end area takes.taken)
+
+pub takes_placed : (IsAll : List ℕ → Type 0) (count : ℕ) (old new : List (List ℕ)) (area found : Area) (more : Bool) → (takes : Takes IsAll old new count area found more) → IsPlaced area → area.end + count ≤ greatest_length + 1 → IsPlaced found
+takes_placed IsAll count old new area found more takes placed bound =
+    subst IsPlaced (sym takes.counts) (with_records_placed area takes.taken placed (omega (arith, takes.bound)))
+
+-- the records of an area, some more of them
+pub area_more : (shown told : Option (List ℕ)) → told ≡ shown → (start size : ℕ) → start < size → (old mid new : List (List ℕ)) (area found : Area) (more : Bool)
+    → Takes (StandsFrom shown start) old mid (size - start) (area_of start []) area true → Takes (StandsFrom told (area.end - 1)) mid new (size - (area.end - 1)) area found more
+    → Takes (StandsFrom shown start) old new (size - start) (area_of start []) found more
+area_more shown told same start size within old mid new area found more first second =
+    let end = area_end (StandsFrom shown start) start (size - start) old mid area true first in
+    takes_joined (StandsFrom shown start) (StandsFrom told (area.end - 1)) old mid new (size - start) (size - (area.end - 1)) (area_of start []) area found more first
+        (λ all (image, shows, is).
+            let place : start + octets_of first.taken ≡ area.end - 1 = omega (arith, end) in
+            (image, same ∙ shows, ap (λ (l : List ℕ). drop (octets_of first.taken) l) is ∙ drop-drop (octets_of first.taken) start image ∙ ap (λ (n : ℕ). drop n image) place))
+        (omega (arith, end, first.bound)) second
+
+pub when_more : (IsAll : List ℕ → Type 0) (count : ℕ) (old new : List (List ℕ)) (area found : Area) (more now : Bool) → more ≡ now → Takes IsAll old new count area found more → Takes IsAll old new count area found now
+when_more IsAll count old new area found more now is takes = subst (λ (b : Bool). Takes IsAll old new count area found b) is takes
+
+-- a front that stays while another stays
+pub front_kept : (old mid new taken : List (List ℕ)) → mid ≡ old ++ taken → take (length mid) new ≡ mid → take (length old) new ≡ old
+front_kept old mid new taken is kept =
+    let le : length old ≤ length mid = omega (arith, ap length is, length-append old taken) in
+    sym (take-take (length old) (length mid) new le) ∙ ap (λ (l : List (List ℕ)). take (length old) l) kept ∙ front_stays old mid taken is
+
+-- the measure of reading an area falls
+pub falls : (size old new : ℕ) (now more : Bool) → now ≡ true → old ≤ size → new ≤ size → old ≤ new → (IsTrue more → old < new)
+    → size - new + (if more then 1 else 0) < size - old + (if now then 1 else 0)
+falls size old new false more is in_old in_new le further = cc
+falls size old new true true is in_old in_new le further = let less : old < new = further refl in omega arith
+falls size old new true false is in_old in_new le further = omega arith

@@ -1,10 +1,10 @@
 //! Reading the records of an area, in blocks.
-ghost use Rattle.std.specs.Prelude.{◌≡◌, ◌+◌, ◌-◌, ◌<◌, ◌≤◌, ◌^◌, ℕ, List, [], ◌∷◌, ◌++◌, take, drop, length, length as size_of, false, IfOk, IfNone, IfSome, None, OnErr, option_map, Some};
+ghost use Rattle.std.specs.Prelude.{◌≡◌, ◌+◌, ◌-◌, ◌<◌, ◌≤◌, ◌^◌, ℕ, List, [], ◌∷◌, ◌++◌, take, drop, length, length as size_of, false, IfOk, IfNone, IfSome, IsTrue, None, OnErr, option_map, Some};
 ghost use Rattle.vf_disk.specs.Disk.{greatest_length};
 ghost use Rattle.vf_journal.specs.Answers.{ReadCauses, is_fault};
 ghost use Rattle.vf_journal.specs.Looking.{IsLookedAt};
 ghost use Rattle.vf_journal.specs.Reading.{BeginsWith, IsFront, IsWhole, StandsFrom, Takes};
-ghost use Rattle.vf_journal.specs.Layout.{length_named, part};
+ghost use Rattle.vf_journal.specs.Layout.{first_start, length_named, part};
 ghost use Rattle.vf_journal.specs.Records.{first_record};
 ghost use Rattle.vf_journal.specs.Standing.{IsPlaced, area_of};
 
@@ -161,4 +161,122 @@ fn read_record<D: Disk>(
     };
     let record = read_octets(alloc, disk, gate + 5, u64::from(count))?;
     Ok(Some(record))
+}
+
+/// Reads the next block of an area of a disk of so many octets, from the closing gate of the area so far on, and takes
+/// its whole records. Answers the area with them, and whether the block ended first.
+fn take_block<D: Disk>(
+    alloc: Global,
+    disk: &mut D,
+    block: &mut [u8],
+    length: u64,
+    area: Area,
+    records: &mut Vec<Octets>,
+) -> Result<(Area, bool), JournalError>
+    requires block { 0 < size_of block.old }
+    requires length { length ≡ D.size disk.old }
+    requires bound { length ≤ greatest_length }
+    requires end { area.end ≤ length }
+    requires placed { IsPlaced area }
+    ensures taken { IfOk result (λ found. Takes (StandsFrom (D.shown disk.old) (area.end - 1)) records.old.items records.new.items (length - (area.end - 1)) area found.0 found.1) }
+    ensures kept { OnErr result (take (size_of records.old.items) records.new.items ≡ records.old.items) }
+    ensures looks { IsLookedAt D.shown D.size D.may_leave D.moment D.left_since D.plan (is_fault result) disk.old disk.new }
+    ensures causes { ReadCauses (D.fault_count disk.old) (D.fault_count disk.new) result }
+{
+    let gate = area.end - 1;
+    let left = length - gate;
+    let count = left.min(block.len() as u64) as usize;
+    read_at(disk, gate, &mut block[..count])?;
+    let (found, more) = take_records(alloc, &block[..count], left, area, records)?;
+    Ok((found, more))
+}
+
+/// Takes the next record of an area of a disk of so many octets by itself. Answers the area with it, and whether there
+/// was one.
+fn take_alone<D: Disk>(
+    alloc: Global,
+    disk: &mut D,
+    length: u64,
+    area: Area,
+    records: &mut Vec<Octets>,
+) -> Result<(Area, bool), JournalError>
+    requires length { length ≡ D.size disk.old }
+    requires bound { length ≤ greatest_length }
+    requires end { area.end ≤ length }
+    requires placed { IsPlaced area }
+    ensures taken { IfOk result (λ found. Takes (StandsFrom (D.shown disk.old) (area.end - 1)) records.old.items records.new.items (length - (area.end - 1)) area found.0 found.1) }
+    ensures goes_on { IfOk result (λ found. IsTrue found.1 → area.end < found.0.end) }
+    ensures kept { OnErr result (take (size_of records.old.items) records.new.items ≡ records.old.items) }
+    ensures looks { IsLookedAt D.shown D.size D.may_leave D.moment D.left_since D.plan (is_fault result) disk.old disk.new }
+    ensures causes { ReadCauses (D.fault_count disk.old) (D.fault_count disk.new) result }
+{
+    let Some(record) = read_record(alloc, disk, area.end - 1, length)? else {
+        return Ok((area, false));
+    };
+    let count = record.len() as u64;
+    records.push(record)?;
+    Ok((area.with(count), true))
+}
+
+/// Takes the whole records of the next block, or else the one record that is longer than a block. Answers the area
+/// with them, and whether more may stand behind.
+fn take_more<D: Disk>(
+    alloc: Global,
+    disk: &mut D,
+    block: &mut [u8],
+    length: u64,
+    area: Area,
+    records: &mut Vec<Octets>,
+) -> Result<(Area, bool), JournalError>
+    requires block { 0 < size_of block.old }
+    requires length { length ≡ D.size disk.old }
+    requires bound { length ≤ greatest_length }
+    requires end { area.end ≤ length }
+    requires placed { IsPlaced area }
+    ensures taken { IfOk result (λ found. Takes (StandsFrom (D.shown disk.old) (area.end - 1)) records.old.items records.new.items (length - (area.end - 1)) area found.0 found.1) }
+    ensures goes_on { IfOk result (λ found. IsTrue found.1 → area.end < found.0.end) }
+    ensures kept { OnErr result (take (size_of records.old.items) records.new.items ≡ records.old.items) }
+    ensures looks { IsLookedAt D.shown D.size D.may_leave D.moment D.left_since D.plan (is_fault result) disk.old disk.new }
+    ensures causes { ReadCauses (D.fault_count disk.old) (D.fault_count disk.new) result }
+{
+    let (found, more) = take_block(alloc, disk, block, length, area, records)?;
+    if !more {
+        return Ok((found, false));
+    }
+    if area.end < found.end {
+        return Ok((found, true));
+    }
+    let (found, more) = take_alone(alloc, disk, length, area, records)?;
+    Ok((found, more))
+}
+
+/// Reads the records of the area that starts at a place of a disk of so many octets, and puts them behind others.
+pub(crate) fn read_area<D: Disk>(
+    alloc: Global,
+    disk: &mut D,
+    start: u64,
+    length: u64,
+    records: &mut Vec<Octets>,
+) -> Result<Area, JournalError>
+    requires start { first_start ≤ start }
+    requires within { start < length }
+    requires length { length ≡ D.size disk.old }
+    requires bound { length ≤ greatest_length }
+    ensures taken { IfOk result (λ area. Takes (StandsFrom (D.shown disk.old) start) records.old.items records.new.items (length - start) (area_of start []) area false) }
+    ensures placed { IfOk result IsPlaced }
+    ensures end { IfOk result (λ area. area.end ≤ length) }
+    ensures kept { OnErr result (take (size_of records.old.items) records.new.items ≡ records.old.items) }
+    ensures looks { IsLookedAt D.shown D.size D.may_leave D.moment D.left_since D.plan (is_fault result) disk.old disk.new }
+    ensures causes { ReadCauses (D.fault_count disk.old) (D.fault_count disk.new) result }
+{
+    let room = (length - start).min(BLOCK) as usize;
+    let mut block = vec![in alloc; 0; room]?;
+    let mut area = Area::empty(start);
+    let mut more = true;
+    while more {
+        let (found, goes_on) = take_more(alloc, disk, &mut block, length, area, records)?;
+        area = found;
+        more = goes_on;
+    }
+    Ok(area)
 }
