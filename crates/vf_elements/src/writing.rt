@@ -55,7 +55,10 @@ fn descriptor(alloc: Global, name: &Option<Name>, filled: bool) -> Result<Value,
     if !filled {
         parts.push(field(alloc, 1, &[0])?)?;
     }
-    let tag = Tag { class: 1, number: 0 };
+    let tag = Tag {
+        class: 1,
+        number: 0,
+    };
     Ok(Value::Built { tag, parts })
 }
 

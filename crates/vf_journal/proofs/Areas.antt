@@ -25,7 +25,7 @@ split_alike front rest other count same =
     ∙ take-take (length front) (length front + count) (front ++ rest) le ∙ take_at front rest (length front) refl in (
       sym (take-append-drop (length front) other) ∙ ap (λ (l : List ℕ). l ++ drop (length front) other) head,
       sym (drop-take (length front) count other) ∙ ap (λ (l : List ℕ). drop (length front) l) same
-      ∙ drop-take (length front) count (front ++ rest) ∙ ap (λ (l : List ℕ). take count l) (drop_at front rest (length front) refl),
+          ∙ drop-take (length front) count (front ++ rest) ∙ ap (λ (l : List ℕ). take count l) (drop_at front rest (length front) refl),
     )
 
 -- Octets that begin as an area does, up to its closed gate, and go on there with another area, are an area of both.
@@ -55,8 +55,8 @@ area_closed (item ∷ records) octets (gate, rest, open_gate, short, is, holds) 
     let count : octets_of (item ∷ records) ≡ length (gated gate item) + octets_of records = omega (arith, length-gated gate item) in (
       closed.0,
       ap (λ (n : ℕ). drop n octets) count ∙ sym (drop-drop (octets_of records) (length (gated gate item)) octets)
-      ∙ ap (λ (l : List ℕ). drop (octets_of records) l) (ap (λ (l : List ℕ). drop (length (gated gate item)) l) is ∙ drop_at (gated gate item) rest (length (gated gate item)) refl)
-      ∙ closed.1,
+          ∙ ap (λ (l : List ℕ). drop (octets_of records) l) (ap (λ (l : List ℕ). drop (length (gated gate item)) l) is ∙ drop_at (gated gate item) rest (length (gated gate item)) refl)
+          ∙ closed.1,
     )
 
 pub area_length : (records : List (List ℕ)) (octets : List ℕ) → HoldsArea octets records → octets_of records + 1 ≤ length octets

@@ -23,15 +23,15 @@ counts_push start [] item =
     let n = length item in
     let empty : (start + 1 + 0 == start + 1) ≡ true = grind (arith, nat_tests) in
     same_area start (start + 1 + 0 + n + 5) (if start + 1 + 0 == start + 1 then n else 0) (if start + 1 + 0 == start + 1 then 0 else 0 + n + 5) (start + 1 + (n + 5 + 0)) n 0
-        (omega arith) (ap (λ (b : Bool). if b then n else 0) empty) (ap (λ (b : Bool). if b then 0 else 0 + n + 5) empty)
+    (omega arith) (ap (λ (b : Bool). if b then n else 0) empty) (ap (λ (b : Bool). if b then 0 else 0 + n + 5) empty)
 counts_push start (first ∷ records) item =
     let n = length item in
     let before = length first + 5 + octets_of records in
     let some : (start + 1 + before == start + 1) ≡ false = grind (arith, nat_tests) in
     same_area start (start + 1 + before + n + 5) (if start + 1 + before == start + 1 then n else length first) (if start + 1 + before == start + 1 then octets_of records else octets_of records + n + 5)
-        (start + 1 + (length first + 5 + octets_of (records ++ item ∷ []))) (length first) (octets_of (records ++ item ∷ []))
-        (omega (arith, octets_push records item)) (ap (λ (b : Bool). if b then n else length first) some)
-        (ap (λ (b : Bool). if b then octets_of records else octets_of records + n + 5) some ∙ sym (octets_push records item))
+    (start + 1 + (length first + 5 + octets_of (records ++ item ∷ []))) (length first) (octets_of (records ++ item ∷ []))
+    (omega (arith, octets_push records item)) (ap (λ (b : Bool). if b then n else length first) some)
+    (ap (λ (b : Bool). if b then octets_of records else octets_of records + n + 5) some ∙ sym (octets_push records item))
 
 -- what holds of an area stays with a record more that ends within the greatest length
 pub placed_more : (area : Area) (count : ℕ) → IsPlaced area → area.end + count + 5 ≤ greatest_length → IsPlaced (with_record area count)

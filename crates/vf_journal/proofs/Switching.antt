@@ -51,8 +51,8 @@ module _ {D : Type 0} (shown : D → Option (List ℕ)) (may_leave : D → List 
   turned : selects_second last ≡ not (selects_second on.image)
   turned =
       ap (λ (n : ℕ). not (n == 0)) (
-        sym (get_or-drop selector_place last 0 0)
-        ∙ ap (λ (l : List ℕ). get_or l 0 0) (overwritten_from on.image selector_place (selector_of (not journal.second) ∷ []) selector_within))
+      sym (get_or-drop selector_place last 0 0)
+      ∙ ap (λ (l : List ℕ). get_or l 0 0) (overwritten_from on.image selector_place (selector_of (not journal.second) ∷ []) selector_within))
       ∙ selects (not journal.second) ∙ ap not on.second
 
   starts : selected_start last ≡ anchor on.image (not (selects_second on.image))

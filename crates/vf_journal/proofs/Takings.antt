@@ -220,10 +220,10 @@ pub area_more : (shown told : Option (List ℕ)) → told ≡ shown → (start s
 area_more shown told same start size within old mid new area found more first second =
     let end = area_end (StandsFrom shown start) start (size - start) old mid area true first in
     takes_joined (StandsFrom shown start) (StandsFrom told (area.end - 1)) old mid new (size - start) (size - (area.end - 1)) (area_of start []) area found more first
-        (λ all (image, shows, is).
-            let place : start + octets_of first.taken ≡ area.end - 1 = omega (arith, end) in
-            (image, same ∙ shows, ap (λ (l : List ℕ). drop (octets_of first.taken) l) is ∙ drop-drop (octets_of first.taken) start image ∙ ap (λ (n : ℕ). drop n image) place))
-        (omega (arith, end, first.bound)) second
+    (λ all (image, shows, is).
+    let place : start + octets_of first.taken ≡ area.end - 1 = omega (arith, end) in
+    (image, same ∙ shows, ap (λ (l : List ℕ). drop (octets_of first.taken) l) is ∙ drop-drop (octets_of first.taken) start image ∙ ap (λ (n : ℕ). drop n image) place))
+    (omega (arith, end, first.bound)) second
 
 pub when_more : (IsAll : List ℕ → Type 0) (count : ℕ) (old new : List (List ℕ)) (area found : Area) (more now : Bool) → more ≡ now → Takes IsAll old new count area found more → Takes IsAll old new count area found now
 when_more IsAll count old new area found more now is takes = subst (λ (b : Bool). Takes IsAll old new count area found b) is takes

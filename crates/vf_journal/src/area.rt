@@ -43,7 +43,11 @@ impl Area {
             start: self.start,
             end: self.end + count + 5,
             first: if is_empty { count } else { self.first },
-            later: if is_empty { self.later } else { self.later + count + 5 },
+            later: if is_empty {
+                self.later
+            } else {
+                self.later + count + 5
+            },
         }
     }
 }

@@ -14,7 +14,10 @@ pub enum JournalError {
         expected: u8,
     },
     /// The record with its gate would end at `length`, past `limit` octets.
-    Full { length: u64, limit: u64 },
+    Full {
+        length: u64,
+        limit: u64,
+    },
     /// A call of the disk failed. Its count of faults rose in this call.
     DiskFault,
     /// Memory is wanting.

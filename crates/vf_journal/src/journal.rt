@@ -68,7 +68,8 @@ impl Journal {
         ensures { result ≡ placing self.now length snapshot }
     {
         let end = self.area.end + length + 5;
-        let is_due = self.area.later > 4096 && self.area.first < self.area.later || end > self.limit;
+        let is_due = self.area.later > 4096 && self.area.first < self.area.later
+            || end > self.limit;
         if is_due && snapshot <= LONGEST {
             let count = snapshot + 6;
             let start = self.new_start(count);

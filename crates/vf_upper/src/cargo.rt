@@ -88,12 +88,7 @@ pub(crate) fn some(alloc: Global, octets: &[u8], found: &mut Marks) -> Result<()
 }
 
 /// Reads the value that the octets from this place on begin with, and says how many of them it takes.
-fn next_value(
-    alloc: Global,
-    at: usize,
-    octets: &[u8],
-    found: &mut Marks,
-) -> Result<usize, Stop>
+fn next_value(alloc: Global, at: usize, octets: &[u8], found: &mut Marks) -> Result<usize, Stop>
     requires { at + length octets.now < 2 ^ 32 }
     ensures next { IsNext at octets.now (marks_of found.old) result (marks_of found.new) }
     ensures within { IfOk result (λ n. n ≤ length octets.now) }

@@ -12,4 +12,4 @@ loop-count-preserved c =
     let size = c.in-Record.count in
     let cut = c.split_at-in-Record.ensures.back ∙ ap (λ (l : List ℕ). drop 5 l) c.split_at.ensures.front ∙ drop-take 5 size c.loop-count.rest.now in
     taking_more c.args.block.now c.args.left c.args.area c.args.records.now.items c.loop-count.rest.now c.loop-count.left c.loop-count.area c.loop-count.records.items c.loop-count.invariant size c.in_ok-octets-in-Record.octets c.push.new.self.items c.with-area.result c.split_at.result.1.now
-        c.in-Record.ensures.whole (c.in_ok-octets-in-Record.ensures ∙ cut) c.in_ok-push-in-Record.ensures.items c.with-area.ensures c.split_at.ensures.back c.in-Record.ensures.front
+    c.in-Record.ensures.whole (c.in_ok-octets-in-Record.ensures ∙ cut) c.in_ok-push-in-Record.ensures.items c.with-area.ensures c.split_at.ensures.back c.in-Record.ensures.front

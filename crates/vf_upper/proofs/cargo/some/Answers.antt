@@ -20,7 +20,9 @@ pub loop-more-preserved : goal.loop-more-preserved
 loop-more-preserved c =
     let old = marks_of c.loop-more.found in
     let new = marks_of c.next_value.new.found in
-    let others = c.split_at.result.1.now in
-    (c.loop-more.invariant.0 ∙ ap (λ b. left b c.loop-more.at c.loop-more.rest.now old) c.loop-more-test.true
-    ∙ left_next c.loop-more.at c.in_ok-n.n c.loop-more.rest.now others old new c.in_ok-n.ensures.next c.split_at.ensures.back
-    ∙ ap (λ b. left (not b) (c.loop-more.at + c.in_ok-n.n) others new) (sym c.is_empty-more.ensures), omega arith)
+    let others = c.split_at.result.1.now in (
+      c.loop-more.invariant.0 ∙ ap (λ b. left b c.loop-more.at c.loop-more.rest.now old) c.loop-more-test.true
+          ∙ left_next c.loop-more.at c.in_ok-n.n c.loop-more.rest.now others old new c.in_ok-n.ensures.next c.split_at.ensures.back
+          ∙ ap (λ b. left (not b) (c.loop-more.at + c.in_ok-n.n) others new) (sym c.is_empty-more.ensures),
+      omega arith,
+    )

@@ -15,7 +15,7 @@ returns-in_err-write_synced-clause-any_moment g c = rw (← c.self.view_is) (λ 
 pub returns-in_err-write_synced-2-clause-any_moment : goal.returns-in_err-write_synced-2-clause-any_moment
 returns-in_err-write_synced-2-clause-any_moment g c = rw (← c.self.view_is) (λ item records is on.
     append_opened g.D.Disk.shown g.D.Disk.may_leave g.D.Disk.moment g.D.Disk.left_since g.met.D.Disk.only_now _ c.args.disk.now item records c.args.entry.now c.requires.entry is on c.write_synced.new.disk c.write_synced-2.new.disk
-        (c.in_ok-write_synced.ensures.shown on.image on.shows) c.in_ok-write_synced.ensures.synced c.write_synced.ensures.any_moment c.write_synced-2.ensures.any_moment)
+    (c.in_ok-write_synced.ensures.shown on.image on.shows) c.in_ok-write_synced.ensures.synced c.write_synced.ensures.any_moment c.write_synced-2.ensures.any_moment)
 
 pub returns-in_err-write_synced-2-clause-calls : goal.returns-in_err-write_synced-2-clause-calls
 returns-in_err-write_synced-2-clause-calls g c =
@@ -38,12 +38,12 @@ invariant_of-self g c =
 pub returns-clause-ok : goal.returns-clause-ok
 returns-clause-ok g c = rw (c.with-self-inside.ensures, ← c.self.view_is) (λ item records is on.
     append_done g.D.Disk.shown g.D.Disk.may_leave g.D.Disk.moment g.D.Disk.left_since g.met.D.Disk.only_now _ c.args.disk.now item records c.args.entry.now c.requires.entry is on c.write_synced-2.new.disk
-        (c.in_ok-write_synced-2.ensures.shown _ (c.in_ok-write_synced.ensures.shown on.image on.shows)) c.in_ok-write_synced-2.ensures.synced)
+    (c.in_ok-write_synced-2.ensures.shown _ (c.in_ok-write_synced.ensures.shown on.image on.shows)) c.in_ok-write_synced-2.ensures.synced)
 
 pub returns-clause-any_moment : goal.returns-clause-any_moment
 returns-clause-any_moment g c = rw (← c.self.view_is) (λ item records is on.
     append_opened g.D.Disk.shown g.D.Disk.may_leave g.D.Disk.moment g.D.Disk.left_since g.met.D.Disk.only_now _ c.args.disk.now item records c.args.entry.now c.requires.entry is on c.write_synced.new.disk c.write_synced-2.new.disk
-        (c.in_ok-write_synced.ensures.shown on.image on.shows) c.in_ok-write_synced.ensures.synced c.write_synced.ensures.any_moment c.write_synced-2.ensures.any_moment)
+    (c.in_ok-write_synced.ensures.shown on.image on.shows) c.in_ok-write_synced.ensures.synced c.write_synced.ensures.any_moment c.write_synced-2.ensures.any_moment)
 
 pub returns-clause-within : goal.returns-clause-within
 returns-clause-within g c =

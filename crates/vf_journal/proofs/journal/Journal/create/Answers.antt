@@ -15,7 +15,7 @@ returns-in_err-write_synced-2-clause-any_moment g c = λ octets shows synced.
     let none : octets ≡ [] = nil_from_length octets (g.met.D.Disk.measured c.args.disk.now octets shows ∙ c.requires) in
     let empty = shows ∙ ap Some none in
     create_second g.D.Disk.shown g.D.Disk.may_leave g.D.Disk.moment g.D.Disk.left_since c.args.disk.now empty synced c.write_synced.new.disk c.write_synced-2.new.disk c.write_synced.ensures.any_moment
-        (c.in_ok-write_synced.ensures.shown [] empty) c.in_ok-write_synced.ensures.synced c.write_synced-2.ensures.any_moment
+    (c.in_ok-write_synced.ensures.shown [] empty) c.in_ok-write_synced.ensures.synced c.write_synced-2.ensures.any_moment
 
 pub returns-in_err-write_synced-2-clause-calls : goal.returns-in_err-write_synced-2-clause-calls
 returns-in_err-write_synced-2-clause-calls g c =
@@ -29,7 +29,7 @@ returns-in_err-write_synced-3-clause-any_moment g c = λ octets shows synced.
     let empty = shows ∙ ap Some none in
     let one = c.in_ok-write_synced.ensures.shown [] empty in
     create_third g.D.Disk.shown g.D.Disk.may_leave g.D.Disk.moment g.D.Disk.left_since c.args.disk.now empty synced c.write_synced.new.disk c.write_synced-2.new.disk c.write_synced-3.new.disk c.write_synced.ensures.any_moment
-        one c.in_ok-write_synced.ensures.synced c.write_synced-2.ensures.any_moment (c.in_ok-write_synced-2.ensures.shown _ one) c.in_ok-write_synced-2.ensures.synced c.write_synced-3.ensures.any_moment
+    one c.in_ok-write_synced.ensures.synced c.write_synced-2.ensures.any_moment (c.in_ok-write_synced-2.ensures.shown _ one) c.in_ok-write_synced-2.ensures.synced c.write_synced-3.ensures.any_moment
 
 pub returns-in_err-write_synced-3-clause-calls : goal.returns-in_err-write_synced-3-clause-calls
 returns-in_err-write_synced-3-clause-calls g c =
@@ -49,4 +49,4 @@ returns-clause-any_moment g c = λ octets shows synced.
     let empty = shows ∙ ap Some none in
     let one = c.in_ok-write_synced.ensures.shown [] empty in
     create_third g.D.Disk.shown g.D.Disk.may_leave g.D.Disk.moment g.D.Disk.left_since c.args.disk.now empty synced c.write_synced.new.disk c.write_synced-2.new.disk c.write_synced-3.new.disk c.write_synced.ensures.any_moment
-        one c.in_ok-write_synced.ensures.synced c.write_synced-2.ensures.any_moment (c.in_ok-write_synced-2.ensures.shown _ one) c.in_ok-write_synced-2.ensures.synced c.write_synced-3.ensures.any_moment
+    one c.in_ok-write_synced.ensures.synced c.write_synced-2.ensures.any_moment (c.in_ok-write_synced-2.ensures.shown _ one) c.in_ok-write_synced-2.ensures.synced c.write_synced-3.ensures.any_moment

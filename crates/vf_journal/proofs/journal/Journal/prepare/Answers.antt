@@ -13,15 +13,15 @@ overflow_sub-self g c = let built = c.requires.area in omega (arith, ap length b
 pub returns-in_err-write_both_synced-clause-any_moment : goal.returns-in_err-write_both_synced-clause-any_moment
 returns-in_err-write_both_synced-clause-any_moment g c = rw (← c.self.view_is) (λ records on.
     prepare_run g.D.Disk.shown g.D.Disk.may_leave g.D.Disk.moment g.D.Disk.left_since _ c.args.disk.now records c.args.area.now c.new_start-start.result (c.new_start-start.ensures ∙ ap (λ (journal : Standing). new_start journal (length c.args.area.now)) (sym c.self.view_is)) on
-        c.anchor_place.result _ c.anchor_place.ensures (ap length c.to_be_bytes-anchor.ensures) c.write_both_synced.new.disk c.write_both_synced.ensures.any_moment)
+    c.anchor_place.result _ c.anchor_place.ensures (ap length c.to_be_bytes-anchor.ensures) c.write_both_synced.new.disk c.write_both_synced.ensures.any_moment)
 
 pub returns-clause-any_moment : goal.returns-clause-any_moment
 returns-clause-any_moment g c = rw (← c.self.view_is) (λ records on.
     prepare_run g.D.Disk.shown g.D.Disk.may_leave g.D.Disk.moment g.D.Disk.left_since _ c.args.disk.now records c.args.area.now c.new_start-start.result (c.new_start-start.ensures ∙ ap (λ (journal : Standing). new_start journal (length c.args.area.now)) (sym c.self.view_is)) on
-        c.anchor_place.result _ c.anchor_place.ensures (ap length c.to_be_bytes-anchor.ensures) c.write_both_synced.new.disk c.write_both_synced.ensures.any_moment)
+    c.anchor_place.result _ c.anchor_place.ensures (ap length c.to_be_bytes-anchor.ensures) c.write_both_synced.new.disk c.write_both_synced.ensures.any_moment)
 
 pub returns-clause-ok : goal.returns-clause-ok
 returns-clause-ok g c = rw (← c.self.view_is) (λ item records is on.
     prepare_done g.D.Disk.shown g.D.Disk.may_leave g.D.Disk.moment g.D.Disk.left_since _ c.args.disk.now records c.args.area.now c.new_start-start.result (c.new_start-start.ensures ∙ ap (λ (journal : Standing). new_start journal (length c.args.area.now)) (sym c.self.view_is)) on
-        c.in_ok-write_both_synced.ensures.bound item c.requires.area is c.anchor_place.result c.to_be_bytes-anchor.result c.anchor_place.ensures (c.to_be_bytes-anchor.ensures ∙ place_octets_are c.new_start-start.result)
-        c.write_both_synced.new.disk (c.in_ok-write_both_synced.ensures.shown on.image on.shows) c.in_ok-write_both_synced.ensures.synced)
+    c.in_ok-write_both_synced.ensures.bound item c.requires.area is c.anchor_place.result c.to_be_bytes-anchor.result c.anchor_place.ensures (c.to_be_bytes-anchor.ensures ∙ place_octets_are c.new_start-start.result)
+    c.write_both_synced.new.disk (c.in_ok-write_both_synced.ensures.shown on.image on.shows) c.in_ok-write_both_synced.ensures.synced)
