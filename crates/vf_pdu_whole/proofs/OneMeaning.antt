@@ -65,7 +65,7 @@ known (RestartResponse point) = refl
 is_known : (pdu : Pdu) → number_of pdu ≤ 40
 is_known pdu = grind (arith, known pdu)
 
-true_of : (b : Bool) → IsTrue b → b ≡ true
+pub true_of : (b : Bool) → IsTrue b → b ≡ true
 true_of b h = search rules
 
 shapes_of : (tree : Tree) (pdu : Pdu) → (m : Means tree pdu) → shapes (row_of (number_of pdu)) m.parts ≡ Some (slots (slots_of pdu))

@@ -15,3 +15,4 @@ pub mod PduMeaning
 pub mod PduResults
 pub mod PduRows
 pub mod PduSlots
+pub mod PduValue

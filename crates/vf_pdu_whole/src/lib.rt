@@ -1,18 +1,25 @@
 //! The PDUs of FTAM (ISO 8571-4) as values of the basic encoding rules.
 #![tactic(auto)]
 
+mod copy;
 mod laws;
+mod number;
 mod pdu;
 mod read;
 mod read_files;
 mod read_regimes;
 mod read_transfer;
+mod write;
+mod write_files;
+mod write_regimes;
+mod write_transfer;
 
-pub use laws::{forms_have_one_content, meaning_has_no_fault, meaning_is_one};
+pub use laws::{forms_have_one_content, meaning_has_no_fault, meaning_is_one, value_means};
 pub use pdu::Pdu;
 pub use read::of_value;
 pub use vf_fields::{AttributeControls, ContentControls, PduError, WriteOperation};
 pub use vf_parameters::{Attributes, Grant, Grants, Stamp};
+pub use write::to_value;
 
 #[cfg(test)]
 mod tests;

@@ -1,0 +1,26 @@
+-- The value of a PDU means it.
+use Rattle.std.proofs.Common.{◌≡◌, refl}
+use Rattle.vf_ber.specs.Tree.{Trees}
+use Rattle.vf_fields.specs.Content.{slots}
+use Rattle.vf_fields.specs.Meaning.{all_fit}
+use Rattle.vf_fields.specs.Writing.{fields}
+use Rattle.vf_fields.proofs.ReadAgain.{fields_hold}
+use Rattle.vf_fields.proofs.Written.{all_appended}
+use Rattle.vf_pdu_whole.specs.PduRows.{row_of}
+use Rattle.vf_pdu_whole.specs.PduSlots.{number_of, slots_of}
+use Rattle.vf_pdu_whole.specs.PduValue.{ValueMeans, parts_put}
+use Rattle.vf_pdu_whole.specs.declared.pdu.Pdu.{Pdu}
+use Rattle.vf_pdu_whole.proofs.OneMeaning.{true_of}
+use Rattle.vf_pdu_whole.proofs.Tables.{row_is_table}
+
+pub value_is : ValueMeans
+value_is pdu h = record {
+  parts = fields (row_of (number_of pdu)) (slots (slots_of pdu));
+  built_of = refl;
+  has = fields_hold (row_of (number_of pdu)) 0 (slots (slots_of pdu)) (row_is_table (number_of pdu)) (true_of (all_fit (row_of (number_of pdu)) (slots (slots_of pdu))) h);
+  in_range = h;
+}
+
+-- the fields that are put one behind another are those of the value
+pub put_is : (pdu : Pdu) (made : Trees) → made ≡ parts_put pdu → made ≡ fields (row_of (number_of pdu)) (slots (slots_of pdu))
+put_is pdu made e = all_appended (row_of (number_of pdu)) (slots_of pdu) made e
