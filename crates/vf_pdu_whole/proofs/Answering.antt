@@ -7,7 +7,7 @@ use Rattle.vf_fields.specs.Fault.{Unknown}
 use Rattle.vf_fields.specs.Faults.{fault_in}
 use Rattle.vf_pdu_whole.specs.PduFaults.{fault}
 use Rattle.vf_fields.specs.Meaning.{context, all_fit}
-use Rattle.vf_pdu_whole.specs.PduMeaning.{Means}
+use Rattle.vf_pdu_whole.specs.PduMeaning.{IsInRange, Means}
 use Rattle.vf_fields.specs.Reading.{reading}
 use Rattle.vf_fields.specs.Results.{Names}
 use Rattle.vf_pdu_whole.specs.PduResults.{Reads}
@@ -24,7 +24,7 @@ use Rattle.vf_pdu_whole.proofs.Tables.{row_is_table}
 is_true : (b : Bool) → b ≡ true → IsTrue b
 is_true b e = search rules
 
-meaning_read : (tag : Tag) (parts : Trees) (number : ℕ) (pdu : Pdu) → tag ≡ context number → number_of pdu ≡ number → reading (row_of number) parts ≡ Ok (slots_of pdu)
+pub meaning_read : (tag : Tag) (parts : Trees) (number : ℕ) (pdu : Pdu) → tag ≡ context number → number_of pdu ≡ number → reading (row_of number) parts ≡ Ok (slots_of pdu)
     → Means (built tag parts) pdu
 meaning_read tag parts number pdu t n r =
     let K : ℕ → Type 0 = λ x. Kept (row_of x) parts (slots_of pdu) in
@@ -71,3 +71,8 @@ fault_of tree tag parts start number r b s t le h =
     let R : Trees → Type 0 = λ x. Reads number (row_of number) x r in
     let F : Tree → Type 0 = λ x. IfErr r (λ error. Names error (fault x)) in
     subst F (sym b) (fault_answer tag parts number r t le (subst R s h))
+
+-- what means something is in range
+pub ok_in_range : (tree : Tree) (r : Result Pdu PduError) → IfOk r (λ pdu. Means tree pdu) → IfOk r (λ pdu. IsInRange pdu)
+ok_in_range tree (Ok pdu) m = m.in_range
+ok_in_range tree (Err error) m = m

@@ -1,6 +1,9 @@
 pub mod Answering
+pub mod Back
+pub mod Computed
 pub mod OneMeaning
 pub mod Ranges
 pub mod Same
 pub mod Tables
+pub mod Whole
 pub mod Written

@@ -1,10 +1,11 @@
 -- A value has one meaning at most, and then no fault.
-use Rattle.std.proofs.Common.{◌≡◌, ℕ, ◌≤◌, Bool, true, List, [], ◌∷◌, refl, ap, sym, ◌∙◌, rules, arith}
-use Rattle.std.specs.Prelude.{Some, None, IsTrue, nat_le}
-use Rattle.vf_ber.specs.Tree.{Tree, built, Trees, root}
-use Rattle.vf_fields.specs.Content.{Slot, Slots, nil, present, absent, slots}
+use Rattle.std.proofs.Common.{◌≡◌, ℕ, ◌≤◌, Bool, true, List, refl, ap, sym, ◌∙◌, rules, arith}
+use Rattle.std.specs.Prelude.{Some, IsTrue, nat_le}
+use Rattle.vf_ber.specs.Tree.{Tree, built, root}
+use Rattle.vf_fields.specs.Content.{Slot, slots}
 use Rattle.vf_pdu_whole.specs.PduFaults.{fault}
-use Rattle.vf_pdu_whole.specs.Laws.{MeaningIsOne, MeaningHasNoFault}
+use Rattle.vf_pdu_whole.specs.Contained.{slot_list}
+use Rattle.vf_pdu_whole.specs.Laws.{MeaningIsOne, MeaningHasNoFault, MeaningIsInRange}
 use Rattle.vf_fields.specs.Meaning.{context, all_fit}
 use Rattle.vf_pdu_whole.specs.PduMeaning.{Means}
 use Rattle.vf_fields.specs.Reading.{parts_of, shapes}
@@ -17,9 +18,11 @@ use Rattle.vf_fields.proofs.Complete.{holds_shapes}
 use Rattle.vf_fields.proofs.FirstFaults.{told}
 use Rattle.vf_fields.proofs.Nested.{shapes_read}
 use Rattle.vf_fields.proofs.Plain.{some_is}
+use Rattle.vf_pdu_whole.proofs.Back.{slot_list-slots}
+use Rattle.vf_pdu_whole.proofs.Same.{same_pdu}
 use Rattle.vf_pdu_whole.proofs.Tables.{row_is_table}
 
-known : (pdu : Pdu) → nat_le (number_of pdu) 40 ≡ true
+pub known : (pdu : Pdu) → nat_le (number_of pdu) 40 ≡ true
 known (InitializeRequest units identity password window) = refl
 known (InitializeResponse diagnostic units window) = refl
 known TerminateRequest = refl
@@ -68,7 +71,7 @@ is_known pdu = grind (arith, known pdu)
 pub true_of : (b : Bool) → IsTrue b → b ≡ true
 true_of b h = search rules
 
-shapes_of : (tree : Tree) (pdu : Pdu) → (m : Means tree pdu) → shapes (row_of (number_of pdu)) m.parts ≡ Some (slots (slots_of pdu))
+pub shapes_of : (tree : Tree) (pdu : Pdu) → (m : Means tree pdu) → shapes (row_of (number_of pdu)) m.parts ≡ Some (slots (slots_of pdu))
 shapes_of tree pdu m = holds_shapes (row_of (number_of pdu)) 0 m.parts (slots (slots_of pdu)) (row_is_table (number_of pdu)) m.has
 
 pub has_no_fault : MeaningHasNoFault
@@ -76,29 +79,17 @@ has_no_fault tree pdu m =
     let r = shapes_read (row_of (number_of pdu)) m.parts (slots (slots_of pdu)) (shapes_of tree pdu m) (true_of (all_fit (row_of (number_of pdu)) (slots (slots_of pdu))) m.in_range) in
     ap fault m.built_of ∙ fault_is (context (number_of pdu)) m.parts (number_of pdu) refl (is_known pdu) ∙ ap told r.1
 
-back : Slots → List Slot
-back nil = []
-back (present content rest) = Some content ∷ back rest
-back (absent rest) = None ∷ back rest
-
-back-slots : (all : List Slot) → back (slots all) ≡ all
-unfolding back
-back-slots [] = refl
-back-slots (Some content ∷ rest) = ap (λ (l : List Slot). Some content ∷ l) (back-slots rest)
-back-slots (None ∷ rest) = ap (λ (l : List Slot). None ∷ l) (back-slots rest)
-
-slots_same : (xs ys : List Slot) → slots xs ≡ slots ys → xs ≡ ys
-slots_same xs ys e = sym (back-slots xs) ∙ ap back e ∙ back-slots ys
+pub slots_same : (xs ys : List Slot) → slots xs ≡ slots ys → xs ≡ ys
+slots_same xs ys e = sym (slot_list-slots xs) ∙ ap slot_list e ∙ slot_list-slots ys
 
 pub is_one : MeaningIsOne
 is_one tree p q m n =
     let trees : built (context (number_of p)) m.parts ≡ built (context (number_of q)) n.parts = sym m.built_of ∙ n.built_of in
     let number : number_of p ≡ number_of q = ap (λ t. (root t).number) trees in
     let parts : m.parts ≡ n.parts = some_is m.parts n.parts (ap parts_of trees) in
-    let S : ℕ → Trees → Type 0 = λ k t. shapes (row_of k) t ≡ Some (slots (slots_of p)) in
     let moved : shapes (row_of (number_of q)) n.parts ≡ Some (slots (slots_of p)) =
     ap (λ (k : ℕ). shapes (row_of k) n.parts) (sym number) ∙ ap (shapes (row_of (number_of p))) (sym parts) ∙ shapes_of tree p m in
-    record {
-      number = number;
-      fields = slots_same (slots_of p) (slots_of q) (some_is (slots (slots_of p)) (slots (slots_of q)) (sym moved ∙ shapes_of tree q n));
-    }
+    same_pdu p q number (slots_same (slots_of p) (slots_of q) (some_is (slots (slots_of p)) (slots (slots_of q)) (sym moved ∙ shapes_of tree q n)))
+
+pub is_in_range : MeaningIsInRange
+is_in_range tree pdu m = m.in_range

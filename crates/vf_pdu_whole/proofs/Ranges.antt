@@ -6,7 +6,7 @@ use Rattle.vf_base.specs.declared.access.Context.{Context}
 use Rattle.vf_base.specs.declared.access.FaduId.{FaduId}
 use Rattle.vf_fields.specs.Content.{Slot, Slots, nil, slot, slots}
 use Rattle.vf_fields.specs.Meaning.{all_fit}
-use Rattle.vf_fields.specs.Rows.{FromTo, Integer, Form, Need, Row, end, field, required, one, or, fadu as fadu_form, int}
+use Rattle.vf_fields.specs.Rows.{Form, Need, Row, end, field, required, or, fadu as fadu_form, int}
 use Rattle.vf_fields.specs.Slots.{context_slot, fadu_slot}
 use Rattle.vf_fields.specs.declared.operation.WriteOperation.{WriteOperation}
 use Rattle.vf_fields.specs.declared.operation.WriteOperation.TheVariants as operations

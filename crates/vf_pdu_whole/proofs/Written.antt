@@ -6,11 +6,13 @@ use Rattle.vf_fields.specs.Meaning.{all_fit}
 use Rattle.vf_fields.specs.Writing.{fields}
 use Rattle.vf_fields.proofs.ReadAgain.{fields_hold}
 use Rattle.vf_fields.proofs.Written.{all_appended}
+use Rattle.vf_pdu_whole.specs.Laws.{WrittenIsReadAgain}
+use Rattle.vf_pdu_whole.specs.PduMeaning.{Means}
 use Rattle.vf_pdu_whole.specs.PduRows.{row_of}
 use Rattle.vf_pdu_whole.specs.PduSlots.{number_of, slots_of}
-use Rattle.vf_pdu_whole.specs.PduValue.{ValueMeans, parts_put}
+use Rattle.vf_pdu_whole.specs.PduValue.{ValueMeans, parts_put, value}
 use Rattle.vf_pdu_whole.specs.declared.pdu.Pdu.{Pdu}
-use Rattle.vf_pdu_whole.proofs.OneMeaning.{true_of}
+use Rattle.vf_pdu_whole.proofs.OneMeaning.{has_no_fault, is_one, true_of}
 use Rattle.vf_pdu_whole.proofs.Tables.{row_is_table}
 
 pub value_is : ValueMeans
@@ -24,3 +26,8 @@ value_is pdu h = record {
 -- the fields that are put one behind another are those of the value
 pub put_is : (pdu : Pdu) (made : Trees) → made ≡ parts_put pdu → made ≡ fields (row_of (number_of pdu)) (slots (slots_of pdu))
 put_is pdu made e = all_appended (row_of (number_of pdu)) (slots_of pdu) made e
+
+pub is_read_again : WrittenIsReadAgain
+is_read_again pdu h =
+    let means : Means (value pdu) pdu = value_is pdu h in
+    (has_no_fault (value pdu) pdu means, λ other m. is_one (value pdu) other pdu m means)

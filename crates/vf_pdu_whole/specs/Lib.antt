@@ -7,9 +7,12 @@ pub use Rattle.vf_fields.specs.Reading
 pub use Rattle.vf_fields.specs.Results
 pub use Rattle.vf_fields.specs.Rows
 pub use Rattle.vf_fields.specs.Slots
+pub use Rattle.vf_fields.specs.Writing
 pub use Rattle.vf_parameters.specs.ParameterSlots
 pub use Rattle.vf_parameters.specs.Parameters
+pub mod Contained
 pub mod Laws
+pub mod PduComputed
 pub mod PduFaults
 pub mod PduMeaning
 pub mod PduResults

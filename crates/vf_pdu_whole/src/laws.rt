@@ -1,5 +1,5 @@
 //! Laws of meanings and faults, each the contract of a function that does nothing.
-ghost use Rattle.vf_pdu_whole.specs.Laws.{FormsHaveOneContent, MeaningHasNoFault, MeaningIsOne};
+ghost use Rattle.vf_pdu_whole.specs.Laws.{FormsHaveOneContent, MeaningHasNoFault, MeaningIsComputed, MeaningIsInRange, MeaningIsOne, WrittenIsReadAgain};
 ghost use Rattle.vf_pdu_whole.specs.PduValue.{ValueMeans};
 
 /// A value that means a PDU has no fault.
@@ -7,7 +7,7 @@ pub fn meaning_has_no_fault()
     ensures { MeaningHasNoFault }
 {}
 
-/// A value means no two PDUs with other numbers or fields.
+/// A value means no two PDUs.
 pub fn meaning_is_one()
     ensures { MeaningIsOne }
 {}
@@ -17,7 +17,22 @@ pub fn forms_have_one_content()
     ensures { FormsHaveOneContent }
 {}
 
-/// The value of a PDU means it, so that what was written is read again.
+/// What a value means is in range, so that what was read can be written.
+pub fn meaning_is_in_range()
+    ensures { MeaningIsInRange }
+{}
+
+/// Which PDU a value means can be computed.
+pub fn meaning_is_computed()
+    ensures { MeaningIsComputed }
+{}
+
+/// The value of a PDU means it.
 pub fn value_means()
     ensures { ValueMeans }
+{}
+
+/// What was written is read again: the value of a PDU has no fault, and means no other PDU.
+pub fn written_is_read_again()
+    ensures { WrittenIsReadAgain }
 {}

@@ -2,7 +2,7 @@
 ghost use Rattle.std.specs.Prelude.{◌≡◌, ◌≤◌, ◌<◌, ◌^◌, [], ◌∷◌, IfOk, IfErr, length};
 ghost use Rattle.vf_ber.specs.Views.{tree_of, trees_in};
 ghost use Rattle.vf_pdu_whole.specs.PduFaults.{fault};
-ghost use Rattle.vf_pdu_whole.specs.PduMeaning.{Means};
+ghost use Rattle.vf_pdu_whole.specs.PduMeaning.{IsInRange, Means};
 ghost use Rattle.vf_fields.specs.Reading.{reading};
 ghost use Rattle.vf_fields.specs.Results.{Gives, Names};
 ghost use Rattle.vf_pdu_whole.specs.PduResults.{Reads};
@@ -35,6 +35,7 @@ use vf_parameters::diagnostic;
 /// absent.
 pub fn of_value(alloc: Global, value: &Value) -> Result<Pdu, PduError>
     ensures meaning { IfOk result (λ pdu. Means (tree_of value.now) pdu) }
+    ensures range { IfOk result (λ pdu. IsInRange pdu) }
     ensures faults { IfErr result (λ error. Names error (fault (tree_of value.now))) }
 {
     let Value::Built { tag, parts } = value else {
