@@ -97,3 +97,79 @@ fn reads_attributes(rt: HostRuntime) -> Result<(), Fail> {
     );
     Ok(())
 }
+
+/// The spelling of what the octets of one value are read as.
+fn spelled_again(alloc: Global, octets: &[u8]) -> Option<Vec<u8>> {
+    let Ok((value, _)) = vf_ber::read(alloc, octets) else {
+        return None;
+    };
+    let Ok(pdu) = of_value(alloc, &value) else {
+        return None;
+    };
+    let Ok(again) = to_value(alloc, &pdu) else {
+        return None;
+    };
+    let mut spelled = Vec::new(alloc);
+    match vf_ber::write(alloc, &again, &mut spelled) {
+        Ok(()) => Some(spelled),
+        Err(_) => None,
+    }
+}
+
+#[test]
+fn writes_what_was_read(rt: HostRuntime) -> Result<(), Fail> {
+    let spellings: [(&[u8], &[u8]); 4] = [
+        // A window of 1 is left out, and the identity comes in segments.
+        (
+            &[
+                0xa0, 0x0f, 0x80, 0x01, 0x0f, 0xa1, 0x07, 0x04, 0x01, 0x61, 0x04, 0x02, 0x62, 0x63,
+                0x83, 0x01, 0x01,
+            ],
+            &[0xa0, 0x08, 0x80, 0x01, 0x0f, 0x81, 0x03, 0x61, 0x62, 0x63],
+        ),
+        // Any octet but 0 is true.
+        (
+            &[0xbb, 0x03, 0x83, 0x01, 0x01],
+            &[0xbb, 0x03, 0x83, 0x01, 0xff],
+        ),
+        (
+            &[0xb1, 0x05, 0xa0, 0x03, 0x80, 0x01, 0x0b],
+            &[0xb1, 0x05, 0xa0, 0x03, 0x80, 0x01, 0x0b],
+        ),
+        (&[0xbf, 0x26, 0x00], &[0xbf, 0x26, 0x00]),
+    ];
+    for (octets, expected) in spellings {
+        let spelled = spelled_again(rt.alloc(), octets).ok_or("a PDU")?;
+        assert!(rt; spelled.as_slice() == expected);
+    }
+    Ok(())
+}
+
+/// A copy of what the octets of one value are read as.
+fn copy_of(alloc: Global, octets: &[u8]) -> Option<Pdu> {
+    let Some(Ok(pdu)) = pdu_of(alloc, octets) else {
+        return None;
+    };
+    match pdu.copy(alloc) {
+        Ok(copy) => Some(copy),
+        Err(_) => None,
+    }
+}
+
+#[test]
+fn copies_what_was_read(rt: HostRuntime) -> Result<(), Fail> {
+    let octets = [0xbb, 0x06, 0x81, 0x01, 0x01, 0x83, 0x01, 0xff];
+    let copy = copy_of(rt.alloc(), &octets).ok_or("a PDU")?;
+    assert!(rt;
+        matches!(
+            copy,
+            Pdu::RecoverResponse {
+                number: Some(1),
+                point: 0,
+                moving: true,
+                ..
+            }
+        )
+    );
+    Ok(())
+}
