@@ -15,7 +15,9 @@ pub mod Laws
 pub mod PduComputed
 pub mod PduFaults
 pub mod PduMeaning
+pub mod PduReading
 pub mod PduResults
 pub mod PduRows
+pub mod PduSizes
 pub mod PduSlots
 pub mod PduValue

@@ -1,5 +1,6 @@
 //! Laws of meanings and faults, each the contract of a function that does nothing.
 ghost use Rattle.vf_pdu_whole.specs.Laws.{FormsHaveOneContent, MeaningHasNoFault, MeaningIsComputed, MeaningIsInRange, MeaningIsOne, WrittenIsReadAgain};
+ghost use Rattle.vf_pdu_whole.specs.PduSizes.{PduIsWithin};
 ghost use Rattle.vf_pdu_whole.specs.PduValue.{ValueMeans};
 
 /// A value that means a PDU has no fault.
@@ -35,4 +36,9 @@ pub fn value_means()
 /// What was written is read again: the value of a PDU has no fault, and means no other PDU.
 pub fn written_is_read_again()
     ensures { WrittenIsReadAgain }
+{}
+
+/// The value of a PDU is within the limits that `vf_ber::write` has: depth 32 and 1,048,576 octets.
+pub fn value_is_within()
+    ensures { PduIsWithin }
 {}

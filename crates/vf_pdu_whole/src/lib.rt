@@ -16,7 +16,7 @@ mod write_transfer;
 
 pub use laws::{
     forms_have_one_content, meaning_has_no_fault, meaning_is_computed, meaning_is_in_range,
-    meaning_is_one, value_means, written_is_read_again,
+    meaning_is_one, value_is_within, value_means, written_is_read_again,
 };
 pub use pdu::Pdu;
 pub use read::of_value;

@@ -3,6 +3,7 @@ ghost use Rattle.std.specs.Prelude.{◌≡◌, ◌≤◌, ◌<◌, ◌^◌, [], 
 ghost use Rattle.vf_ber.specs.Views.{tree_of, trees_in};
 ghost use Rattle.vf_pdu_whole.specs.PduFaults.{fault};
 ghost use Rattle.vf_pdu_whole.specs.PduMeaning.{IsInRange, Means};
+ghost use Rattle.vf_pdu_whole.specs.PduReading.{pdu_in};
 ghost use Rattle.vf_fields.specs.Reading.{reading};
 ghost use Rattle.vf_fields.specs.Results.{Gives, Names};
 ghost use Rattle.vf_pdu_whole.specs.PduResults.{Reads};
@@ -37,6 +38,7 @@ pub fn of_value(alloc: Global, value: &Value) -> Result<Pdu, PduError>
     ensures meaning { IfOk result (λ pdu. Means (tree_of value.now) pdu) }
     ensures range { IfOk result (λ pdu. IsInRange pdu) }
     ensures faults { IfErr result (λ error. Names error (fault (tree_of value.now))) }
+    ensures read { Gives (λ pdu. pdu) result (pdu_in (tree_of value.now)) }
 {
     let Value::Built { tag, parts } = value else {
         return Err(PduError::Unknown { tag: value.tag() });

@@ -1,0 +1,5 @@
+use Rattle.vf_pdu_whole.proofs.Within.{within}
+use Rattle.vf_pdu_whole.proofs.laws.value_is_within.Goals as goal
+
+pub returns : goal.returns
+returns c = within
