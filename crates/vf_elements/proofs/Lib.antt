@@ -1,3 +1,4 @@
 pub mod Descriptors
 pub mod Segments
+pub mod Within
 pub mod Written

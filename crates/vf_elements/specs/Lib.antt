@@ -3,4 +3,6 @@ pub mod ElementReading
 pub mod ElementValue
 pub mod Elements
 pub mod Kinds
+pub mod Messages
+pub mod Sizes
 pub mod Stages

@@ -1,0 +1,16 @@
+-- How long the values of data elements are.
+use Rattle.std.specs.Prelude.{ℕ, ◌≤◌, List, length}
+use Rattle.vf_base.specs.declared.element.Element.{Element}
+use Rattle.vf_base.specs.declared.element.Element.TheVariants.{Descriptor, Enter, Exit, Text, Binary}
+use Rattle.vf_ber.specs.Limits.{IsTooLarge}
+use Rattle.vf_elements.specs.ElementValue.{IsWritable, value}
+
+-- a string of at most 65,536 octets, which is the longest that a file holds (profile)
+abbrev pub IsShort : Element → Type 0
+IsShort (Text class octets) = length octets ≤ 65536
+IsShort (Binary octets) = length octets ≤ 65536
+IsShort _ = Unit {0}
+
+-- the value of such an element is within the limits of values
+abbrev pub ElementIsWithin : Type 0
+ElementIsWithin = (element : Element) → IsWritable element → IsShort element → IsTooLarge (value element) → ⊥
