@@ -13,4 +13,6 @@ mod Gates
 mod Held
 mod Fronts
 mod Looks
+mod Heads
+mod Opening
 mod Takings

@@ -1,7 +1,7 @@
 -- How rows of calls are counted.
-use Rattle.std.proofs.Common.{◌≡◌, ℕ, zero, suc, ◌+◌, ◌<◌, ◌≤◌, Bool, true, false, not, ◌&&◌, Option, None, Some, refl, sym, ◌∙◌, ap, subst, arith, true≢false}
-use Rattle.vf_disk.specs.Plans.{StopPlan, after_change, after_look, change_fails, look_fails, ChangesWherePlanned, LooksAsPlanned}
-use Rattle.vf_journal.specs.Calls.{MakesChanges, MakesLooks, after_changes, after_looks, no_change_fails, no_look_fails}
+use Rattle.std.proofs.Common.{◌≡◌, inl, inr, ℕ, zero, suc, ◌+◌, ◌<◌, ◌≤◌, Bool, true, false, not, ◌&&◌, Option, None, Some, refl, sym, ◌∙◌, ap, subst, arith, true≢false}
+use Rattle.vf_disk.specs.Plans.{StopPlan, after_change, after_look, change_fails, look_fails, ChangesWherePlanned, LooksAsPlanned, SyncsAsPlanned}
+use Rattle.vf_journal.specs.Calls.{MakesChanges, MakesLooks, SyncsAndLooks, after_changes, after_looks, no_change_fails, no_look_fails}
 
 after_add : (a b : ℕ) (plan : StopPlan) → after_changes b (after_changes a plan) ≡ after_changes (a + b) plan
 after_add a zero plan = let same : a ≡ a + 0 = omega arith in ap (λ (n : ℕ). after_changes n plan) same
@@ -93,3 +93,23 @@ one_look (Some old) new false (fails, is) = (1, ap not (sym fails), is)
 pub no_look : (plan : Option StopPlan) → MakesLooks plan plan false
 no_look None = refl
 no_look (Some plan) = (0, refl, refl)
+
+-- a sync, and calls behind it that look
+pub sync_fails : (old new : Option StopPlan) → SyncsAsPlanned old new true → SyncsAndLooks old new true
+sync_fails None new is = is
+sync_fails (Some old) new (fails, is) = inl (sym fails, is)
+
+pub sync_looks : (old mid new : Option StopPlan) (failed : Bool) → SyncsAsPlanned old mid false → MakesLooks mid new failed → SyncsAndLooks old new failed
+sync_looks None None new true first second = second
+sync_looks None None new false first second = second
+sync_looks None (Some mid) new failed first second = cc
+sync_looks (Some old) None new failed (fails, is) second = cc is
+sync_looks (Some old) (Some mid) new false (fails, is) second = (sym fails, subst (λ (p : Option StopPlan). MakesLooks p new false) is second)
+sync_looks (Some old) (Some mid) new true (fails, is) second = inr (sym fails, subst (λ (p : Option StopPlan). MakesLooks p new true) is second)
+
+pub syncs_joined : (old mid new : Option StopPlan) (failed : Bool) → SyncsAndLooks old mid false → MakesLooks mid new failed → SyncsAndLooks old new failed
+syncs_joined None None new true first second = second
+syncs_joined None None new false first second = second
+syncs_joined None (Some mid) new failed first second = cc
+syncs_joined (Some old) mid new false (good, looks) second = (good, looks_joined (Some (after_change old)) mid new false looks second)
+syncs_joined (Some old) mid new true (good, looks) second = inr (good, looks_joined (Some (after_change old)) mid new true looks second)

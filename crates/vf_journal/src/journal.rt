@@ -1,16 +1,21 @@
-ghost use Rattle.std.specs.Prelude.{◌≡◌, ◌+◌, ◌-◌, ◌<◌, ◌≤◌, ◌⊎◌, [], ◌∷◌, ◌++◌, ℕ, List, None, Some, IsSome, OnOk, OnErr, IfSome, length, is_err};
+ghost use Rattle.std.specs.Prelude.{◌≡◌, ◌+◌, ◌-◌, ◌<◌, ◌≤◌, ◌⊎◌, [], ◌∷◌, ◌++◌, ℕ, List, None, Some, IsSome, OnOk, OnErr, IfOk, IfSome, length, is_err};
 ghost use Rattle.vf_disk.specs.Disk.{LeavesOnly, LeavesShown, greatest_length};
-ghost use Rattle.vf_journal.specs.Answers.{AppendAnswers, AppendCalls, FaultAlone, IsUntouched};
+ghost use Rattle.vf_journal.specs.Answers.{AppendAnswers, AppendCalls, FaultAlone, IsUntouched, OpenAnswers, OpenCauses, is_fault};
 ghost use Rattle.vf_journal.specs.Calls.{MakesChanges};
 ghost use Rattle.vf_journal.specs.Layout.{new_journal};
+ghost use Rattle.vf_journal.specs.Looking.{IsSyncedAndLookedAt};
 ghost use Rattle.vf_journal.specs.Records.{IsArea, IsEntry, area_with, entry_of, longest};
-ghost use Rattle.vf_journal.specs.Image.{Holds, HoldsEither, IsNoneOrNew};
+ghost use Rattle.vf_journal.specs.Image.{Holds, HoldsEither, IsNoneOrNew, records_of};
 
 use crate::area::Area;
 use crate::device::{write_both_synced, write_synced};
+use crate::head::sync_and_judge;
 use crate::layout::{FIRST_START, LONGEST, REST, SELECTOR, anchor_place, selector};
+use crate::reading::read_records;
 use crate::{JournalError, Placing};
+use std::alloc::Global;
 use std::marker::Model;
+use vf_base::Octets;
 use vf_disk::Disk;
 
 /// Where a journal stands on its disk, which every call is handed. After `DiskFault` it is spent: the disk has to be
@@ -51,6 +56,39 @@ impl Journal {
         write_synced(disk, 1, &REST)?;
         write_synced(disk, 0, b"F")?;
         Ok(())
+    }
+
+    /// Syncs a disk and reads the journal on it, whose area is to end within `limit` octets. Puts the octets of its
+    /// records behind those in `records`, the oldest first; after an error none. One call of the disk is a sync, and
+    /// the others look.
+    ///
+    /// `NotAStore` comes where the first 16 octets differ from the header, at the first such place; where they agree
+    /// and the disk has fewer than 34 octets, at its length; and where the selected anchor is misplaced, since it
+    /// names a place below 33 or one that isn't below the disk's length, at the anchor's place, 17 or 25, with `found`
+    /// `None` and `expected` 0.
+    pub fn open<D: Disk>(
+        alloc: Global,
+        disk: &mut D,
+        limit: u64,
+        records: &mut Vec<Octets>,
+    ) -> Result<Journal, JournalError>
+        ensures answers { (image : List ℕ) → D.shown disk.old ≡ Some image → OpenAnswers image limit result }
+        ensures records { (image : List ℕ) → D.shown disk.old ≡ Some image → OnOk result (records.new.items ≡ records.old.items ++ records_of image) }
+        ensures kept { OnErr result (records.new.items ≡ records.old.items) }
+        ensures stands { (image : List ℕ) (held : List (List ℕ)) → D.shown disk.old ≡ Some image → Holds image held → IfOk result (λ journal. StandsOn D.shown D.may_leave journal disk.new held) }
+        ensures within { IfOk result (λ journal. IsWithin journal (D.size disk.new)) }
+        ensures synced { OnOk result (LeavesShown (D.shown disk.new) (D.may_leave disk.new)) }
+        ensures looks { IsSyncedAndLookedAt D.shown D.size D.may_leave D.moment D.left_since D.plan (is_fault result) disk.old disk.new }
+        ensures causes { OpenCauses (D.fault_count disk.old) (D.fault_count disk.new) result }
+    {
+        let head = sync_and_judge(disk)?;
+        let area = read_records(alloc, disk, head.start, head.length, records)?;
+        Ok(Journal {
+            second: head.second,
+            area,
+            limit,
+            prepared: None,
+        })
     }
 
     /// The start and the end of the selected area, in octets; the end is the place behind its closed gate.

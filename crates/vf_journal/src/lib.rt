@@ -5,6 +5,7 @@
 mod area;
 mod device;
 mod error;
+mod head;
 mod journal;
 mod laws;
 mod layout;

@@ -280,3 +280,32 @@ pub(crate) fn read_area<D: Disk>(
     }
     Ok(area)
 }
+
+/// The same, but after an error no record stands behind the others.
+pub(crate) fn read_records<D: Disk>(
+    alloc: Global,
+    disk: &mut D,
+    start: u64,
+    length: u64,
+    records: &mut Vec<Octets>,
+) -> Result<Area, JournalError>
+    requires start { first_start ≤ start }
+    requires within { start < length }
+    requires length { length ≡ D.size disk.old }
+    requires bound { length ≤ greatest_length }
+    ensures taken { IfOk result (λ area. Takes (StandsFrom (D.shown disk.old) start) records.old.items records.new.items (length - start) (area_of start []) area false) }
+    ensures placed { IfOk result IsPlaced }
+    ensures end { IfOk result (λ area. area.end ≤ length) }
+    ensures kept { OnErr result (records.new.items ≡ records.old.items) }
+    ensures looks { IsLookedAt D.shown D.size D.may_leave D.moment D.left_since D.plan (is_fault result) disk.old disk.new }
+    ensures causes { ReadCauses (D.fault_count disk.old) (D.fault_count disk.new) result }
+{
+    let before = records.len();
+    match read_area(alloc, disk, start, length, records) {
+        Ok(area) => Ok(area),
+        Err(error) => {
+            records.truncate(before);
+            Err(error)
+        }
+    }
+}
