@@ -1,14 +1,14 @@
 -- An append, from the disk on which a journal stands to that with one record more.
-use Rattle.std.proofs.Common.{◌≡◌, inl, inr, ℕ, ◌+◌, ◌-◌, ◌≤◌, List, [], ◌∷◌, ◌++◌, length, get_or, take, drop, Option, Some, refl, sym, ◌∙◌, ap, subst, arith, length-append}
+use Rattle.std.proofs.Common.{◌≡◌, inl, ℕ, ◌+◌, ◌-◌, ◌≤◌, List, [], ◌∷◌, ◌++◌, length, get_or, drop, Option, Some, sym, ◌∙◌, ap, subst, arith, length-append}
 use Rattle.std.proofs.lemmas.List.{get_or-drop}
 use Rattle.vf_disk.specs.Disk.{LeavesOnly, LeavesShown, Torn, overwritten}
 use Rattle.vf_disk.specs.Laws.{leaves_at_first, leaves_octets}
 use Rattle.vf_journal.specs.declared.area.Area.{Area}
-use Rattle.vf_journal.specs.Layout.{selects_second, selected_start}
-use Rattle.vf_journal.specs.Records.{IsEntry, entry_of, longest, octets_of, sized}
+use Rattle.vf_journal.specs.Layout.{selected_start}
+use Rattle.vf_journal.specs.Records.{IsEntry, entry_of, longest, sized}
 use Rattle.vf_journal.specs.Image.{Holds, HoldsEither}
 use Rattle.vf_journal.specs.Standing.{Standing, StandsOn, after_append, area_of, with_record}
-use Rattle.vf_journal.specs.Writes.{Behind}
+use Rattle.vf_journal.specs.Writes.{Behind, Shows}
 use Rattle.vf_journal.proofs.Areas.{length-sized}
 use Rattle.vf_journal.proofs.Counts.{counts_push}
 use Rattle.vf_journal.proofs.Images.{SameHead, gate_head, gate_of, gate_open, gate_torn, gate_within, written_behind}
@@ -80,6 +80,16 @@ module _ {D : Type 0} (shown : D → Option (List ℕ)) (may_leave : D → List 
   append_opened mid new shows synced first second = joined moment left_since old mid new Allowed (Behind (Torn (end - 1) 1) (may_leave mid)) Allowed (append_staged mid first) second (λ image allowed. allowed) (λ image left.
       let from : left.0 ≡ staged = leaves_octets (shown mid) (may_leave mid) staged left.0 synced shows left.1 in
       gate_torn records item (drop (end + length entry) on.image) staged image staged_kept.1 short entry_behind (gate_left image (subst (λ (l : List ℕ). Torn (end - 1) 1 l image) from left.2)))
+
+  -- what a read gives meanwhile
+  pub append_seen_none : Shows (shown old) Allowed
+  append_seen_none = (on.image, on.shows, inl on.holds)
+
+  pub append_seen_first : (new : Option (List ℕ)) → Shows new (Torn end (length entry) on.image) → Shows new Allowed
+  append_seen_first new seen = (seen.0, seen.1, inl (behind seen.0 seen.2).1)
+
+  pub append_seen : (new : Option (List ℕ)) → Shows new (Torn (end - 1) 1 staged) → Shows new Allowed
+  append_seen new seen = (seen.0, seen.1, gate_torn records item (drop (end + length entry) on.image) staged seen.0 staged_kept.1 short entry_behind (gate_left seen.0 seen.2))
 
   abbrev last : List ℕ
   last = overwritten staged (end - 1) (1 ∷ [])

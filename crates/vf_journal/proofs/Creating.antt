@@ -1,13 +1,12 @@
 -- What an empty disk holds while a journal is made on it.
-use Rattle.std.proofs.Common.{◌≡◌, ◌≢◌, ◌==◌, ◌⊎◌, inl, inr, ℕ, ◌+◌, ◌-◌, ◌≤◌, Bool, true, false, nat_le, List, [], ◌∷◌, ◌++◌, length, get_or, take, drop, Option, None, Some, IsSome, refl, sym, ◌∙◌, ap, subst, arith}
+use Rattle.std.proofs.Common.{◌≡◌, ◌≢◌, ◌==◌, inl, inr, ℕ, ◌≤◌, false, List, [], ◌∷◌, length, take, drop, Option, None, Some, IsSome, refl, sym, ap, subst, arith}
 use Rattle.std.proofs.lemmas.Bool.{cases_eq, le-leb}
 use Rattle.std.proofs.lemmas.Bool.Decides.{nat_tests}
-use Rattle.std.proofs.lemmas.List.{drop_more, nil_from_length}
-use Rattle.vf_disk.specs.Disk.{LeavesOnly, LeavesShown, Torn, overwritten}
-use Rattle.vf_disk.specs.Laws.{leaves_at_first, leaves_octets}
-use Rattle.vf_journal.specs.Layout.{first_start, header, new_journal, place_named, place_octets, selected_start}
+use Rattle.vf_disk.specs.Disk.{LeavesOnly, LeavesShown, Torn}
+use Rattle.vf_disk.specs.Laws.{leaves_octets}
+use Rattle.vf_journal.specs.Layout.{first_start, header, new_journal, place_named, place_octets}
 use Rattle.vf_journal.specs.Image.{Holds, IsNoneOrNew, Refusal, difference, misplaced, or_else, refusal}
-use Rattle.vf_journal.specs.Writes.{Behind}
+use Rattle.vf_journal.specs.Writes.{Behind, Shows}
 use Rattle.vf_journal.proofs.Runs.{joined, weaker}
 
 or_else_second : (first second : Option Refusal) → IsSome second → IsSome (or_else first second)
@@ -70,6 +69,10 @@ third_left image torn =
       | inl same ↦ inr (subst (λ (n : ℕ). Holds (n ∷ rest_of_new) []) (sym same) new_holds)
       | inr other ↦ inl (first_refused found.0 rest_of_new other)
     ])
+
+-- what a read gives meanwhile
+pub create_seen : (new : Option (List ℕ)) (image octets : List ℕ) (at : ℕ) → ((left : List ℕ) → Torn at (length octets) image left → IsNoneOrNew left) → Shows new (Torn at (length octets) image) → Shows new IsNoneOrNew
+create_seen new image octets at allows seen = (seen.0, seen.1, allows seen.0 seen.2)
 
 module _ {D : Type 0} (shown : D → Option (List ℕ)) (may_leave : D → List ℕ → Type 0) (moment : D → ℕ) (left_since : D → ℕ → List ℕ → Type 0)
     (old : D) (empty : shown old ≡ Some []) (synced : LeavesShown (shown old) (may_leave old)) where

@@ -1,12 +1,11 @@
 -- What octets are read as, gate by gate.
-use Rattle.std.proofs.Common.{◌≡◌, ◌≢◌, ◌==◌, ◌||◌, inl, inr, ℕ, zero, suc, ◌+◌, ◌-◌, ◌<◌, ◌≤◌, Bool, true, false, if◌then◌else◌, nat_lt, List, [], ◌∷◌, ◌++◌, length, take, drop, Option, None, Some, refl, sym, ◌∙◌, ap, subst, arith, append_assoc, length-append, length-drop}
-use Rattle.std.proofs.lemmas.Bool.{cases_eq, cases_lt, ltb-true, ltb-false}
+use Rattle.std.proofs.Common.{◌≡◌, ◌≢◌, ◌==◌, ◌||◌, ℕ, zero, suc, ◌+◌, ◌<◌, ◌≤◌, Bool, true, false, if◌then◌else◌, nat_lt, List, [], ◌∷◌, ◌++◌, length, take, drop, Option, None, Some, refl, sym, ◌∙◌, ap, arith, append_assoc, length-append, length-drop}
 use Rattle.std.proofs.lemmas.Bool.Decides.{nat_tests}
-use Rattle.std.proofs.lemmas.List.{take_at, drop_at, drop-drop, append-nil, length-take-le}
+use Rattle.std.proofs.lemmas.List.{take_at, drop_at, length-take-le}
 use Rattle.vf_journal.specs.Layout.{length_named, length_octets}
-use Rattle.vf_journal.specs.Records.{HoldsArea, before_rest, first_record, longest, octets_of, records_in, records_up_to, sized}
-use Rattle.vf_journal.proofs.Areas.{gated, length-gated, length-sized}
-use Rattle.vf_journal.proofs.Numbers.{length-length_octets, length_named-append, length_read_back}
+use Rattle.vf_journal.specs.Records.{HoldsArea, before_rest, first_record, longest, records_in, records_up_to, sized}
+use Rattle.vf_journal.proofs.Areas.{length-sized}
+use Rattle.vf_journal.proofs.Numbers.{length-length_octets, length_read_back}
 
 -- behind a closed gate, or with too little behind it, stands no record
 pub first_closed : (gate : ℕ) (behind : List ℕ) → gate ≡ 0 → first_record (gate ∷ behind) ≡ None

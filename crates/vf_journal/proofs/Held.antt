@@ -1,7 +1,7 @@
 -- An image that holds records isn't refused, and is read as them.
-use Rattle.std.proofs.Common.{◌≡◌, ◌==◌, ◌||◌, ℕ, zero, suc, ◌+◌, ◌<◌, ◌≤◌, Bool, true, false, if◌then◌else◌, nat_le, nat_lt, List, [], ◌∷◌, ◌++◌, length, take, drop, Option, None, Some, refl, sym, ◌∙◌, ap, subst, arith, length-drop, take-append-drop}
+use Rattle.std.proofs.Common.{◌≡◌, ◌==◌, ℕ, ◌+◌, ◌<◌, ◌≤◌, true, false, nat_le, nat_lt, List, [], ◌∷◌, ◌++◌, length, drop, Option, None, refl, sym, ◌∙◌, ap, arith, take-append-drop}
 use Rattle.std.proofs.lemmas.Bool.Decides.{nat_tests}
-use Rattle.vf_journal.specs.Layout.{anchor_place, first_start, header, selects_second, selected_start}
+use Rattle.vf_journal.specs.Layout.{first_start, header, selected_start}
 use Rattle.vf_journal.specs.Image.{Holds, Refusal, difference, misplaced, or_else, records_of, refusal}
 use Rattle.vf_journal.proofs.Images.{gate_within}
 use Rattle.vf_journal.proofs.Gates.{area_read}

@@ -1,15 +1,13 @@
 -- What the images of a journal hold behind each of its writes, whole or cut short.
-use Rattle.std.proofs.Common.{◌≡◌, ◌≢◌, ◌==◌, ◌⊎◌, inl, inr, ⊎_elim, ℕ, ◌+◌, ◌-◌, ◌<◌, ◌≤◌, ◌^◌, Bool, true, false, not, List, [], ◌∷◌, ◌++◌, length, get_or, take, drop, refl, sym, ◌∙◌, ap, subst, arith, append_assoc, length-append, length-drop}
+use Rattle.std.proofs.Common.{◌≡◌, ◌==◌, ◌⊎◌, inl, inr, ⊎_elim, ℕ, ◌+◌, ◌≤◌, Bool, true, false, not, List, [], ◌∷◌, ◌++◌, length, get_or, take, drop, refl, sym, ◌∙◌, ap, subst, arith, length-drop}
 use Rattle.std.proofs.lemmas.List.{drop-drop, drop_more, get_or-take, get_or-drop, append-nil}
 use Rattle.std.proofs.lemmas.Bool.{cases_eq}
-use Rattle.std.proofs.lemmas.Bool.Decides.{nat_tests}
-use Rattle.vf_disk.specs.Disk.{Torn, overwritten}
-use Rattle.vf_journal.specs.Layout.{header, selector_place, anchor_place, anchor, part, place_named, place_octets, selects_second, selected_start, first_start}
-use Rattle.vf_journal.specs.Records.{HoldsArea, area_with, entry_of, longest, octets_of, sized}
+use Rattle.vf_disk.specs.Disk.{Torn}
+use Rattle.vf_journal.specs.Layout.{header, selector_place, anchor_place, anchor, part, place_named, selects_second, selected_start, first_start}
+use Rattle.vf_journal.specs.Records.{HoldsArea, entry_of, longest, octets_of}
 use Rattle.vf_journal.specs.Image.{Holds, HoldsEither}
-use Rattle.vf_journal.proofs.Areas.{area_alone, area_closed, area_joined, area_kept, area_length, length-sized}
-use Rattle.vf_journal.proofs.Numbers.{length-place_octets, place_read_back, place_named-take}
-use Rattle.vf_journal.proofs.Parts.{drop_behind, overwritten_from, overwritten_part, part_before, part_behind, torn_whole, length-overwritten}
+use Rattle.vf_journal.proofs.Areas.{area_alone, area_joined, area_kept, area_length}
+use Rattle.vf_journal.proofs.Parts.{drop_behind, part_before, part_behind}
 
 -- a part that lies outside a range
 abbrev pub IsApart : ℕ → ℕ → ℕ → ℕ → Type 0

@@ -4,6 +4,7 @@ mod Parts
 mod Areas
 mod Images
 mod Plans
+mod Planned
 mod Counts
 mod Appending
 mod Preparing

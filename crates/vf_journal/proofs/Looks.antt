@@ -1,9 +1,8 @@
 -- A disk that is looked at once more.
-use Rattle.std.proofs.Common.{◌≡◌, ℕ, Bool, true, false, List, Option, refl, sym, ◌∙◌}
+use Rattle.std.proofs.Common.{◌≡◌, ℕ, Bool, true, false, List, Option, refl, ◌∙◌}
 use Rattle.vf_disk.specs.Disk.{Elapses, LeavesOnly, LeavesShown, Within}
 use Rattle.vf_disk.specs.Laws.{leaves_at_first, leaves_behind}
 use Rattle.vf_disk.specs.Plans.{StopPlan, LooksAsPlanned, SyncsAsPlanned}
-use Rattle.vf_journal.specs.Calls.{MakesLooks}
 use Rattle.vf_journal.specs.Looking.{IsLookedAt, IsSyncedAndLookedAt}
 use Rattle.vf_journal.proofs.Plans.{looks_joined, no_look, one_look, sync_fails, sync_looks, syncs_joined}
 use Rattle.vf_journal.proofs.Runs.{joined}

@@ -1,5 +1,5 @@
 -- How rows of calls are counted.
-use Rattle.std.proofs.Common.{◌≡◌, inl, inr, ℕ, zero, suc, ◌+◌, ◌<◌, ◌≤◌, Bool, true, false, not, ◌&&◌, Option, None, Some, refl, sym, ◌∙◌, ap, subst, arith, true≢false}
+use Rattle.std.proofs.Common.{◌≡◌, inl, inr, ℕ, zero, suc, ◌+◌, ◌≤◌, Bool, true, false, not, ◌&&◌, Option, None, Some, refl, sym, ◌∙◌, ap, subst, arith, true≢false}
 use Rattle.vf_disk.specs.Plans.{StopPlan, after_change, after_look, change_fails, look_fails, ChangesWherePlanned, LooksAsPlanned, SyncsAsPlanned}
 use Rattle.vf_journal.specs.Calls.{MakesChanges, MakesLooks, SyncsAndLooks, after_changes, after_looks, no_change_fails, no_look_fails}
 

@@ -1,19 +1,19 @@
 -- An area that is prepared beside the selected one.
-use Rattle.std.proofs.Common.{◌≡◌, ◌⊎◌, inl, inr, ⊎_elim, ℕ, ◌+◌, ◌-◌, ◌<◌, ◌≤◌, Bool, true, false, not, if◌then◌else◌, nat_le, List, [], ◌∷◌, ◌++◌, length, take, drop, Option, Some, refl, sym, ◌∙◌, ap, subst, arith}
+use Rattle.std.proofs.Common.{◌≡◌, ◌⊎◌, inl, inr, ⊎_elim, ℕ, ◌+◌, ◌-◌, ◌≤◌, Bool, true, false, not, if◌then◌else◌, nat_le, List, [], ◌∷◌, ◌++◌, length, drop, Option, Some, refl, sym, ◌∙◌, ap, subst, arith}
 use Rattle.std.proofs.lemmas.Bool.{leb-true}
 use Rattle.vf_disk.specs.Disk.{LeavesOnly, LeavesShown, Torn, greatest_length, overwritten}
 use Rattle.vf_disk.specs.Laws.{leaves_octets}
 use Rattle.vf_journal.specs.declared.area.Area.{Area}
-use Rattle.vf_journal.specs.Layout.{anchor, anchor_place, first_start, part, place_named, place_octets, selects_second, selected_start}
+use Rattle.vf_journal.specs.Layout.{anchor, anchor_place, first_start, place_named, place_octets, selects_second, selected_start}
 use Rattle.vf_journal.specs.Records.{HoldsArea, IsArea, area_with, entry_of, longest, octets_of}
 use Rattle.vf_journal.specs.Image.{Holds}
-use Rattle.vf_journal.specs.Standing.{HasPrepared, Standing, StandsOn, after_prepare, area_of, new_area, new_start}
-use Rattle.vf_journal.specs.Writes.{Behind}
+use Rattle.vf_journal.specs.Standing.{HasPrepared, Standing, StandsOn, area_of, new_start}
+use Rattle.vf_journal.specs.Writes.{Behind, Shows}
 use Rattle.vf_journal.proofs.Appending.{length-entry_of}
 use Rattle.vf_journal.proofs.Areas.{area_alone}
 use Rattle.vf_journal.proofs.Images.{SameHead, anchor_low, gate_within, other_anchor, written_before, written_behind}
 use Rattle.vf_journal.proofs.Numbers.{length-place_octets, place_named-take, place_read_back}
-use Rattle.vf_journal.proofs.Parts.{drop_behind, overwritten_from, overwritten_part, length-overwritten, torn_whole}
+use Rattle.vf_journal.proofs.Parts.{drop_behind, overwritten_from, length-overwritten, torn_whole}
 use Rattle.vf_journal.proofs.Runs.{weaker}
 
 -- where a new area starts
@@ -41,6 +41,14 @@ alone start count item is =
     let end : start + count ≡ start + 1 + (length item + 5 + 0) = omega (arith, is) in
     let first : count - 6 ≡ length item = omega (arith, is) in
     ap (λ (n : ℕ). made start n (count - 6)) end ∙ ap (λ (n : ℕ). made start (start + 1 + (length item + 5 + 0)) n) first
+
+-- what a read gives behind it
+pub prepared_shown : (told : Option (List ℕ)) (image : List ℕ) (start start' at at' : ℕ) (area name : List ℕ) → told ≡ Some (overwritten (overwritten image start area) at name) → start ≡ start' → at ≡ at' → name ≡ place_octets start
+    → told ≡ Some (overwritten (overwritten image start' area) at' (place_octets start'))
+prepared_shown told image start start' at at' area name shows start_is at_is name_is =
+    shows ∙ ap (λ (l : List ℕ). Some (overwritten (overwritten image start area) at l)) name_is
+    ∙ ap (λ (n : ℕ). Some (overwritten (overwritten image start area) n (place_octets start))) at_is
+    ∙ ap (λ (n : ℕ). Some (overwritten (overwritten image n area) at' (place_octets n))) start_is
 
 module _ {D : Type 0} (shown : D → Option (List ℕ)) (may_leave : D → List ℕ → Type 0) (moment : D → ℕ) (left_since : D → ℕ → List ℕ → Type 0)
     (journal : Standing) (old : D) (records : List (List ℕ)) (octets : List ℕ) (start : ℕ) (place : start ≡ new_start journal (length octets))
@@ -79,6 +87,13 @@ module _ {D : Type 0} (shown : D → Option (List ℕ)) (may_leave : D → List 
       let from = left.1 in
       let same : from.0 ≡ on.image = leaves_octets (shown old) (may_leave old) on.image from.0 on.synced on.shows from.1 in
       (anchor_left mid image (area_left mid (subst (λ (l : List ℕ). Torn start (length octets) l mid) same from.2)) left.2).1)
+
+  -- what a read gives meanwhile
+  pub prepare_seen : (at count : ℕ) → at ≡ other → count ≡ 8 → (new : Option (List ℕ)) → Shows new (Behind (Torn at count) (Torn start (length octets) on.image)) → Shows new (λ image. Holds image records)
+  prepare_seen at count place_is count_is new (image, shows, (mid, first, second)) =
+      let Left : ℕ → ℕ → Type 0 = λ a n. Torn a n mid image in
+      let torn : Torn other 8 mid image = subst (λ (n : ℕ). Left other n) count_is (subst (λ (a : ℕ). Left a count) place_is second) in
+      (image, shows, (anchor_left mid image (area_left mid first) torn).1)
 
   -- the same, told by what was handed to the disk
   pub prepare_run : (at count : ℕ) → at ≡ other → count ≡ 8 → (new : D) → LeavesOnly moment left_since old new (Behind (Torn at count) (Behind (Torn start (length octets)) (may_leave old))) → LeavesOnly moment left_since old new (λ image. Holds image records)

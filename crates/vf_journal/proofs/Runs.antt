@@ -1,8 +1,10 @@
 -- How runs of calls that leave only certain images are joined, and what a crash leaves of a write and a sync.
-use Rattle.std.proofs.Common.{◌≡◌, inl, inr, ⊎_elim, ℕ, ◌+◌, ◌≤◌, max, List, length, take, drop, Option, Some, refl, sym, subst, arith}
-use Rattle.vf_disk.specs.Disk.{Elapses, Follows, LeavesOnly, LeavesShown, Torn, Within}
-use Rattle.vf_disk.specs.Laws.{leaves_at_first, leaves_behind, leaves_octets}
-use Rattle.vf_journal.specs.Writes.{Behind}
+use Rattle.std.proofs.Common.{◌≡◌, inl, inr, ⊎_elim, ℕ, ◌≤◌, List, length, Option, None, Some, Result, Ok, Err, refl, ap, ◌∙◌, subst, arith}
+use Rattle.vf_base.specs.declared.errors.Failed.{Failed}
+use Rattle.vf_disk.specs.Disk.{Elapses, Follows, LeavesOnly, Torn, Within, Writes, overwritten}
+use Rattle.vf_disk.specs.Laws.{leaves_at_first, leaves_behind}
+use Rattle.vf_journal.specs.Writes.{Behind, Shows}
+use Rattle.vf_journal.proofs.Parts.{torn_whole}
 
 pub torn_self : (at count : ℕ) (image : List ℕ) → Torn at count image image
 torn_self at count image = record { before = refl; behind = refl; no_shorter = omega arith; no_longer = omega arith }
@@ -46,3 +48,25 @@ module _ {D : Type 0} (moment : D → ℕ) (left_since : D → ℕ → List ℕ 
 
   pub first_run : (then_at then : ℕ) → LeavesOnly moment left_since old mid (Behind (Torn then_at then) Left)
   first_run then_at then = weaker moment left_since old mid Left (Behind (Torn then_at then) Left) write_run (λ image left. (image, left, torn_self then_at then image))
+
+-- what a read gives behind a write, however it went
+pub written_seen : (told new : Option (List ℕ)) (old : List ℕ) (at : ℕ) (octets : List ℕ) (result : Result (Unit {0}) Failed) → at ≤ length old → told ≡ Some old → Writes told new at octets result
+    → Shows new (Torn at (length octets) old)
+written_seen None new old at octets result low is writes = cc
+written_seen (Some shown) new old at octets (Ok done) low is writes =
+    let same : shown ≡ old = cc in
+    (overwritten old at octets, writes ∙ ap (λ (l : List ℕ). Some (overwritten l at octets)) same, torn_whole old at octets low)
+written_seen (Some shown) new old at octets (Err failed) low is writes =
+    let same : shown ≡ old = cc in
+    (writes.0, writes.1, subst (λ (l : List ℕ). Torn at (length octets) l writes.0) same writes.3)
+
+-- the same of a disk that tells another state by the same octets
+pub seen_still : (mid new : Option (List ℕ)) (P : List ℕ → Type 0) → new ≡ mid → Shows mid P → Shows new P
+seen_still mid new P same seen = (seen.0, same ∙ seen.1, seen.2)
+
+-- behind a first write, and behind a second one
+pub first_seen : (new : Option (List ℕ)) (old : List ℕ) (at count then_at then : ℕ) → Shows new (Torn at count old) → Shows new (Behind (Torn then_at then) (Torn at count old))
+first_seen new old at count then_at then seen = (seen.0, seen.1, (seen.0, seen.2, torn_self then_at then seen.0))
+
+pub both_seen : (new : Option (List ℕ)) (old : List ℕ) (at : ℕ) (octets : List ℕ) (then_at then : ℕ) → at ≤ length old → Shows new (Torn then_at then (overwritten old at octets)) → Shows new (Behind (Torn then_at then) (Torn at (length octets) old))
+both_seen new old at octets then_at then low seen = (seen.0, seen.1, (overwritten old at octets, torn_whole old at octets low, seen.2))

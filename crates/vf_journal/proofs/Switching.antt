@@ -1,14 +1,14 @@
 -- A switch to the area that was prepared.
-use Rattle.std.proofs.Common.{◌≡◌, ◌==◌, inl, inr, ℕ, ◌+◌, ◌≤◌, Bool, true, false, not, if◌then◌else◌, List, [], ◌∷◌, ◌++◌, length, get_or, drop, Option, Some, refl, sym, ◌∙◌, ap, subst, arith}
+use Rattle.std.proofs.Common.{◌≡◌, ◌==◌, ℕ, ◌≤◌, Bool, true, false, not, List, [], ◌∷◌, length, get_or, drop, Option, Some, refl, sym, ◌∙◌, ap, subst, arith}
 use Rattle.std.proofs.lemmas.List.{get_or-drop}
 use Rattle.vf_disk.specs.Disk.{LeavesOnly, LeavesShown, Torn, overwritten}
 use Rattle.vf_disk.specs.Laws.{leaves_octets}
 use Rattle.vf_journal.specs.declared.area.Area.{Area}
 use Rattle.vf_journal.specs.Layout.{anchor, first_start, selector_of, selector_place, selects_second, selected_start}
 use Rattle.vf_journal.specs.Records.{HoldsArea}
-use Rattle.vf_journal.specs.Image.{Holds, HoldsEither}
+use Rattle.vf_journal.specs.Image.{HoldsEither}
 use Rattle.vf_journal.specs.Standing.{HasPrepared, Standing, StandsOn, after_switch, area_of}
-use Rattle.vf_journal.specs.Writes.{Behind}
+use Rattle.vf_journal.specs.Writes.{Behind, Shows}
 use Rattle.vf_journal.proofs.Images.{anchors, gate_within, other_selected, selector_torn}
 use Rattle.vf_journal.proofs.Parts.{overwritten_from, torn_whole}
 use Rattle.vf_journal.proofs.Runs.{weaker}
@@ -38,6 +38,9 @@ module _ {D : Type 0} (shown : D → Option (List ℕ)) (may_leave : D → List 
   switch_left new run = weaker moment left_since old new (Behind (Torn selector_place 1) (may_leave old)) Allowed run (λ image left.
       let same : left.0 ≡ on.image = leaves_octets (shown old) (may_leave old) on.image left.0 on.synced on.shows left.1 in
       selector_torn records (item ∷ []) on.image image on.holds start area (subst (λ (l : List ℕ). Torn selector_place 1 l image) same left.2))
+
+  pub switch_seen : (new : Option (List ℕ)) → Shows new (Torn selector_place 1 on.image) → Shows new Allowed
+  switch_seen new seen = (seen.0, seen.1, selector_torn records (item ∷ []) on.image seen.0 on.holds start area seen.2)
 
   abbrev last : List ℕ
   last = overwritten on.image selector_place (selector_of (not journal.second) ∷ [])

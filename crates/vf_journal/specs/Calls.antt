@@ -1,5 +1,5 @@
 -- How many calls of a disk are made, told by the plan of a disk that tells which are to fail (profile).
-use Rattle.std.specs.Prelude.{◌≡◌, ◌⊎◌, ℕ, zero, suc, ◌+◌, ◌<◌, Bool, true, false, not, ◌&&◌, List, Option, None, Some}
+use Rattle.std.specs.Prelude.{◌≡◌, ◌⊎◌, ℕ, zero, suc, ◌<◌, Bool, true, false, not, ◌&&◌, Option, None, Some}
 use Rattle.vf_disk.specs.Plans.{StopPlan, after_look, after_change, look_fails, change_fails}
 
 -- behind so many writes and syncs

@@ -4,7 +4,7 @@ use Rattle.vf_disk.specs.Disk.{LeavesShown, greatest_length}
 use Rattle.vf_journal.specs.declared.area.Area.{Area}
 use Rattle.vf_journal.specs.declared.placing.Placing.{Placing}
 use Rattle.vf_journal.specs.Layout.{first_start, anchor, selects_second, selected_start}
-use Rattle.vf_journal.specs.Records.{HoldsArea, longest, octets_of, records_in}
+use Rattle.vf_journal.specs.Records.{HoldsArea, longest, octets_of}
 use Rattle.vf_journal.specs.Image.{Holds, records_of}
 
 -- What a journal keeps: whether the second anchor is selected, the selected area, the limit of what is written, and

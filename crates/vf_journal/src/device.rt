@@ -5,15 +5,17 @@ ghost use Rattle.vf_disk.specs.Disk.{Torn, LeavesOnly, LeavesShown, greatest_len
 ghost use Rattle.vf_journal.specs.Calls.{MakesChanges};
 ghost use Rattle.vf_journal.specs.Layout.{part};
 ghost use Rattle.vf_journal.specs.Looking.{IsLookedAt};
-ghost use Rattle.vf_journal.specs.Writes.{Behind};
+ghost use Rattle.vf_journal.specs.Writes.{Behind, Shows};
 
 use vf_base::Failed;
 use vf_disk::Disk;
 
-/// Writes octets at a place and syncs. A crash at any moment leaves an image from before, or that write cut short.
+/// Writes octets at a place and syncs. A crash at any moment leaves an image from before, or that write cut short, and
+/// behind a fault a read gives such an image.
 pub(crate) fn write_synced<D: Disk>(disk: &mut D, at: u64, octets: &[u8]) -> Result<(), Failed>
     requires { at ≤ D.size disk.old }
     ensures shown { (old : List ℕ) → D.shown disk.old ≡ Some old → OnOk result (D.shown disk.new ≡ Some (overwritten old at octets.now)) }
+    ensures seen { (old : List ℕ) → D.shown disk.old ≡ Some old → Shows (D.shown disk.new) (Torn at (length octets.now) old) }
     ensures synced { OnOk result (LeavesShown (D.shown disk.new) (D.may_leave disk.new)) }
     ensures size { OnOk result (D.size disk.new ≡ max (D.size disk.old) (at + length octets.now)) }
     ensures bound { OnOk result (at + length octets.now ≤ greatest_length) }
@@ -29,7 +31,7 @@ pub(crate) fn write_synced<D: Disk>(disk: &mut D, at: u64, octets: &[u8]) -> Res
 }
 
 /// Writes octets at a place and others at another, and syncs. A crash at any moment leaves an image from before, or
-/// one behind both writes cut short.
+/// one behind both writes cut short, and behind a fault a read gives such an image.
 pub(crate) fn write_both_synced<D: Disk>(
     disk: &mut D,
     at: u64,
@@ -40,6 +42,7 @@ pub(crate) fn write_both_synced<D: Disk>(
     requires at { at ≤ D.size disk.old }
     requires then { then_at ≤ D.size disk.old }
     ensures shown { (old : List ℕ) → D.shown disk.old ≡ Some old → OnOk result (D.shown disk.new ≡ Some (overwritten (overwritten old at octets.now) then_at then.now)) }
+    ensures seen { (old : List ℕ) → D.shown disk.old ≡ Some old → Shows (D.shown disk.new) (Behind (Torn then_at (length then.now)) (Torn at (length octets.now) old)) }
     ensures synced { OnOk result (LeavesShown (D.shown disk.new) (D.may_leave disk.new)) }
     ensures size { OnOk result (D.size disk.new ≡ max (max (D.size disk.old) (at + length octets.now)) (then_at + length then.now)) }
     ensures bound { OnOk result (at + length octets.now ≤ greatest_length) }

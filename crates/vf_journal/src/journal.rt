@@ -1,4 +1,4 @@
-ghost use Rattle.std.specs.Prelude.{◌≡◌, ◌+◌, ◌-◌, ◌<◌, ◌≤◌, ◌⊎◌, [], ◌∷◌, ◌++◌, ℕ, List, None, Some, IsSome, OnOk, OnErr, IfOk, IfSome, length, is_err};
+ghost use Rattle.std.specs.Prelude.{◌≡◌, ◌+◌, ◌-◌, ◌<◌, ◌≤◌, ◌⊎◌, [], ◌∷◌, ◌++◌, ℕ, List, None, Some, IsSome, OnOk, OnErr, IfOk, IfSome, length, is_err, max, not};
 ghost use Rattle.vf_disk.specs.Disk.{LeavesOnly, LeavesShown, greatest_length};
 ghost use Rattle.vf_journal.specs.Answers.{AppendAnswers, AppendCalls, FaultAlone, IsUntouched, OpenAnswers, OpenCauses, is_fault};
 ghost use Rattle.vf_journal.specs.Calls.{MakesChanges};
@@ -6,6 +6,7 @@ ghost use Rattle.vf_journal.specs.Layout.{new_journal};
 ghost use Rattle.vf_journal.specs.Looking.{IsSyncedAndLookedAt};
 ghost use Rattle.vf_journal.specs.Records.{IsArea, IsEntry, area_with, entry_of, longest};
 ghost use Rattle.vf_journal.specs.Image.{Holds, HoldsEither, IsNoneOrNew, records_of};
+ghost use Rattle.vf_journal.specs.Writes.{Shows, appended, prepared as prepared_on, switched};
 
 use crate::area::Area;
 use crate::device::{write_both_synced, write_synced};
@@ -46,6 +47,8 @@ impl Journal {
     pub fn create<D: Disk>(disk: &mut D) -> Result<(), JournalError>
         requires { D.size disk.old ≡ 0 }
         ensures made { (octets : List ℕ) → D.shown disk.old ≡ Some octets → OnOk result (D.shown disk.new ≡ Some new_journal) }
+        ensures seen { (octets : List ℕ) → D.shown disk.old ≡ Some octets → Shows (D.shown disk.new) IsNoneOrNew }
+        ensures size { OnOk result (D.size disk.new ≡ 34) }
         ensures synced { OnOk result (LeavesShown (D.shown disk.new) (D.may_leave disk.new)) }
         ensures any_moment { (octets : List ℕ) → D.shown disk.old ≡ Some octets → LeavesShown (D.shown disk.old) (D.may_leave disk.old) → LeavesOnly D.moment D.left_since disk.old disk.new IsNoneOrNew }
         ensures calls { MakesChanges 6 (D.plan disk.old) (D.plan disk.new) (is_err result) }
@@ -141,6 +144,10 @@ impl Journal {
         requires within { IsWithin self.old (D.size disk.old) }
         ensures ok { OnOk result ((item : List ℕ) (records : List (List ℕ)) → entry.now ≡ entry_of item → StandsOn D.shown D.may_leave self.old disk.old records
             → StandsOn D.shown D.may_leave self.new disk.new (records ++ item ∷ [])) }
+        ensures shown { (image : List ℕ) → D.shown disk.old ≡ Some image → OnOk result (D.shown disk.new ≡ Some (appended image self.old.area.end entry.now)) }
+        ensures seen { (item : List ℕ) (records : List (List ℕ)) → entry.now ≡ entry_of item → StandsOn D.shown D.may_leave self.old disk.old records
+            → Shows (D.shown disk.new) (HoldsEither records (records ++ item ∷ [])) }
+        ensures size { OnOk result (D.size disk.new ≡ max (D.size disk.old) (self.old.area.end + length entry.now)) }
         ensures any_moment { (item : List ℕ) (records : List (List ℕ)) → entry.now ≡ entry_of item → StandsOn D.shown D.may_leave self.old disk.old records
             → LeavesOnly D.moment D.left_since disk.old disk.new (HoldsEither records (records ++ item ∷ [])) }
         ensures moved { OnOk result (self.new ≡ after_append self.old (length entry.now - 5)) }
@@ -172,6 +179,9 @@ impl Journal {
         requires within { IsWithin self.old (D.size disk.old) }
         ensures ok { OnOk result ((item : List ℕ) (records : List (List ℕ)) → area.now ≡ area_with item → StandsOn D.shown D.may_leave self.old disk.old records
             → StandsOn D.shown D.may_leave self.new disk.new records × HasPrepared D.shown self.new disk.new item) }
+        ensures shown { (image : List ℕ) → D.shown disk.old ≡ Some image → OnOk result (D.shown disk.new ≡ Some (prepared_on image (new_start self.old (length area.now)) area.now (not self.old.second))) }
+        ensures seen { (records : List (List ℕ)) → StandsOn D.shown D.may_leave self.old disk.old records → Shows (D.shown disk.new) (λ image. Holds image records) }
+        ensures size { OnOk result (D.size disk.new ≡ max (D.size disk.old) (new_start self.old (length area.now) + length area.now)) }
         ensures any_moment { (records : List (List ℕ)) → StandsOn D.shown D.may_leave self.old disk.old records
             → LeavesOnly D.moment D.left_since disk.old disk.new (λ image. Holds image records) }
         ensures moved { OnOk result (self.new ≡ after_prepare self.old (length area.now)) }
@@ -200,6 +210,10 @@ impl Journal {
         requires within { IsWithin self.old (D.size disk.old) }
         ensures ok { OnOk result ((item : List ℕ) (records : List (List ℕ)) → StandsOn D.shown D.may_leave self.old disk.old records → HasPrepared D.shown self.old disk.old item
             → StandsOn D.shown D.may_leave self.new disk.new (item ∷ [])) }
+        ensures shown { (image : List ℕ) → D.shown disk.old ≡ Some image → OnOk result (D.shown disk.new ≡ Some (switched image (not self.old.second))) }
+        ensures seen { (item : List ℕ) (records : List (List ℕ)) → StandsOn D.shown D.may_leave self.old disk.old records → HasPrepared D.shown self.old disk.old item
+            → Shows (D.shown disk.new) (HoldsEither records (item ∷ [])) }
+        ensures size { OnOk result (D.size disk.new ≡ D.size disk.old) }
         ensures any_moment { (item : List ℕ) (records : List (List ℕ)) → StandsOn D.shown D.may_leave self.old disk.old records → HasPrepared D.shown self.old disk.old item
             → LeavesOnly D.moment D.left_since disk.old disk.new (HoldsEither records (item ∷ [])) }
         ensures moved { OnOk result (IfSome self.old.prepared (λ area. self.new ≡ after_switch self.old area)) }

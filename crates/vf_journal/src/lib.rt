@@ -3,6 +3,7 @@
 #![tactic(auto)]
 
 mod area;
+mod built;
 mod device;
 mod error;
 mod head;
@@ -13,7 +14,8 @@ mod placing;
 mod reading;
 
 pub use area::Area;
+pub use built::{built_area, built_entry};
 pub use error::JournalError;
 pub use journal::Journal;
-pub use laws::{held_is_read, new_holds_none};
+pub use laws::{held_is_read, new_holds_none, planned_fits};
 pub use placing::Placing;

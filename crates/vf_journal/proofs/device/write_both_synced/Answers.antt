@@ -1,7 +1,7 @@
-use Rattle.std.proofs.Common.{length, true}
+use Rattle.std.proofs.Common.{◌≤◌, length, true, arith}
 use Rattle.std.proofs.lemmas.Result.{err_from_is_err_and}
 use Rattle.vf_journal.proofs.Plans.{changes_joined, one_change}
-use Rattle.vf_journal.proofs.Runs.{both_run, first_run}
+use Rattle.vf_journal.proofs.Runs.{both_run, both_seen, first_run, first_seen, written_seen}
 use Rattle.vf_journal.proofs.device.write_both_synced.Goals as goal
 
 pub returns-in_err-write_at-clause-any_moment : goal.returns-in_err-write_at-clause-any_moment
@@ -20,3 +20,21 @@ returns-in_err-write_synced-clause-calls g c =
 pub returns-clause-any_moment : goal.returns-clause-any_moment
 returns-clause-any_moment g c =
     both_run g.D.Disk.moment g.D.Disk.left_since g.D.Disk.may_leave c.args.at (length c.args.octets.now) c.args.disk.now c.write_at.new.self g.met.D.Disk.only_now c.write_at.ensures.crash c.write_at.ensures.time c.args.then_at (length c.args.then.now) c.write_synced.new.disk c.write_synced.ensures.any_moment
+
+pub returns-in_err-write_at-clause-seen : goal.returns-in_err-write_at-clause-seen
+returns-in_err-write_at-clause-seen g c = λ old shows.
+    let low : c.args.at ≤ length old = omega (arith, g.met.D.Disk.measured c.args.disk.now old shows, c.requires.at) in
+    first_seen (g.D.Disk.shown c.write_at.new.self) old c.args.at (length c.args.octets.now) c.args.then_at (length c.args.then.now)
+    (written_seen (g.D.Disk.shown c.args.disk.now) (g.D.Disk.shown c.write_at.new.self) old c.args.at c.args.octets.now c.write_at.result low shows c.write_at.ensures.shown)
+
+pub returns-in_err-write_synced-clause-seen : goal.returns-in_err-write_synced-clause-seen
+returns-in_err-write_synced-clause-seen g c = λ old shows.
+    let low : c.args.at ≤ length old = omega (arith, g.met.D.Disk.measured c.args.disk.now old shows, c.requires.at) in
+    let mid = rw shows at c.in_ok-write_at.ensures.shown in
+    both_seen (g.D.Disk.shown c.write_synced.new.disk) old c.args.at c.args.octets.now c.args.then_at (length c.args.then.now) low (c.write_synced.ensures.seen _ mid)
+
+pub returns-clause-seen : goal.returns-clause-seen
+returns-clause-seen g c = λ old shows.
+    let low : c.args.at ≤ length old = omega (arith, g.met.D.Disk.measured c.args.disk.now old shows, c.requires.at) in
+    let mid = rw shows at c.in_ok-write_at.ensures.shown in
+    both_seen (g.D.Disk.shown c.write_synced.new.disk) old c.args.at c.args.octets.now c.args.then_at (length c.args.then.now) low (c.write_synced.ensures.seen _ mid)

@@ -1,4 +1,4 @@
-use Rattle.std.proofs.Common.{◌≡◌, ◌⊎◌, inl, inr, ⊎_elim, ◌<◌, ◌≤◌, ℕ, not, ◌==◌, get_or, drop, sym, ◌∙◌, ap, arith}
+use Rattle.std.proofs.Common.{◌≡◌, ◌⊎◌, inl, inr, ⊎_elim, ◌<◌, ◌≤◌, ℕ, drop, sym, ◌∙◌, ap, arith}
 use Rattle.vf_journal.specs.Layout.{anchor_place, first_start, place_named, selected_start, selects_second}
 use Rattle.vf_journal.proofs.Heads.{head_misplaced, head_refused, head_right, head_same, head_selects, head_short, head_starts}
 use Rattle.vf_journal.proofs.head.head_of.Goals as goal

@@ -1,8 +1,8 @@
-use Rattle.std.proofs.Common.{◌≡◌, ◌+◌, ◌-◌, ◌<◌, ◌≤◌, [], ◌++◌, drop, length-append, length-drop, Bool, true, false, Err, length, arith, ap, sym, subst, ◌∙◌, if◌then◌else◌}
+use Rattle.std.proofs.Common.{◌-◌, [], ◌++◌, drop, length-append, length-drop, true, false, Err, length, arith, ◌∙◌}
 use Rattle.std.proofs.lemmas.List.{length-take}
 use Rattle.std.proofs.lemmas.Result.{err_from_is_err_and}
 use Rattle.vf_journal.specs.Answers.{is_fault}
-use Rattle.vf_journal.specs.Reading.{StandsFrom, Takes}
+use Rattle.vf_journal.specs.Reading.{StandsFrom}
 use Rattle.vf_journal.specs.Standing.{area_of}
 use Rattle.vf_journal.proofs.Looks.{looked_then}
 use Rattle.vf_journal.proofs.Takings.{area_more, falls, front_kept, takes_grow, takes_placed, when_more}

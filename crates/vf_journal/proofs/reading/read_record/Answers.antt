@@ -1,10 +1,7 @@
-use Rattle.std.proofs.Common.{◌≡◌, ◌<◌, ◌+◌, ◌-◌, ℕ, List, None, Some, Err, true, false, length, take, drop, arith, ap, refl, sym, ◌∙◌, length-drop}
-use Rattle.std.proofs.lemmas.List.{drop-drop}
+use Rattle.std.proofs.Common.{◌≡◌, ◌<◌, ◌+◌, ◌-◌, ℕ, Err, false, length, take, drop, arith, ap, refl, sym, ◌∙◌, length-drop}
 use Rattle.std.proofs.lemmas.Result.{err_from_is_err_and}
-use Rattle.std.specs.Prelude.{option_map}
 use Rattle.vf_journal.specs.Answers.{is_fault}
 use Rattle.vf_journal.specs.Layout.{part}
-use Rattle.vf_journal.specs.Records.{first_record}
 use Rattle.vf_journal.proofs.Fronts.{record_few, record_read}
 use Rattle.vf_journal.proofs.Looks.{looked_then}
 use Rattle.vf_journal.proofs.reading.read_record.Goals as goal

@@ -1,4 +1,4 @@
-use Rattle.std.proofs.Common.{◌≡◌, ◌≢◌, ℕ, ◌+◌, ◌<◌, get_or, drop, arith, ap, sym, ◌∙◌}
+use Rattle.std.proofs.Common.{◌≡◌, ◌+◌, ◌<◌, drop, arith, ap, sym, ◌∙◌}
 use Rattle.vf_journal.specs.Layout.{length_named}
 use Rattle.vf_journal.proofs.Fronts.{record_short, record_whole}
 use Rattle.vf_journal.proofs.reading.record_length.Goals as goal

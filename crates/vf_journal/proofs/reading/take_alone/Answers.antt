@@ -1,4 +1,4 @@
-use Rattle.std.proofs.Common.{◌-◌, ◌<◌, ◌+◌, length, arith, ap, sym, ◌∙◌}
+use Rattle.std.proofs.Common.{◌-◌, arith, ap, sym, ◌∙◌}
 use Rattle.vf_journal.specs.Standing.{with_record}
 use Rattle.vf_journal.proofs.Takings.{alone_none, alone_some}
 use Rattle.vf_journal.proofs.reading.take_alone.Goals as goal

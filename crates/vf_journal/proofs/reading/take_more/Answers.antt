@@ -1,4 +1,4 @@
-use Rattle.std.proofs.Common.{◌≡◌, ◌-◌, ◌≤◌, ℕ, List, Option, Err, true, false, arith, ap, subst, sym, ◌∙◌}
+use Rattle.std.proofs.Common.{◌-◌, ℕ, List, Option, Err, false, subst}
 use Rattle.std.proofs.lemmas.Result.{err_from_is_err_and}
 use Rattle.vf_journal.specs.Answers.{is_fault}
 use Rattle.vf_journal.specs.Reading.{StandsFrom, Takes}

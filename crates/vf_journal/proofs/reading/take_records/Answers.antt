@@ -1,4 +1,4 @@
-use Rattle.std.proofs.Common.{◌≡◌, ◌+◌, ◌∷◌, [], ◌++◌, List, ℕ, length, take, drop, arith, ap, sym, ◌∙◌, rules}
+use Rattle.std.proofs.Common.{List, ℕ, drop, ap, ◌∙◌}
 use Rattle.std.proofs.lemmas.List.{drop-take}
 use Rattle.vf_journal.proofs.Takings.{taking_ends, taking_more}
 use Rattle.vf_journal.proofs.reading.take_records.Goals as goal

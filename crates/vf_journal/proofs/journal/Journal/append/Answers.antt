@@ -1,9 +1,9 @@
-use Rattle.std.proofs.Common.{◌≡◌, ◌+◌, ◌-◌, ◌≤◌, ◌∷◌, [], None, length, true, false, arith, ap, sym, subst}
+use Rattle.std.proofs.Common.{◌+◌, ◌-◌, ◌≤◌, None, length, true, arith, ap, sym, subst}
 use Rattle.std.proofs.lemmas.Result.{err_from_is_err_and}
 use Rattle.vf_disk.specs.Disk.{greatest_length}
-use Rattle.vf_journal.specs.Standing.{IsPlaced, IsSound}
+use Rattle.vf_journal.specs.Standing.{IsSound}
 use Rattle.vf_journal.specs.declared.area.Area.{Area}
-use Rattle.vf_journal.proofs.Appending.{append_done, append_opened, append_staged, length-entry_of}
+use Rattle.vf_journal.proofs.Appending.{append_done, append_opened, append_seen, append_seen_first, append_staged, length-entry_of}
 use Rattle.vf_journal.proofs.Counts.{placed_more}
 use Rattle.vf_journal.proofs.Plans.{changes_joined}
 use Rattle.vf_journal.proofs.journal.Journal.append.Goals as goal
@@ -50,3 +50,21 @@ returns-clause-within g c =
     let built = c.requires.entry in
     let area = ap (λ (area : Area). area.end) c.with-self-inside.ensures in
     record { area = omega (arith, area, ap length built.2, length-entry_of built.0, c.in_ok-write_synced.ensures.size, c.write_synced-2.ensures.grows); prepared = tt }
+
+pub returns-in_err-write_synced-clause-seen : goal.returns-in_err-write_synced-clause-seen
+returns-in_err-write_synced-clause-seen g c = rw (← c.self.view_is) (λ item records is on.
+    append_seen_first g.D.Disk.shown g.D.Disk.may_leave g.D.Disk.moment g.D.Disk.left_since g.met.D.Disk.only_now _ c.args.disk.now item records c.args.entry.now c.requires.entry is on
+    (g.D.Disk.shown c.write_synced.new.disk) (c.write_synced.ensures.seen on.image on.shows))
+
+pub returns-in_err-write_synced-2-clause-seen : goal.returns-in_err-write_synced-2-clause-seen
+returns-in_err-write_synced-2-clause-seen g c = rw (← c.self.view_is) (λ item records is on.
+    append_seen g.D.Disk.shown g.D.Disk.may_leave g.D.Disk.moment g.D.Disk.left_since g.met.D.Disk.only_now _ c.args.disk.now item records c.args.entry.now c.requires.entry is on
+    (g.D.Disk.shown c.write_synced-2.new.disk) (c.write_synced-2.ensures.seen _ (c.in_ok-write_synced.ensures.shown on.image on.shows)))
+
+pub returns-clause-seen : goal.returns-clause-seen
+returns-clause-seen g c = rw (← c.self.view_is) (λ item records is on.
+    append_seen g.D.Disk.shown g.D.Disk.may_leave g.D.Disk.moment g.D.Disk.left_since g.met.D.Disk.only_now _ c.args.disk.now item records c.args.entry.now c.requires.entry is on
+    (g.D.Disk.shown c.write_synced-2.new.disk) (c.write_synced-2.ensures.seen _ (c.in_ok-write_synced.ensures.shown on.image on.shows)))
+
+pub returns-clause-shown : goal.returns-clause-shown
+returns-clause-shown g c = rw (← c.self.view_is) (λ image shows. c.in_ok-write_synced-2.ensures.shown _ (c.in_ok-write_synced.ensures.shown image shows))

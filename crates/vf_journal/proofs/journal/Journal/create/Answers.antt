@@ -1,7 +1,7 @@
-use Rattle.std.proofs.Common.{◌≡◌, Some, length, true, false, arith, [], List, ℕ, refl, sym, ap, subst, ◌∙◌}
+use Rattle.std.proofs.Common.{◌≡◌, Some, true, false, arith, [], ◌∷◌, sym, ap, ◌∙◌}
 use Rattle.std.proofs.lemmas.List.{nil_from_length}
 use Rattle.std.proofs.lemmas.Result.{err_from_is_err_and}
-use Rattle.vf_journal.proofs.Creating.{create_first, create_second, create_third, new_is}
+use Rattle.vf_journal.proofs.Creating.{create_first, create_second, create_seen, create_third, first_left, new_is, rest_of_new, second_left, third_left}
 use Rattle.vf_journal.proofs.Plans.{changes_fewer, changes_joined}
 use Rattle.vf_journal.proofs.journal.Journal.create.Goals as goal
 
@@ -50,3 +50,25 @@ returns-clause-any_moment g c = λ octets shows synced.
     let one = c.in_ok-write_synced.ensures.shown [] empty in
     create_third g.D.Disk.shown g.D.Disk.may_leave g.D.Disk.moment g.D.Disk.left_since c.args.disk.now empty synced c.write_synced.new.disk c.write_synced-2.new.disk c.write_synced-3.new.disk c.write_synced.ensures.any_moment
     one c.in_ok-write_synced.ensures.synced c.write_synced-2.ensures.any_moment (c.in_ok-write_synced-2.ensures.shown _ one) c.in_ok-write_synced-2.ensures.synced c.write_synced-3.ensures.any_moment
+
+pub returns-in_err-write_synced-clause-seen : goal.returns-in_err-write_synced-clause-seen
+returns-in_err-write_synced-clause-seen g c = λ octets shows.
+    let none : octets ≡ [] = nil_from_length octets (g.met.D.Disk.measured c.args.disk.now octets shows ∙ c.requires) in
+    create_seen (g.D.Disk.shown c.write_synced.new.disk) [] (0 ∷ []) 0 first_left (c.write_synced.ensures.seen [] (shows ∙ ap Some none))
+
+pub returns-in_err-write_synced-2-clause-seen : goal.returns-in_err-write_synced-2-clause-seen
+returns-in_err-write_synced-2-clause-seen g c = λ octets shows.
+    let none : octets ≡ [] = nil_from_length octets (g.met.D.Disk.measured c.args.disk.now octets shows ∙ c.requires) in
+    create_seen (g.D.Disk.shown c.write_synced-2.new.disk) (0 ∷ []) rest_of_new 1 second_left (c.write_synced-2.ensures.seen _ (c.in_ok-write_synced.ensures.shown [] (shows ∙ ap Some none)))
+
+pub returns-in_err-write_synced-3-clause-seen : goal.returns-in_err-write_synced-3-clause-seen
+returns-in_err-write_synced-3-clause-seen g c = λ octets shows.
+    let none : octets ≡ [] = nil_from_length octets (g.met.D.Disk.measured c.args.disk.now octets shows ∙ c.requires) in
+    let two = c.in_ok-write_synced-2.ensures.shown _ (c.in_ok-write_synced.ensures.shown [] (shows ∙ ap Some none)) in
+    create_seen (g.D.Disk.shown c.write_synced-3.new.disk) (0 ∷ rest_of_new) (70 ∷ []) 0 third_left (c.write_synced-3.ensures.seen _ two)
+
+pub returns-clause-seen : goal.returns-clause-seen
+returns-clause-seen g c = λ octets shows.
+    let none : octets ≡ [] = nil_from_length octets (g.met.D.Disk.measured c.args.disk.now octets shows ∙ c.requires) in
+    let two = c.in_ok-write_synced-2.ensures.shown _ (c.in_ok-write_synced.ensures.shown [] (shows ∙ ap Some none)) in
+    create_seen (g.D.Disk.shown c.write_synced-3.new.disk) (0 ∷ rest_of_new) (70 ∷ []) 0 third_left (c.write_synced-3.ensures.seen _ two)

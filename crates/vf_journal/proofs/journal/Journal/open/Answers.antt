@@ -1,4 +1,4 @@
-use Rattle.std.proofs.Common.{◌≡◌, ◌-◌, false, Err, None, Some, ap, sym, ◌∙◌}
+use Rattle.std.proofs.Common.{◌-◌, false, Err, ap, ◌∙◌}
 use Rattle.std.proofs.lemmas.Result.{err_from_is_err_and}
 use Rattle.vf_journal.specs.declared.head.Head.{Head}
 use Rattle.vf_journal.specs.Answers.{is_fault}
