@@ -19,3 +19,6 @@ pub use error::JournalError;
 pub use journal::Journal;
 pub use laws::{held_is_read, new_holds_none, planned_fits};
 pub use placing::Placing;
+
+#[cfg(test)]
+mod tests;
