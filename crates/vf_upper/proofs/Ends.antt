@@ -1,5 +1,5 @@
 -- Where contents of an indefinite length end: as many turns as there are octets are enough.
-use Rattle.std.proofs.Common.{◌≡◌, ℕ, zero, suc, ◌+◌, ◌-◌, ◌<◌, ◌≤◌, Bool, true, false, List, [], ◌∷◌, length, drop, refl, ap, sym, ◌∙◌, arith}
+use Rattle.std.proofs.Common.{◌≡◌, ℕ, zero, suc, ◌-◌, ◌<◌, ◌≤◌, Bool, true, false, List, [], ◌∷◌, length, drop, refl, ap, sym, ◌∙◌, arith}
 use Rattle.std.specs.Prelude.{Option, None, Some, nat_eq, nat_le, nat_lt, if◌then◌else◌}
 use Rattle.std.specs.Option.{option_and_then}
 use Rattle.std.proofs.lemmas.Bool.Decides.{nat_tests}
@@ -53,7 +53,7 @@ length-within (first ∷ octets) =
     (header-if (suc (length octets)) (nat_eq first 128) _ _ (omega arith)
     (header-if (suc (length octets)) (nat_le first 136) (long_form (first - 128) octets) None (long-within (first - 128) octets) tt))
 
-header-more : (n m : ℕ) (h : Option Header) → n ≤ m → HeaderWithin n h → HeaderWithin m h
+pub header-more : (n m : ℕ) (h : Option Header) → n ≤ m → HeaderWithin n h → HeaderWithin m h
 header-more n m None le w = tt
 header-more n m (Some header) le w = omega arith
 

@@ -1,10 +1,9 @@
 -- Values in turn: as many turns as there are octets are enough.
-use Rattle.std.proofs.Common.{◌≡◌, ℕ, zero, suc, ◌+◌, ◌-◌, ◌<◌, ◌≤◌, Bool, true, false, not, List, [], ◌∷◌, ◌++◌, length, drop, refl, ap, sym, subst, ◌∙◌, arith}
-use Rattle.std.specs.Prelude.{nat_eq, Result, Ok, Err}
+use Rattle.std.proofs.Common.{◌≡◌, ℕ, zero, suc, ◌+◌, ◌<◌, ◌≤◌, Bool, true, false, not, List, [], ◌∷◌, length, drop, refl, ap, sym, ◌∙◌, arith}
+use Rattle.std.specs.Prelude.{nat_eq, Ok, Err}
 use Rattle.std.proofs.lemmas.Bool.Decides.{nat_tests}
 use Rattle.std.proofs.lemmas.List.{length-drop}
 use Rattle.vf_ber.specs.Reader.{verdict}
-use Rattle.vf_ber.specs.Tree.{Tree}
 use Rattle.vf_ber.specs.Verdict.{IsVerdict, Verdict, Read, Short, Bad, Deep, Long}
 use Rattle.vf_ber.proofs.OneTree.{spelling_long}
 use Rattle.vf_ber.proofs.Plain.{verdict_found}
@@ -14,7 +13,7 @@ use Rattle.vf_upper.specs.declared.marks.Stop.{Stop}
 use Rattle.vf_upper.specs.declared.marks.Stop.TheVariants.{At, NoMemory}
 use Rattle.vf_upper.specs.CargoViews.{IsNext}
 use Rattle.vf_upper.specs.MarkViews.{Stops}
-use Rattle.vf_upper.specs.Marks.{Mark, Found, value}
+use Rattle.vf_upper.specs.Marks.{Mark, Found}
 use Rattle.vf_upper.specs.Texts.{go_on, some, some_in, then_read}
 use Rattle.vf_upper.proofs.Readings.{Others}
 

@@ -1,14 +1,13 @@
 -- Values that octets begin with, by their verdict.
 use Rattle.std.proofs.Common.{◌≡◌, ℕ, ◌+◌, ◌<◌, ◌≤◌, List, [], ◌∷◌, ◌++◌, length, drop, take, true, refl, ap, sym, subst, ◌∙◌, arith, length-append, zero-add, drop-cons}
-use Rattle.std.specs.Prelude.{Result, Ok, Err}
+use Rattle.std.specs.Prelude.{Ok, Err}
 use Rattle.std.proofs.lemmas.List.{drop_all, length-take-le}
 use Rattle.vf_ber.specs.declared.errors.BerError.{BerError}
-use Rattle.vf_ber.specs.declared.errors.BerError.TheVariants as ber
 use Rattle.vf_ber.specs.declared.value.Value.{Value}
 use Rattle.vf_ber.specs.Reader.{verdict}
 use Rattle.vf_ber.specs.Results.{IsAnswer}
 use Rattle.vf_ber.specs.Tree.{Tree}
-use Rattle.vf_ber.specs.Verdict.{Begins, bounded, IsFirstFault, IsVerdict, Verdict, Read, Short, Bad, Deep, Long}
+use Rattle.vf_ber.specs.Verdict.{IsFirstFault, IsVerdict, Verdict, Read, Short, Bad, Deep, Long}
 use Rattle.vf_ber.specs.Views.{tree_of}
 use Rattle.vf_ber.proofs.OneTree.{spelling_long}
 use Rattle.vf_ber.proofs.Plain.{verdict_found}

@@ -1,9 +1,9 @@
 -- The parts of a text: as many turns as there are octets are enough.
 use Rattle.std.proofs.Common.{◌≡◌, ℕ, zero, suc, ◌+◌, ◌-◌, ◌<◌, ◌≤◌, Bool, true, false, List, [], ◌∷◌, length, drop, take, refl, ap, subst, sym, ◌∙◌, arith, inl, inr}
-use Rattle.std.specs.Prelude.{Option, None, Some}
+use Rattle.std.specs.Prelude.{nat_eq, Option, None, Some, if◌then◌else◌}
 use Rattle.std.proofs.lemmas.Bool.{cases_lt}
 use Rattle.std.proofs.lemmas.List.{length-drop, length-take-le, take_all}
-use Rattle.vf_upper.specs.Parts.{behind_end, closing, ended_piece, ends, Header, header_at, next, Part, Parts, parts_by, parts_in, parts_of, piece_of, Taken, taken, taken_at, taken_by, Text}
+use Rattle.vf_upper.specs.Parts.{behind_end, closing, ended_piece, ends, Header, header_at, next, Parts, parts_by, parts_in, parts_of, piece_of, Taken, taken, taken_at, taken_by, Text}
 use Rattle.vf_upper.proofs.Ends.{end-shortens, header-within, HeaderWithin, Within}
 
 piece_by : (octets : List ℕ) (o : Option (List ℕ)) → Within (length octets) o → length (ended_piece octets o).octets + length (ended_piece octets o).rest ≤ length octets
@@ -30,13 +30,19 @@ taken_within : (n : ℕ) (text : Text) (first : ℕ) (h : Option Header) → 0 <
 taken_within n text first None some w = some
 taken_within n text first (Some header) some w = omega (arith, piece-within header.count header.rest)
 
+taken-if : (n : ℕ) (b : Bool) (t : Taken) → length t.part.contents.octets + length t.rest.octets < n → TakenWithin n (if b then None else Some t)
+taken-if n true t w = tt
+taken-if n false t w = w
+
 pub taken-within : (text : Text) → TakenWithin (length text.octets) (taken text)
 unfolding taken
 taken-within text = by text.octets
   where
     by : (octets : List ℕ) → TakenWithin (length octets) (taken_at text octets)
     by [] = tt
-    by (first ∷ octets) = taken_within (suc (length octets)) text first (header_at (first ∷ octets)) (omega arith) (header-within (first ∷ octets))
+    by (first ∷ octets) =
+        taken-if (suc (length octets)) (nat_eq first 0) (taken_by text first (header_at (first ∷ octets)))
+        (taken_within (suc (length octets)) text first (header_at (first ∷ octets)) (omega arith) (header-within (first ∷ octets)))
 
 -- equal on shorter texts
 abbrev Agree : ℕ → (Text → Parts) → (Text → Parts) → Type 0

@@ -2,7 +2,7 @@
 use Rattle.std.specs.Prelude.{◌≡◌, ℕ, ◌+◌, ◌≤◌, List, drop, length, take, Result, Ok, Err}
 use Rattle.vf_ber.specs.declared.value.Value.{Value}
 use Rattle.vf_ber.specs.Reader.{verdict}
-use Rattle.vf_ber.specs.Verdict.{Verdict, Read, Short, Bad, Deep, Long}
+use Rattle.vf_ber.specs.Verdict.{Verdict, Read}
 use Rattle.vf_ber.specs.Views.{tree_of}
 use Rattle.vf_upper.specs.declared.cargo.Front.{Front}
 use Rattle.vf_upper.specs.declared.marks.Stop.{Stop}

@@ -1,7 +1,7 @@
 -- The forms of types (ISO 8824), each a reading of a part: what was found in front of it and what is found in it, or
 -- the place of its first fault. A part whose tag is another, or that isn't primitive or constructed as its type is, is
 -- a fault at its first octet, and so is a primitive one whose contents aren't of its type. What is cut off is no fault.
-use Rattle.std.specs.Prelude.{ℕ, ℤ, pos, negsuc, Bool, true, false, not, ◌&&◌, ◌||◌, nat_eq, nat_le, nat_lt, List, [], ◌∷◌, ◌++◌, Option, None, Some, Result, Ok, Err, if◌then◌else◌}
+use Rattle.std.specs.Prelude.{ℕ, ℤ, pos, negsuc, Bool, true, false, not, ◌&&◌, nat_eq, nat_le, List, [], ◌∷◌, ◌++◌, Option, None, Some, Ok, Err, if◌then◌else◌}
 use Rattle.std.specs.Cmp.Lexicographic.{pointwise}
 use Rattle.std.specs.List.{list_any}
 use Rattle.std.specs.Option.{option_and_then}

@@ -1,5 +1,5 @@
 -- What was written is read as the primitive again.
-use Rattle.std.specs.Prelude.{◌≡◌, ℕ, ℤ, List, [], ◌∷◌, Result, Ok}
+use Rattle.std.specs.Prelude.{◌≡◌, ℤ, List, [], ◌∷◌, Ok}
 use Rattle.std.specs.Int.{w64}
 use Rattle.std.specs.Int.RustNames.{FitsSigned}
 use Rattle.std.specs.List.{All}
@@ -58,10 +58,14 @@ abbrev pub SameContexts : List Standing → List Standing → Type 0
 SameContexts a b = (id : ℤ) → syntax_of id a ≡ syntax_of id b
 
 -- The contexts that the reading end hands in: those of its proposals that the results accept are the contexts with
--- which an acceptance or a refusal was written; other primitives are read with those that they were written with.
+-- which an acceptance or a refusal was written; other primitives are read with those that they were written with. An
+-- association request says its contexts itself, and without values none are asked for.
 abbrev pub AreHeard : Primitive → List ContextEntry → List ContextEntry → Type 0
+AreHeard (Associate offers values) contexts heard = Unit {0}
 AreHeard (Accepted results values) contexts heard = SameContexts (answered heard results) (accepted contexts)
+AreHeard (Refused [] []) contexts heard = Unit {0}
 AreHeard (Refused results values) contexts heard = SameContexts (answered heard results) (accepted contexts)
+AreHeard (Abort []) contexts heard = Unit {0}
 AreHeard primitive contexts heard = heard ≡ contexts
 
 abbrev pub IsReadAgain : Type 0

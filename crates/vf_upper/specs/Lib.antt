@@ -1,7 +1,9 @@
 pub mod CargoViews
 pub mod Carried
 pub mod CarriedCode
+pub mod Conclusions
 pub mod Forms
+pub mod HeldViews
 pub mod Laws
 pub mod MarkViews
 pub mod Marks
@@ -13,4 +15,5 @@ pub mod Syntaxes
 pub mod Texts
 pub mod Types
 pub mod Views
+pub mod WalkViews
 pub mod Written

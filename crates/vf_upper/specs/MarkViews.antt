@@ -1,5 +1,5 @@
 -- What the code finds, as marks.
-use Rattle.std.specs.Prelude.{◌≡◌, ℕ, List, map, Result, Ok, Err}
+use Rattle.std.specs.Prelude.{◌≡◌, List, map, Result, Ok, Err}
 use Rattle.vf_ber.specs.Views.{tree_of}
 use Rattle.vf_upper.specs.declared.marks.Mark.{Mark}
 use Rattle.vf_upper.specs.declared.marks.Mark.TheVariants.{Number, Name, Value}

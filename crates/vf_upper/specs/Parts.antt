@@ -1,7 +1,7 @@
 -- Values among octets with their places (ISO 8825, 8.1), as far as they are seen: of octets that are cut off, what
 -- stands in front.
-use Rattle.std.specs.Prelude.{ℕ, zero, suc, ◌+◌, ◌-◌, ◌*◌, ◌/◌, ◌%◌, Bool, true, false, ◌&&◌, nat_eq, nat_le, nat_lt, List, [], ◌∷◌, length, take, drop, Option, None, Some, if◌then◌else◌}
-use Rattle.std.specs.Option.{option_and_then, option_map}
+use Rattle.std.specs.Prelude.{ℕ, zero, suc, ◌+◌, ◌-◌, ◌/◌, ◌%◌, Bool, true, false, not, ◌&&◌, ◌||◌, nat_eq, nat_le, nat_lt, List, [], ◌∷◌, length, take, drop, Option, None, Some, if◌then◌else◌}
+use Rattle.std.specs.Option.{option_and_then}
 use Rattle.vf_ber.specs.Spellings.{number_in}
 
 -- Octets in turn, the place of the first, and whether they are all that their holder has. The place of an empty text
@@ -137,9 +137,9 @@ taken_by text first (Some header) = part_with text first (length header.rest) (p
 
 abbrev pub taken_at : Text → List ℕ → Option Taken
 taken_at text [] = None
-taken_at text (first ∷ octets) = Some (taken_by text first (header_at (first ∷ octets)))
+taken_at text (first ∷ octets) = if nat_eq first 0 then None else Some (taken_by text first (header_at (first ∷ octets)))
 
--- the first part
+-- The first part. An octet 00 is none: an end of contents begins with it, and it stands alone where this is cut off.
 unfoldable pub taken : Text → Option Taken
 taken text = taken_at text text.octets
 
@@ -148,8 +148,13 @@ pub data Parts : Type 0 where
   ends : Option ℕ → Parts
   next : Part → Parts → Parts
 
+abbrev pub is_empty : List ℕ → Bool
+is_empty [] = true
+is_empty (octet ∷ octets) = false
+
+-- A begun end of contents says that no part follows, also where it is cut off.
 abbrev pub closing : Text → Option ℕ
-closing text = if text.whole then Some text.at else None
+closing text = if text.whole || not (is_empty text.octets) then Some text.at else None
 
 abbrev pub parts_by : (Text → Parts) → Text → Option Taken → Parts
 parts_by others text None = ends (closing text)

@@ -2,7 +2,7 @@
 use Rattle.std.specs.Prelude.{ℕ, ℤ, pos, Bool, true, false, ◌&&◌, ◌||◌, List, [], ◌∷◌, map, Option, None, Some, Result, Ok, Err, if◌then◌else◌}
 use Rattle.std.specs.Ordering.{int_eq}
 use Rattle.vf_base.specs.declared.spdu_kind.SpduKind.{SpduKind}
-use Rattle.vf_base.specs.declared.spdu_kind.SpduKind.TheVariants.{CN, AC, RF, FN, DN, AB, DT}
+use Rattle.vf_base.specs.declared.spdu_kind.SpduKind.TheVariants.{CN, AC, RF, FN, DN, AB}
 use Rattle.vf_upper.specs.declared.contexts.ContextEntry.{ContextEntry}
 use Rattle.vf_upper.specs.declared.contexts.Offer.{Offer}
 use Rattle.vf_upper.specs.declared.errors.UpperError.{UpperError}
@@ -21,31 +21,58 @@ use Rattle.vf_upper.specs.Types.{cargo_of}
 
 -- ---- what was found
 
+abbrev pub is_proposal : NumberLabel → Bool
+is_proposal Proposal = true
+is_proposal label = false
+
+abbrev pub is_outcome : NumberLabel → Bool
+is_outcome Outcome = true
+is_outcome label = false
+
+-- the context of a value
+abbrev pub is_context : NumberLabel → Bool
+is_context AcseContext = true
+is_context PciContext = true
+is_context AnyContext = true
+is_context label = false
+
+abbrev pub is_abstract : NameLabel → Bool
+is_abstract Abstract = true
+is_abstract label = false
+
+abbrev pub is_transfer : NameLabel → Bool
+is_transfer Transfer = true
+is_transfer label = false
+
+abbrev pub is_application : NameLabel → Bool
+is_application Application = true
+is_application label = false
+
 -- among the transfer syntaxes that come next are the basic encoding rules
 abbrev pub offers_ber : List Mark → Bool
-offers_ber (name Transfer arcs ∷ marks) = are_arcs arcs syntaxes.ber || offers_ber marks
-offers_ber marks = false
+offers_ber [] = false
+offers_ber (number label n ∷ marks) = false
+offers_ber (name label arcs ∷ marks) = is_transfer label && (are_arcs arcs syntaxes.ber || offers_ber marks)
+offers_ber (value tree ∷ marks) = false
 
 -- the proposals; the last identifier is that of the next abstract syntax
 abbrev pub offers_from : ℤ → List Mark → List Offer
 offers_from id [] = []
-offers_from id (number Proposal n ∷ marks) = offers_from n marks
-offers_from id (name Abstract arcs ∷ marks) = record { id = id; syntax = arcs; ber = offers_ber marks } ∷ offers_from id marks
-offers_from id (mark ∷ marks) = offers_from id marks
+offers_from id (number label n ∷ marks) = offers_from (if is_proposal label then n else id) marks
+offers_from id (name label arcs ∷ marks) =
+    if is_abstract label
+    then record { id = id; syntax = arcs; ber = offers_ber marks } ∷ offers_from id marks
+    else offers_from id marks
+offers_from id (value tree ∷ marks) = offers_from id marks
 
 abbrev pub offers_of : List Mark → List Offer
 offers_of marks = offers_from (pos 0) marks
 
 abbrev pub results_of : List Mark → List Bool
 results_of [] = []
-results_of (number Outcome n ∷ marks) = int_eq n (pos 0) ∷ results_of marks
-results_of (mark ∷ marks) = results_of marks
-
-abbrev pub is_context : NumberLabel → Bool
-is_context AcseContext = true
-is_context PciContext = true
-is_context AnyContext = true
-is_context label = false
+results_of (number label n ∷ marks) = if is_outcome label then int_eq n (pos 0) ∷ results_of marks else results_of marks
+results_of (name label arcs ∷ marks) = results_of marks
+results_of (value tree ∷ marks) = results_of marks
 
 -- the values, each in the last context in front of it
 abbrev pub values_from : ℤ → List Mark → List Carried
@@ -100,15 +127,22 @@ abbrev pub is_suited : NumberLabel → Option (List ℕ) → Bool
 is_suited label None = false
 is_suited label (Some syntax) = suits label syntax
 
+-- why one of the things that are found isn't taken, if so
+abbrev pub refused : List Standing → Mark → Option UpperError
+refused standing (number label n) =
+    if is_context label then (if is_suited label (syntax_of n standing) then None else Some (errors.Context n)) else None
+refused standing (name label arcs) =
+    if is_application label then (if are_arcs arcs syntaxes.ftam then None else Some errors.Application) else None
+refused standing (value tree) = None
+
+abbrev pub first_of : Option UpperError → Option UpperError → Option UpperError
+first_of None other = other
+first_of (Some error) other = Some error
+
 -- The first reason in the order of octets why what is found isn't taken.
 abbrev pub refusal : List Standing → List Mark → Option UpperError
 refusal standing [] = None
-refusal standing (number label n ∷ marks) =
-    if is_context label
-    then (if is_suited label (syntax_of n standing) then refusal standing marks else Some (errors.Context n))
-    else refusal standing marks
-refusal standing (name Application arcs ∷ marks) = if are_arcs arcs syntaxes.ftam then refusal standing marks else Some errors.Application
-refusal standing (mark ∷ marks) = refusal standing marks
+refusal standing (mark ∷ marks) = first_of (refused standing mark) (refusal standing marks)
 
 -- ---- primitives
 
@@ -139,11 +173,12 @@ abbrev pub is_bare : SpduKind → List ℕ → Bool
 is_bare kind [] = may_lack kind
 is_bare kind (octet ∷ octets) = false
 
-abbrev pub by_cargo : SpduKind → List ContextEntry → List ℕ → Option (List ℕ → List Mark → Found) → Result Primitive UpperError
-by_cargo kind contexts octets None = Err (errors.Grammar 0)
-by_cargo kind contexts octets (Some cargo) = concluded kind contexts (cargo octets [])
+-- all that is found in user data; an SPDU that has none is a fault
+abbrev pub found_in : Option (List ℕ → List Mark → Found) → List ℕ → Found
+found_in None octets = Err 0
+found_in (Some cargo) octets = cargo octets []
 
 -- the primitive that the user data of an SPDU of this kind are, or why they aren't any
 abbrev pub reading : SpduKind → List ContextEntry → List ℕ → Result Primitive UpperError
 reading kind contexts octets =
-    if is_bare kind octets then Ok (primitive_of kind []) else by_cargo kind contexts octets (cargo_of kind)
+    if is_bare kind octets then Ok (primitive_of kind []) else concluded kind contexts (found_in (cargo_of kind) octets)

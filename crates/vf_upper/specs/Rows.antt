@@ -1,7 +1,7 @@
 -- The names that the code has for types, and the types that they name.
-use Rattle.std.specs.Prelude.{ℕ, Bool, true, false, ◌&&◌, nat_lt, List, [], ◌∷◌, None, Some, if◌then◌else◌}
+use Rattle.std.specs.Prelude.{◌≡◌, ℕ, Bool, true, false, ◌&&◌, nat_eq, nat_lt, List, [], ◌∷◌, Option, None, Some, if◌then◌else◌}
 use Rattle.vf_base.specs.declared.spdu_kind.SpduKind.{SpduKind}
-use Rattle.vf_base.specs.declared.spdu_kind.SpduKind.TheVariants.{CN, AC, RF, FN, DN, AB}
+use Rattle.vf_base.specs.declared.spdu_kind.SpduKind.TheVariants.{CN, AC, RF, FN, DN}
 use Rattle.vf_upper.specs.declared.form.TypeName.{TypeName}
 use Rattle.vf_upper.specs.declared.form.TypeName.TheVariants as types
 use Rattle.vf_upper.specs.declared.form.Pair.{Pair}
@@ -18,9 +18,9 @@ use Rattle.vf_upper.specs.declared.labels.NumberLabel.{NumberLabel}
 use Rattle.vf_upper.specs.declared.labels.NumberLabel.TheVariants.{AcseContext, PciContext, AnyContext}
 use Rattle.vf_upper.specs.Forms as grammar
 use Rattle.vf_upper.specs.Syntaxes.{ber}
-use Rattle.vf_upper.specs.Texts.{carried, one, some, typed}
+use Rattle.vf_upper.specs.Texts.{carried, carried_data, one, some, typed}
 use Rattle.vf_upper.specs.Texts as texts
-use Rattle.vf_upper.specs.Types.{aare, aarq, abrt, acse_data, all_data, application, application_context_name, context, explicit, external, fixed, mode_selector, one_data, outcome, pdv_list, proposal, release, required, resynchronization, transfer_syntaxes, universal, user_information}
+use Rattle.vf_upper.specs.Types.{aare, aarq, abrt, acse_data, all_data, application, application_context_name, cargo_of, context, explicit, external, fixed, mode_selector, one_data, outcome, pdv_list, proposal, release, required, resynchronization, transfer_syntaxes, universal, user_information}
 
 -- ---- what the SPDU decides
 
@@ -72,10 +72,10 @@ type_of kind types.Proposal = proposal
 type_of kind types.UserAbort = grammar.sequence (required (application 1) (acse_data (apdu_tags kind) (apdu_in kind)) ∷ [])
 type_of kind types.Resynchronization = resynchronization
 type_of kind types.AcseData = acse_data (apdu_tags kind) (apdu_in kind)
-type_of kind types.AcseList = pdv_list AcseContext (typed (apdu_tags kind) (apdu_in kind))
+type_of kind types.AcseList = pdv_list AcseContext (carried (typed (apdu_tags kind) (apdu_in kind)))
 type_of kind types.OneData = one_data AnyContext one
-type_of kind types.OneList = pdv_list AnyContext one
-type_of kind types.DataList = pdv_list AnyContext some
+type_of kind types.OneList = pdv_list AnyContext (carried one)
+type_of kind types.DataList = pdv_list AnyContext carried_data
 type_of kind types.Aarq = grammar.sequence (
     required (context 1) application_context_name ∷
     required (context 30) (user_information (label_in kind)) ∷ [])
@@ -112,10 +112,16 @@ abbrev pub pair_of : SpduKind → Pair → grammar.Reading
 pair_of kind pairs.Cp = grammar.set (required (context 0) mode_selector) (required (context 2) (type_of kind types.Parameters))
 pair_of kind pairs.Cpa = grammar.set (required (context 0) mode_selector) (required (context 2) (type_of kind types.Response))
 
-abbrev pub cargo_in : SpduKind → Cargo → texts.Cargo
-cargo_in kind cargos.One = one
-cargo_in kind cargos.Some = some
-cargo_in kind cargos.Apdu = typed (apdu_tags kind) (apdu_in kind)
+abbrev pub cargo_read : SpduKind → Cargo → grammar.Reading
+cargo_read kind cargos.One = carried one
+cargo_read kind cargos.Some = carried_data
+cargo_read kind cargos.Apdu = carried (typed (apdu_tags kind) (apdu_in kind))
+
+-- what octets are within [0] or [1], by its number
+abbrev pub cargo_within : SpduKind → Cargo → ℕ → texts.Cargo
+cargo_within kind cargos.One number = one
+cargo_within kind cargos.Some number = if nat_eq number 0 then one else some
+cargo_within kind cargos.Apdu number = typed (apdu_tags kind) (apdu_in kind)
 
 abbrev pub listing_of : Listing → grammar.Reading
 listing_of listings.Proposals = grammar.sequence_of (universal 16) proposal
@@ -134,7 +140,7 @@ read_of kind (forms.Fields name) = type_of kind name
 read_of kind (forms.Set pair) = pair_of kind pair
 read_of kind (forms.Each listing) = listing_of listing
 read_of kind forms.Outcome = outcome
-read_of kind (forms.Carried cargo) = carried (cargo_in kind cargo)
+read_of kind (forms.Carried cargo) = cargo_read kind cargo
 
 abbrev pub tags_of : Field → grammar.Tags
 tags_of field = record { class = field.class; from = field.from; to = field.to }
@@ -145,6 +151,12 @@ field_of kind field = record { tags = tags_of field; is_required = field.is_requ
 -- a type by its fields
 abbrev pub fields_read : TypeName → List grammar.Field → grammar.Reading
 fields_read name fields = if skips name then grammar.sequence fields else grammar.exactly fields
+
+-- ---- what the user data of each SPDU is
+
+abbrev pub IsUserData : SpduKind → Option Field → Type 0
+IsUserData kind None = cargo_of kind ≡ None
+IsUserData kind (Some field) = cargo_of kind ≡ Some (typed (tags_of field) (read_of kind field.form))
 
 -- ---- how deep types nest
 

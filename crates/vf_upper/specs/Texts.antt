@@ -1,5 +1,5 @@
 -- Octets that are read as values: user data, and what stands within the [0] or [1] of a PDV-list or an EXTERNAL.
-use Rattle.std.specs.Prelude.{ℕ, zero, suc, ◌+◌, ◌-◌, Bool, true, false, nat_eq, nat_lt, List, [], ◌∷◌, ◌++◌, length, take, drop, get_or, Option, None, Some, Result, Ok, Err, if◌then◌else◌}
+use Rattle.std.specs.Prelude.{ℕ, zero, suc, ◌+◌, Bool, true, false, nat_eq, nat_lt, List, [], ◌∷◌, ◌++◌, length, take, drop, get_or, Option, None, Some, Ok, Err, if◌then◌else◌}
 use Rattle.vf_ber.specs.Reader.{verdict}
 use Rattle.vf_ber.specs.Verdict.{Verdict, Read, Short, Bad, Deep, Long}
 use Rattle.vf_upper.specs.Forms.{◌>>=◌, Reading, Tags, in_order}
@@ -133,12 +133,30 @@ segments_in (suc turns) end text = segment (segments_in turns end) text end text
 unfoldable pub segments : ℕ → Text → Held
 segments end text = segments_in (suc (length text.octets)) end text
 
+-- a first octet of an end of contents alone
+abbrev pub is_begun_end : List ℕ → Bool
+is_begun_end [] = false
+is_begun_end (first ∷ []) = nat_eq first 0
+is_begun_end (first ∷ other ∷ octets) = false
+
+-- octets without the begun end behind a value
+abbrev pub without_end : List ℕ → Verdict → List ℕ
+without_end octets (Read tree n) = if is_begun_end (drop n octets) then take n octets else octets
+without_end octets other = octets
+
+-- Contents of an explicit tag. A begun end behind their value isn't of them, where they are cut off.
+abbrev pub explicit_in : Text → List ℕ
+explicit_in text = if text.whole then text.octets else without_end text.octets (verdict text.octets)
+
+abbrev pub explicit_held : Text → Held
+explicit_held text = held_in (record { octets = explicit_in text; at = text.at; whole = text.whole }) (text.at + length (explicit_in text))
+
 -- What is held by a part with tag [0], which is explicit, or [1], octets. The first ends behind its last part, the
 -- second behind its value.
 abbrev pub held : Part → Option Held
 held part =
     if nat_eq (number_of part.first) 0
-    then (if is_constructed part.first then Some (held_in part.contents (part.contents.at + length part.contents.octets)) else None)
+    then (if is_constructed part.first then Some (explicit_held part.contents) else None)
     else (if is_constructed part.first then Some (segments part.behind part.contents) else Some (held_in part.contents part.behind))
 
 -- ---- a cargo within [0] or [1]
@@ -156,3 +174,7 @@ carried_by cargo at found (Some held) = landed held (cargo held.octets found)
 
 abbrev pub carried : Cargo → Reading
 carried cargo part found = carried_by cargo part.at found (held part)
+
+-- one value in [0], one or more in [1]
+abbrev pub carried_data : Reading
+carried_data part found = if nat_eq (number_of part.first) 0 then carried one part found else carried some part found

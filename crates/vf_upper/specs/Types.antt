@@ -6,11 +6,10 @@ use Rattle.vf_base.specs.declared.spdu_kind.SpduKind.TheVariants.{CN, AC, RF, FN
 use Rattle.vf_upper.specs.declared.labels.NameLabel.TheVariants.{Stated, Abstract, Transfer, Application}
 use Rattle.vf_upper.specs.declared.labels.NumberLabel.{NumberLabel}
 use Rattle.vf_upper.specs.declared.labels.NumberLabel.TheVariants.{Fixed, Proposal, Outcome, AcseContext, PciContext, AnyContext}
-use Rattle.vf_upper.specs.Forms.{anything, constructed, exactly, Field, has_tag, in_order, integer, is_known, leading, object_identifier, Reading, sequence, sequence_of, set, Tags}
-use Rattle.vf_upper.specs.Marks.{Mark, Found}
-use Rattle.vf_upper.specs.Parts.{is_constructed, Part, Parts, parts_of}
+use Rattle.vf_upper.specs.Forms.{anything, constructed, exactly, Field, in_order, integer, leading, object_identifier, Reading, sequence, sequence_of, set, Tags}
+use Rattle.vf_upper.specs.Parts.{is_constructed, Part, Parts}
 use Rattle.vf_upper.specs.Syntaxes.{ber}
-use Rattle.vf_upper.specs.Texts.{Cargo, carried, one, some, typed}
+use Rattle.vf_upper.specs.Texts.{Cargo, carried, carried_data, one, typed}
 
 abbrev pub universal : ℕ → Tags
 universal number = record { class = 0; from = number; to = number }
@@ -37,20 +36,20 @@ explicit tags read = exactly (required tags read ∷ [])
 
 -- ---- values in contexts
 
--- PDV-list: [0] holds one value, [1] octets with values
-abbrev pub pdv_list : NumberLabel → Cargo → Reading
-pdv_list label cargo = exactly (
+-- PDV-list: a transfer syntax, a context, and what stands in [0], one value, or in [1], octets with values
+abbrev pub pdv_list : NumberLabel → Reading → Reading
+pdv_list label read = exactly (
     optional (universal 6) (object_identifier None Stated) ∷
     required (universal 2) (integer None label) ∷
-    required zero_or_one (carried cargo) ∷ [])
+    required zero_or_one read ∷ [])
 
 -- user data: fully encoded, any number of PDV-lists
 abbrev pub all_data : Reading
-all_data = sequence_of (universal 16) (pdv_list AnyContext some)
+all_data = sequence_of (universal 16) (pdv_list AnyContext carried_data)
 
 -- the same with one PDV-list and one value
 abbrev pub one_data : NumberLabel → Cargo → Reading
-one_data label cargo = exactly (required (universal 16) (pdv_list label cargo) ∷ [])
+one_data label cargo = exactly (required (universal 16) (pdv_list label (carried cargo)) ∷ [])
 
 -- EXTERNAL: a value by the context that it stands in
 abbrev pub external : NumberLabel → Reading
@@ -131,7 +130,7 @@ abbrev pub refuses : Option Part → Bool
 refuses None = false
 refuses (Some part) = if is_constructed part.first then false else is_two part.contents.octets
 
--- an entry of the result list: a user's rejection, or an acceptance with the transfer syntax
+-- an entry of the result list: a rejection by the provider, or an acceptance with the transfer syntax
 abbrev pub outcome_fields : Parts → List Field
 outcome_fields parts = if refuses (leading refused_outcome parts) then refused_outcome else accepted_outcome
 

@@ -2,7 +2,6 @@
 -- identifiers, and no field that may be absent.
 use Rattle.std.specs.Prelude.{ℕ, ◌≡◌, ℤ, pos, Bool, true, false, ◌&&◌, List, [], ◌∷◌, map, Option, None, Some, if◌then◌else◌}
 use Rattle.std.specs.List.{list_all}
-use Rattle.std.specs.Option.{option_map}
 use Rattle.vf_ber.specs.Contents.{integer_octets, oid_octets}
 use Rattle.vf_ber.specs.Limits.{IsTooLarge}
 use Rattle.vf_ber.specs.Spelling.{spell}
@@ -81,11 +80,14 @@ application_context_name = holding (context 1) (object_identifier syntaxes.ftam 
 abbrev pub aarq : List Carried → Tree
 aarq values = holding (application 0) (application_context_name ∷ user_information values ∷ [])
 
+abbrev pub source : Tree
+source = holding (context 3) (holding (context 1) (integer (pos 0) ∷ []) ∷ [])
+
 abbrev pub aare : ℤ → List Carried → Tree
 aare result values = holding (application 1) (
     application_context_name ∷
     holding (context 2) (integer result ∷ []) ∷
-    holding (context 3) (holding (context 1) (integer (pos 0) ∷ []) ∷ []) ∷
+    source ∷
     user_information values ∷ [])
 
 abbrev pub rlrq : List Carried → Tree
@@ -99,10 +101,22 @@ abrt values = holding (application 4) (plain (context 0) (integer_octets (pos 0)
 
 -- ---- contexts
 
--- the first context of this syntax
+abbrev pub accepted : List ContextEntry → List Standing
+accepted contexts = map (stands true) contexts
+
+abbrev pub has_syntax : List ℕ → Option (List ℕ) → Bool
+has_syntax syntax None = false
+has_syntax syntax (Some other) = are_arcs other syntax
+
+-- the first identifier among these entries that is one of a context of this syntax
+abbrev pub id_among : List ContextEntry → List ℕ → List ContextEntry → Option ℤ
+id_among contexts syntax [] = None
+id_among contexts syntax (entry ∷ entries) =
+    if has_syntax syntax (syntax_of entry.id (accepted contexts)) then Some entry.id else id_among contexts syntax entries
+
+-- the first context of this syntax; of two with one identifier the first counts
 abbrev pub id_of : List ℕ → List ContextEntry → Option ℤ
-id_of syntax [] = None
-id_of syntax (entry ∷ entries) = if are_arcs entry.syntax syntax then Some entry.id else id_of syntax entries
+id_of syntax contexts = id_among contexts syntax contexts
 
 abbrev pub or_zero : Option ℤ → ℤ
 or_zero None = pos 0
@@ -147,9 +161,6 @@ abbrev pub has_pdu : List Standing → List ContextEntry → NumberLabel → Lis
 has_pdu standing contexts label [] = false
 has_pdu standing contexts label (value ∷ []) = suits_in standing AcseContext (acse_id contexts) && suits_in standing label value.context
 has_pdu standing contexts label (value ∷ other ∷ values) = false
-
-abbrev pub accepted : List ContextEntry → List Standing
-accepted contexts = map (stands true) contexts
 
 -- Its values stand in contexts that suit them. Of an association request these are the contexts that it offers, each in
 -- the basic encoding rules.

@@ -19,7 +19,7 @@ pub(crate) struct Front {
 }
 
 /// The value that the octets begin with, and how many of them it takes; or the place of the fault.
-fn value_in(alloc: Global, octets: &[u8]) -> Result<(Value, usize), Stop>
+pub(crate) fn value_in(alloc: Global, octets: &[u8]) -> Result<(Value, usize), Stop>
     ensures { IsValueIn octets.now result }
 {
     match vf_ber::read(alloc, octets) {

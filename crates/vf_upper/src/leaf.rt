@@ -75,7 +75,7 @@ pub(crate) fn integer(
     Ok(())
 }
 
-fn is_ber(oid: &Oid) -> bool
+pub(crate) fn is_ber(oid: &Oid) -> bool
     ensures { result ≡ are_arcs oid.now ber }
 {
     oid.arcs() == [2, 1, 1].as_slice()

@@ -1,23 +1,37 @@
 //! Presentation (ISO 8823) and ACSE (ISO 8650) as this profile carries them.
 #![tactic(auto)]
 
+mod acse;
 mod cargo;
+mod conclusion;
 mod contexts;
 mod errors;
+mod fields;
 mod form;
+mod held;
+mod holding;
 mod labels;
 mod leaf;
 mod marks;
 mod parts;
+mod placed;
+mod presentation;
 mod primitive;
+mod reading;
 mod results;
 mod segments;
+mod standing;
 mod table;
 mod text;
 mod values;
+mod walk;
+mod writing;
 
 pub use contexts::{ContextEntry, Contexts, Offer, Offers};
 pub use errors::UpperError;
+pub use placed::is_writable;
 pub use primitive::Primitive;
+pub use reading::read;
 pub use results::Results;
 pub use values::{CarriedValue, CarriedValues};
+pub use writing::write;

@@ -251,12 +251,15 @@ fn part_with<'a>(
     (part, rest)
 }
 
-/// The first part of a text, and what is behind it.
+/// The first part of a text, and what is behind it. An octet 00 is none.
 #[tactic(auto, unfolding(crate::specs::Parts::taken))]
 pub(crate) fn taken<'a>(text: Text<'a>) -> Option<(Part<'a>, Text<'a>)>
     ensures { option_map taken_of result ≡ taken_from (text_of text.entry) }
 {
     let (first, _) = first_of(text.octets)?;
+    if first == 0 {
+        return None;
+    }
     let Some(header) = header_at(text.octets) else {
         return Some(part_with(text, first, 0, cut_piece(&[])));
     };

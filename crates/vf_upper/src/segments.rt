@@ -1,5 +1,6 @@
 //! Octets in segments (ISO 8825, 8.7.3) with their places.
-ghost use Rattle.std.specs.Prelude.{◌≡◌, ◌+◌, ◌<◌, ◌≤◌, ◌^◌, [], false, IfOk, IfSome, drop, length};
+ghost use Rattle.std.specs.Prelude.{◌≡◌, ◌+◌, ◌<◌, ◌≤◌, ◌^◌, [], false, ◌++◌, IfOk, IfSome, OnOk, drop, length};
+ghost use Rattle.vf_upper.specs.HeldViews.{AreGathered, Breaks};
 ghost use Rattle.vf_upper.specs.SegmentViews.{IsConstructed, IsPiece, IsPrimitive, IsStep, no_segment, Shortens};
 ghost use Rattle.vf_upper.specs.Texts.{cut_to as cut, place_of, segments};
 ghost use Rattle.vf_upper.specs.Views.{text_of};
@@ -114,4 +115,52 @@ fn is_wrong(text: Text<'_>) -> bool
         [] => false,
         [first, ..] => *first != 0 && *first != 4 && *first != 36,
     }
+}
+
+fn append(out: &mut Vec<u8>, octets: &[u8]) -> Result<(), NoMemory>
+    ensures { OnOk result (out.new.items ≡ out.old.items ++ octets.now) }
+{
+    out.extend_from_slice(octets)?;
+    Ok(())
+}
+
+/// The octets of the segments of a text, in turn.
+pub(crate) fn gathered(alloc: Global, text: Text<'_>) -> Result<Vec<u8>, NoMemory>
+    ensures all { IfOk result (λ octets. AreGathered (text_of text.entry) octets.items) }
+    ensures within { IfOk result (λ octets. length octets.items ≤ length text.entry.octets.now) }
+{
+    let mut octets = Vec::new(alloc);
+    let mut rest = text;
+    while let Some((contents, behind)) = next_octets(rest) {
+        append(&mut octets, contents.octets)?;
+        rest = behind;
+    }
+    Ok(octets)
+}
+
+/// The place of a wrong segment of a text.
+pub(crate) fn wrong_among(text: Text<'_>) -> Option<u32>
+    ensures { Breaks (text_of text.entry) result }
+{
+    let mut rest = text;
+    while let Some((_contents, behind)) = next_octets(rest) {
+        rest = behind;
+    }
+    if is_wrong(rest) { Some(rest.at) } else { None }
+}
+
+/// The place of an octet of the segments of a text, by its offset; behind the last the place where they end.
+pub(crate) fn place_among(text: Text<'_>, end: u32, offset: usize) -> u32
+    ensures { result ≡ place_of (segments end (text_of text.entry)) offset }
+{
+    let mut rest = text;
+    let mut left = offset;
+    while let Some((contents, behind)) = next_octets(rest) {
+        if left < contents.octets.len() {
+            return contents.at + left as u32;
+        }
+        left -= contents.octets.len();
+        rest = behind;
+    }
+    if is_wrong(rest) { rest.at } else { end }
 }

@@ -1,6 +1,6 @@
 //! The fields of the types of presentation and ACSE.
-ghost use Rattle.std.specs.Prelude.{◌≡◌, ◌<◌, [], ◌∷◌, map, true};
-ghost use Rattle.vf_upper.specs.Rows.{apdu_in, apdu_tags, are_below, field_of, fields_read, listing_of, listing_rank, pair_of, rank, read_of, tags_of, type_of, type_rank};
+ghost use Rattle.std.specs.Prelude.{◌≡◌, ◌<◌, [], ◌∷◌, IfSome, map, true};
+ghost use Rattle.vf_upper.specs.Rows.{apdu_in, apdu_tags, are_below, field_of, fields_read, IsUserData, listing_of, listing_rank, pair_of, rank, read_of, skips, tags_of, type_of, type_rank};
 ghost use Rattle.vf_upper.specs.Forms.{sequence_of, set};
 ghost use Rattle.vf_upper.specs.Types.{accepted_outcome as accepted, refused_outcome as refused};
 
@@ -231,6 +231,7 @@ pub(crate) fn element(carrier: SpduKind, listing: Listing) -> Field
 pub(crate) fn apdu(carrier: SpduKind) -> Field
     ensures tags { tags_of result ≡ apdu_tags carrier }
     ensures read { read_of carrier result.form ≡ apdu_in carrier }
+    ensures required { result.is_required ≡ true }
     ensures below { rank result.form < 4 }
 {
     match carrier {
@@ -254,4 +255,61 @@ fn abrt() -> Field
     ensures { result ≡ record { class = 1; from = 4; to = 4; is_required = true; form = Form.Fields TypeName.Abrt } }
 {
     required!(APPLICATION, 4, Form::Fields(TypeName::Abrt))
+}
+
+/// Whether other fields of a type are skipped.
+pub(crate) fn skips_others(name: TypeName) -> bool
+    ensures { result ≡ skips name }
+{
+    match name {
+        TypeName::Mode => true,
+        TypeName::Parameters => true,
+        TypeName::Response => true,
+        TypeName::UserAbort => true,
+        TypeName::Resynchronization => true,
+        TypeName::Aarq => true,
+        TypeName::Aare => true,
+        TypeName::Release => true,
+        TypeName::Abrt => true,
+        TypeName::Proposal => false,
+        TypeName::AcseData => false,
+        TypeName::AcseList => false,
+        TypeName::OneData => false,
+        TypeName::OneList => false,
+        TypeName::DataList => false,
+        TypeName::ContextName => false,
+        TypeName::AareResult => false,
+        TypeName::Source => false,
+        TypeName::Reason => false,
+        TypeName::Information => false,
+        TypeName::External => false,
+    }
+}
+
+/// The value that user data are, where an SPDU may have any.
+pub(crate) fn user_data(carrier: SpduKind) -> Option<Field>
+    ensures data { IsUserData carrier result }
+    ensures required { IfSome result (λ field. field.is_required ≡ true) }
+{
+    match carrier {
+        SpduKind::CN => Some(required!(UNIVERSAL, 17, Form::Set(Pair::Cp))),
+        SpduKind::AC => Some(required!(UNIVERSAL, 17, Form::Set(Pair::Cpa))),
+        SpduKind::RF => Some(required!(UNIVERSAL, 16, Form::Fields(TypeName::Response))),
+        SpduKind::FN => Some(required!(APPLICATION, 1, Form::Fields(TypeName::AcseData))),
+        SpduKind::DN => Some(required!(APPLICATION, 1, Form::Fields(TypeName::AcseData))),
+        SpduKind::AB => Some(required!(CONTEXT, 0, Form::Fields(TypeName::UserAbort))),
+        SpduKind::DT => Some(required!(APPLICATION, 1, Form::Each(Listing::Data))),
+        SpduKind::RS => Some(resynchronization()),
+        SpduKind::RA => Some(resynchronization()),
+        SpduKind::AA => None,
+        SpduKind::GT => None,
+        SpduKind::MIP => None,
+        SpduKind::MIA => None,
+    }
+}
+
+fn resynchronization() -> Field
+    ensures { result ≡ record { class = 0; from = 16; to = 16; is_required = true; form = Form.Fields TypeName.Resynchronization } }
+{
+    required!(UNIVERSAL, 16, Form::Fields(TypeName::Resynchronization))
 }

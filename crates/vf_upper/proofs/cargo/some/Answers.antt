@@ -1,4 +1,4 @@
-use Rattle.std.proofs.Common.{◌+◌, ◌∙◌, length, not, ap, sym, arith}
+use Rattle.std.proofs.Common.{◌+◌, ◌∙◌, not, ap, sym, arith}
 use Rattle.vf_upper.specs.MarkViews.{marks_of}
 use Rattle.vf_upper.specs.Texts.{some as some_values}
 use Rattle.vf_upper.proofs.InTurn.{left, left_next, left_stops, some-at}

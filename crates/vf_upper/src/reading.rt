@@ -1,0 +1,78 @@
+//! Reading of user data.
+ghost use Rattle.std.specs.Prelude.{◌≡◌, []};
+ghost use Rattle.vf_upper.specs.Conclusions.{Answers};
+ghost use Rattle.vf_upper.specs.MarkViews.{Gives, marks_of};
+ghost use Rattle.vf_upper.specs.Primitives.{found_in, is_bare as bare, may_lack as may_be_absent, reading};
+ghost use Rattle.vf_upper.specs.Types.{cargo_of};
+
+use crate::conclusion::concluded;
+use crate::marks::{Marks, Stop};
+use crate::table::user_data;
+use crate::walk::typed;
+use crate::{Contexts, Primitive, UpperError};
+use std::alloc::Global;
+use vf_base::SpduKind;
+
+/// A refusal or an abort may have no user data.
+fn is_bare(carrier: SpduKind, octets: &[u8]) -> bool
+    ensures { result ≡ bare carrier octets.now }
+{
+    octets.is_empty() && may_lack(carrier)
+}
+
+fn may_lack(carrier: SpduKind) -> bool
+    ensures { result ≡ may_be_absent carrier }
+{
+    match carrier {
+        SpduKind::RF => true,
+        SpduKind::AB => true,
+        SpduKind::CN => false,
+        SpduKind::AC => false,
+        SpduKind::FN => false,
+        SpduKind::DN => false,
+        SpduKind::AA => false,
+        SpduKind::DT => false,
+        SpduKind::GT => false,
+        SpduKind::MIP => false,
+        SpduKind::MIA => false,
+        SpduKind::RS => false,
+        SpduKind::RA => false,
+    }
+}
+
+/// Finds what user data say.
+fn find(alloc: Global, carrier: SpduKind, octets: &[u8], found: &mut Marks) -> Result<(), Stop>
+    requires { marks_of found.old ≡ [] }
+    ensures { Gives result (marks_of found.new) (found_in (cargo_of carrier) octets.now) }
+{
+    let Some(field) = user_data(carrier) else {
+        return Err(Stop::At(0));
+    };
+    typed(alloc, carrier, field, octets, found)
+}
+
+/// The primitive that the user data of an SPDU are, with its values and their contexts (ISO 8823, 8.2; ISO 8650-1, 9;
+/// profile). A refusal or an abort without user data has no values.
+///
+/// `contexts` are the accepted ones; of AC and RF they are those that were proposed, in their order, and of CN none
+/// are asked for. `Grammar` exactly where some octet is the first that is a fault of the form, `Context` and
+/// `Application`, by the order of octets, exactly where the form is right and a value stands in a context that isn't
+/// accepted or isn't one for it, or the application context isn't that of FTAM.
+pub fn read(
+    alloc: Global,
+    carrier: SpduKind,
+    contexts: &Contexts,
+    octets: &[u8],
+) -> Result<Primitive, UpperError>
+    ensures { Answers result (reading carrier contexts.now octets.now) }
+{
+    let mut found = Marks::new(alloc);
+    if is_bare(carrier, octets) {
+        return concluded(alloc, carrier, contexts.as_slice(), found);
+    }
+    match find(alloc, carrier, octets, &mut found) {
+        Ok(()) => concluded(alloc, carrier, contexts.as_slice(), found),
+        Err(Stop::At(at)) => Err(UpperError::Grammar { at }),
+        Err(Stop::NoMemory) => Err(UpperError::NoMemory),
+    }
+}

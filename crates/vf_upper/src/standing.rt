@@ -1,0 +1,113 @@
+//! The contexts in which values stand, and their abstract syntaxes.
+ghost use Rattle.std.specs.Prelude.{◌≡◌, List, ◌∷◌, map, true};
+ghost use Rattle.std.specs.Option.{option_copied};
+ghost use Rattle.vf_upper.specs.Forms.{are_arcs};
+ghost use Rattle.vf_upper.specs.Primitives.{answered, offered, stands, syntax_of};
+ghost use Rattle.vf_upper.specs.Syntaxes.{acse, is_ours as ours_test, pci};
+ghost use Rattle.vf_upper.specs.Written.{acse_id as acse_context};
+
+use crate::{ContextEntry, Offer};
+use vf_base::Oid;
+
+pub(crate) fn is_acse(oid: &Oid) -> bool
+    ensures { result ≡ are_arcs oid.now acse }
+{
+    oid.arcs() == [2, 2, 1, 0, 1].as_slice()
+}
+
+pub(crate) fn is_pci(oid: &Oid) -> bool
+    ensures { result ≡ are_arcs oid.now pci }
+{
+    oid.arcs() == [1, 0, 8571, 2, 1].as_slice()
+}
+
+/// An abstract syntax that a called end accepts.
+fn is_ours(oid: &Oid) -> bool
+    ensures { result ≡ ours_test oid.now }
+{
+    let arcs = oid.arcs();
+    arcs == [2, 2, 1, 0, 1].as_slice()
+        || arcs == [1, 0, 8571, 2, 1].as_slice()
+        || arcs == [1, 0, 8571, 2, 2].as_slice()
+        || arcs == [1, 0, 8571, 2, 3].as_slice()
+        || arcs == [1, 0, 8571, 2, 4].as_slice()
+}
+
+/// The abstract syntax of an accepted context.
+pub(crate) fn accepted_syntax(contexts: &[ContextEntry], id: i64) -> Option<&Oid>
+    ensures { option_copied result ≡ syntax_of id (map (stands true) contexts.now) }
+{
+    let mut rest = contexts;
+    while let Some((entry, others)) = rest.split_first() {
+        if entry.id == id {
+            return Some(&entry.syntax);
+        }
+        rest = others;
+    }
+    None
+}
+
+/// The abstract syntax of a proposed context that its result accepts.
+pub(crate) fn answered_syntax<'a>(
+    contexts: &'a [ContextEntry],
+    results: &[bool],
+    id: i64,
+) -> Option<&'a Oid>
+    ensures { option_copied result ≡ syntax_of id (answered contexts.now results.now) }
+{
+    let mut rest = contexts;
+    let mut answers = results;
+    while let Some((entry, others)) = rest.split_first() {
+        let (accepted, behind) = answer(answers);
+        if entry.id == id {
+            return if accepted { Some(&entry.syntax) } else { None };
+        }
+        rest = others;
+        answers = behind;
+    }
+    None
+}
+
+/// The first result, and those behind it; a proposal without one isn't accepted.
+fn answer(results: &[bool]) -> (bool, &[bool])
+    ensures { (entry : ContextEntry) (entries : List ContextEntry) → answered (entry ∷ entries) results.now ≡ stands result.0 entry ∷ answered entries result.1.now }
+{
+    match results.split_first() {
+        Some((accepted, others)) => (*accepted, others),
+        None => (false, results),
+    }
+}
+
+/// The abstract syntax of a context of these proposals that a called end accepts.
+pub(crate) fn offered_syntax(offers: &[Offer], id: i64) -> Option<&Oid>
+    ensures { option_copied result ≡ syntax_of id (map offered offers.now) }
+{
+    let mut rest = offers;
+    while let Some((offer, others)) = rest.split_first() {
+        if offer.id == id {
+            return if offer.ber && is_ours(&offer.syntax) {
+                Some(&offer.syntax)
+            } else {
+                None
+            };
+        }
+        rest = others;
+    }
+    None
+}
+
+/// The first context of ACSE, or 0 where there is none.
+pub(crate) fn acse_id(contexts: &[ContextEntry]) -> i64
+    ensures { result ≡ acse_context contexts.now }
+{
+    let mut rest = contexts;
+    while let Some((entry, others)) = rest.split_first() {
+        if let Some(syntax) = accepted_syntax(contexts, entry.id)
+            && is_acse(syntax)
+        {
+            return entry.id;
+        }
+        rest = others;
+    }
+    0
+}
