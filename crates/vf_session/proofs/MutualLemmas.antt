@@ -1,17 +1,16 @@
 -- What one end may say the other end hears.
-use Rattle.std.proofs.Common.{◌≡◌, ℕ, ◌+◌, ◌≤◌, ◌<◌, Bool, true, false, cond, nat_eq, nat_le, nat_lt, max, ◌&&◌, ◌||◌, List, [], ◌∷◌, length, Option, Some, None, unwrap_or, is_none, if◌then◌else◌, refl, ap, sym, subst, ◌∙◌, arith}
+use Rattle.std.proofs.Common.{◌≡◌, ℕ, ◌+◌, ◌≤◌, Bool, true, false, cond, nat_eq, nat_le, nat_lt, ◌&&◌, ◌||◌, List, [], ◌∷◌, ◌++◌, length, Option, Some, None, unwrap_or, is_none, if◌then◌else◌, refl, ap, sym, subst, ◌∙◌, arith}
 use Rattle.std.proofs.lemmas.Bool.Decides.{nat_tests}
+use Rattle.std.specs.List.{AllByRecursion}
 use Rattle.std.specs.Option.{option_map}
-use Rattle.vf_base.specs.declared.spdu_kind.SpduKind.{SpduKind}
-use Rattle.vf_base.specs.declared.spdu_kind.SpduKind.TheVariants.{CN, AC, RF, FN, DN, AB, DT, GT, MIP, MIA, RS, RA}
+use Rattle.vf_base.specs.declared.spdu_kind.SpduKind.TheVariants.{CN, AC, RF, FN, DN, AB, DT, MIP, MIA, RS, RA}
 use Rattle.vf_session.specs.declared.errors.SessionError.TheVariants.{State, Token as TokenFault}
-use Rattle.vf_session.specs.declared.hearing.Hearing.{Hearing}
 use Rattle.vf_session.specs.declared.hearing.Hearing.TheVariants.{Nothing, Tells, Faulty}
 use Rattle.vf_session.specs.declared.phase.Phase.{Phase}
 use Rattle.vf_session.specs.declared.phase.Phase.TheVariants.{Idle, Asked, Open, Leaving, Left, Aborted, Over}
 use Rattle.vf_session.specs.declared.resync.Resync.{Resync}
-use Rattle.vf_session.specs.declared.spdu.Spdu.{Spdu}
-use Rattle.vf_session.specs.declared.spdu.SpduFields.{SpduFields}
+use Rattle.vf_spdu.specs.declared.spdu.Spdu.{Spdu}
+use Rattle.vf_spdu.specs.declared.spdu.SpduFields.{SpduFields}
 use Rattle.vf_session.specs.declared.standing.Standing.{Standing}
 use Rattle.vf_session.specs.declared.units.ResyncKind.{ResyncKind}
 use Rattle.vf_session.specs.declared.units.ResyncKind.TheVariants.{Restart, Abandon}
@@ -19,59 +18,36 @@ use Rattle.vf_session.specs.declared.units.SessionSay.{SessionSay}
 use Rattle.vf_session.specs.declared.units.SessionSay.TheVariants as say
 use Rattle.vf_session.specs.declared.units.TokenSide.{TokenSide}
 use Rattle.vf_session.specs.declared.units.TokenSide.TheVariants.{Initiator, Responder}
-use Rattle.vf_session.specs.Allowed.{IsAllowed}
-use Rattle.vf_session.specs.Fields.{no_fields}
-use Rattle.vf_session.specs.Hearing.{hears, hears_by, standing_hears, waiting_hears, allowed_hears, may_come, hears_data, owes, negation, is_idle, is_asked, is_open, is_leaving, is_left, is_over, token_heard, check_heard, acknowledgement_heard, resync_heard, resync_heard_by, resync_of, resync_told, kind_of, named, answer_heard, answers}
-use Rattle.vf_session.specs.Kinds.{code_of}
-use Rattle.vf_session.specs.Mutual.{told_first, told_by, heard_of, IsHeard}
+use Rattle.vf_session.specs.Advances.{advanced}
+use Rattle.vf_session.specs.Allowed.{IsAllowed, heard, IsRead, kept_of}
+use Rattle.vf_spdu.specs.Fields.{no_fields}
+use Rattle.vf_session.specs.Hearing.{hears, hears_by, standing_hears, waiting_hears, allowed_hears, may_come, hears_data, owes, negation, is_idle, is_asked, is_open, is_leaving, is_left, is_over, check_heard, acknowledgement_heard, resync_heard, resync_of, kind_of, named, answer_heard, answers}
+use Rattle.vf_session.specs.Mutual.{Fits, Agree, Begins, Turns, told_first, told_by, heard_of, with_all, IsHeard, Hears}
 use Rattle.vf_session.specs.Represents.{newest_resync}
-use Rattle.vf_session.specs.Saying.{may, is_allowed, fits, is_free, is_named, names_rightly, numbers_rightly, answers_rightly, answer_number, is_written, spdus, gt, units_fields, serial_fields, reason_fields, abort_fields, resync_code, token_item}
-use Rattle.vf_session.specs.Trace.{Entry, Trace, other, is_side, is_from, standing, phase, phase_told, agreed, proposed, first, next, oldest, token, resync, with_heard}
-use Rattle.vf_session.proofs.AllowedLemmas.{allowed-kept}
+use Rattle.vf_session.specs.Saying.{may, is_allowed, fits, is_free, names_rightly, numbers_rightly, answers_rightly, answer_number, is_written, spdus, gt, units_fields, serial_fields, reason_fields, abort_fields, resync_code, token_item}
+use Rattle.vf_spdu.specs.Kinds.{code_of, first_kind, second_kind}
+use Rattle.vf_spdu.specs.Spelling.{IsWritten, spelling}
+use Rattle.vf_spdu.proofs.RoundTrip.{reads-alone, reads-behind}
+use Rattle.vf_session.specs.Trace.{Trace, other, is_side, is_from, standing, phase, resync, token, settled, with_heard, with_said}
+use Rattle.vf_session.proofs.AllowedLemmas.{allowed-kept, bounds-of, stands-said, stands-heard}
 use Rattle.vf_session.proofs.GrowLemmas.{and_true}
+use Rattle.vf_session.proofs.SaidLemmas.{may-written}
 
 -- ---- the two ends' phases
 
-abbrev Mirrors : Phase → Phase → Type 0
-Mirrors Idle p = p ≡ Idle
-Mirrors Asked p = p ≡ Asked
-Mirrors Open p = p ≡ Open
-Mirrors Leaving p = p ≡ Left
-Mirrors Left p = p ≡ Leaving
-Mirrors Aborted p = is_over p ≡ true
-Mirrors Over p = is_over p ≡ true
-
-released : (own from : TokenSide) → Mirrors (cond (is_side own from) Leaving Left) (cond (is_side (other own) from) Leaving Left)
+released : (own from : TokenSide) → Fits (cond (is_side own from) Leaving Left) (cond (is_side (other own) from) Leaving Left)
 released Initiator Initiator = refl
 released Initiator Responder = refl
 released Responder Initiator = refl
 released Responder Responder = refl
 
-aborted : (own from : TokenSide) → Mirrors (cond (is_side own from) Aborted Over) (cond (is_side (other own) from) Aborted Over)
+aborted : (own from : TokenSide) → Fits (cond (is_side own from) Aborted Over) (cond (is_side (other own) from) Aborted Over)
 aborted Initiator Initiator = refl
 aborted Initiator Responder = refl
 aborted Responder Initiator = refl
 aborted Responder Responder = refl
 
-mirrored-by : (own from : TokenSide) (told : SessionSay) (p q : Phase) → Mirrors p q → Mirrors (unwrap_or (phase_told own from told) p) (unwrap_or (phase_told (other own) from told) q)
-mirrored-by own from (say.Connect sync n o) p q h = refl
-mirrored-by own from (say.Accept sync n o) p q h = refl
-mirrored-by own from (say.Refuse o) p q h = refl
-mirrored-by own from (say.Finish o) p q h = released own from
-mirrored-by own from (say.Finished o) p q h = refl
-mirrored-by own from (say.Data pass o) p q h = h
-mirrored-by own from (say.Check n) p q h = h
-mirrored-by own from (say.Acknowledge n) p q h = h
-mirrored-by own from (say.Resync kind n tok o) p q h = refl
-mirrored-by own from (say.Resynced n tok o) p q h = h
-mirrored-by own from (say.Abort o) p q h = aborted own from
-mirrored-by own from (say.Token to) p q h = h
-
-mirrored : (own : TokenSide) (trace : Trace) → Mirrors (phase own trace) (phase (other own) trace)
-mirrored own [] = refl
-mirrored own (entry ∷ earlier) = mirrored-by own entry.from entry.told (phase own earlier) (phase (other own) earlier) (mirrored own earlier)
-
-idle-seen : (p q : Phase) → Mirrors p q → is_idle p ≡ true → q ≡ Idle
+idle-seen : (p q : Phase) → Fits p q → is_idle p ≡ true → q ≡ Idle
 idle-seen Idle q m h = m
 idle-seen Asked q m h = absurd cc
 idle-seen Open q m h = absurd cc
@@ -80,7 +56,7 @@ idle-seen Left q m h = absurd cc
 idle-seen Aborted q m h = absurd cc
 idle-seen Over q m h = absurd cc
 
-asked-seen : (p q : Phase) → Mirrors p q → is_asked p ≡ true → q ≡ Asked
+asked-seen : (p q : Phase) → Fits p q → is_asked p ≡ true → q ≡ Asked
 asked-seen Idle q m h = absurd cc
 asked-seen Asked q m h = m
 asked-seen Open q m h = absurd cc
@@ -89,7 +65,7 @@ asked-seen Left q m h = absurd cc
 asked-seen Aborted q m h = absurd cc
 asked-seen Over q m h = absurd cc
 
-open-seen : (p q : Phase) → Mirrors p q → is_open p ≡ true → q ≡ Open
+open-seen : (p q : Phase) → Fits p q → is_open p ≡ true → q ≡ Open
 open-seen Idle q m h = absurd cc
 open-seen Asked q m h = absurd cc
 open-seen Open q m h = m
@@ -98,7 +74,7 @@ open-seen Left q m h = absurd cc
 open-seen Aborted q m h = absurd cc
 open-seen Over q m h = absurd cc
 
-left-seen : (p q : Phase) → Mirrors p q → is_left p ≡ true → q ≡ Leaving
+left-seen : (p q : Phase) → Fits p q → is_left p ≡ true → q ≡ Leaving
 left-seen Idle q m h = absurd cc
 left-seen Asked q m h = absurd cc
 left-seen Open q m h = absurd cc
@@ -107,7 +83,7 @@ left-seen Left q m h = m
 left-seen Aborted q m h = absurd cc
 left-seen Over q m h = absurd cc
 
-over-seen : (p q : Phase) → Mirrors p q → negation (is_over p) ≡ true → negation (is_over q) ≡ true
+over-seen : (p q : Phase) → Fits p q → negation (is_over p) ≡ true → negation (is_over q) ≡ true
 over-seen Idle q m h = ap (λ p. negation (is_over p)) m
 over-seen Asked q m h = ap (λ p. negation (is_over p)) m
 over-seen Open q m h = ap (λ p. negation (is_over p)) m
@@ -115,6 +91,49 @@ over-seen Leaving q m h = ap (λ p. negation (is_over p)) m
 over-seen Left q m h = ap (λ p. negation (is_over p)) m
 over-seen Aborted q m h = absurd cc
 over-seen Over q m h = absurd cc
+
+closed-seen : (p q : Phase) → Fits p q → is_open q ≡ false → is_open p ≡ false
+closed-seen Idle q m h = refl
+closed-seen Asked q m h = refl
+closed-seen Open q m h = sym (ap is_open m) ∙ h
+closed-seen Leaving q m h = refl
+closed-seen Left q m h = refl
+closed-seen Aborted q m h = refl
+closed-seen Over q m h = refl
+
+over-turned : (p q : Phase) → is_over p ≡ true → is_over q ≡ true → Fits q p
+over-turned p Aborted a b = a
+over-turned p Over a b = a
+over-turned p Idle a b = absurd cc
+over-turned p Asked a b = absurd cc
+over-turned p Open a b = absurd cc
+over-turned p Leaving a b = absurd cc
+over-turned p Left a b = absurd cc
+
+fits-turned : (p q : Phase) → Fits p q → Fits q p
+fits-turned Idle q m = let P : Phase → Type 0 = λ q. Fits q Idle in subst P (sym m) refl
+fits-turned Asked q m = let P : Phase → Type 0 = λ q. Fits q Asked in subst P (sym m) refl
+fits-turned Open q m = let P : Phase → Type 0 = λ q. Fits q Open in subst P (sym m) refl
+fits-turned Leaving q m = let P : Phase → Type 0 = λ q. Fits q Leaving in subst P (sym m) refl
+fits-turned Left q m = let P : Phase → Type 0 = λ q. Fits q Left in subst P (sym m) refl
+fits-turned Aborted q m = over-turned Aborted q refl m
+fits-turned Over q m = over-turned Over q refl m
+
+pub turns : (s s' : Standing) → Turns s s'
+turns s s' g =
+    record {
+      phases_fit = fits-turned s.phase s'.phase g.phases_fit;
+      proposed_is = sym g.proposed_is;
+      agreed_is = sym g.agreed_is;
+      first_is = sym g.first_is;
+      next_is = sym g.next_is;
+      oldest_is = sym g.oldest_is;
+      token_is = sym g.token_is;
+      resync_is = sym g.resync_is;
+    }
+
+pub begins : (own : TokenSide) → Begins own
+begins own = record { phases_fit = refl; proposed_is = refl; agreed_is = refl; first_is = refl; next_is = refl; oldest_is = refl; token_is = refl; resync_is = refl }
 
 -- ---- no RS waits
 
@@ -145,8 +164,9 @@ none-newest : (own : TokenSide) (trace : Trace) → is_open (phase own trace) �
 none-newest own [] h = refl
 none-newest own (entry ∷ earlier) h = none-told own entry.from entry.told earlier h
 
-closed-none : (own : TokenSide) (offer : Bool) (trace : Trace) → IsAllowed own offer trace → is_open (phase (other own) trace) ≡ false → resync trace ≡ None
-closed-none own offer trace a h = sym (newest own offer trace a) ∙ none-newest (other own) trace h
+closed-none : (own : TokenSide) (offer : Bool) (trace : Trace) (s' : Standing) → IsAllowed own offer trace → Agree (standing own trace) s' → is_open s'.phase ≡ false → s'.resync ≡ None
+closed-none own offer trace s' a g h =
+    sym g.resync_is ∙ sym (newest own offer trace a) ∙ none-newest own trace (closed-seen (phase own trace) s'.phase g.phases_fit h)
 
 -- ---- what SPDUs tell
 
@@ -201,53 +221,51 @@ kind-back Abandon = refl
 -- ---- each unit
 
 -- that which is free at one end is so at the other
-pub record Free (own : TokenSide) (trace : Trace) : Type 0 where
-  pub open_is : phase (other own) trace ≡ Open
-  pub none_is : resync trace ≡ None
+pub record Free (s : Standing) : Type 0 where
+  pub open_is : s.phase ≡ Open
+  pub none_is : s.resync ≡ None
 
-free : (own : TokenSide) (trace : Trace) → is_free (standing own trace) ≡ true → Free own trace
-free own trace h =
-    let parts = and_true (is_open (phase own trace)) (is_none (resync trace)) h in
-    record { open_is = open-seen (phase own trace) (phase (other own) trace) (mirrored own trace) parts.0; none_is = none_is (resync trace) parts.1 }
+free : (s s' : Standing) → Agree s s' → is_free s ≡ true → Free s'
+free s s' g h =
+    let parts = and_true (is_open s.phase) (is_none s.resync) h in
+    record { open_is = open-seen s.phase s'.phase g.phases_fit parts.0; none_is = sym g.resync_is ∙ none_is s.resync parts.1 }
 
-connect-heard : (own : TokenSide) (trace : Trace) (sync : Bool) (n : ℕ) (o : List ℕ) → is_side own Initiator ≡ true → phase (other own) trace ≡ Idle → resync trace ≡ None → n ≡ 1
-    → hears (other own) (standing (other own) trace) (record { kind = CN; fields = units_fields sync n; octets = o }) ≡ Tells (say.Connect sync n o)
-connect-heard Initiator trace true n o side p r e = comes Responder (standing Responder trace) (record { kind = CN; fields = units_fields true n; octets = o }) r (ap is_idle p)
-connect-heard Initiator trace false n o side p r e =
-    comes Responder (standing Responder trace) (record { kind = CN; fields = units_fields false n; octets = o }) r (ap is_idle p) ∙ ap (λ (k : ℕ). Tells (say.Connect false k o)) (sym e)
-connect-heard Responder trace sync n o side p r e = absurd cc
+connect-heard : (own : TokenSide) (s : Standing) (sync : Bool) (n : ℕ) (o : List ℕ) → is_side own Initiator ≡ true → s.phase ≡ Idle → s.resync ≡ None → n ≡ 1
+    → hears (other own) s (record { kind = CN; fields = units_fields sync n; octets = o }) ≡ Tells (say.Connect sync n o)
+connect-heard Initiator s true n o side p r e = comes Responder s (record { kind = CN; fields = units_fields true n; octets = o }) r (ap is_idle p)
+connect-heard Initiator s false n o side p r e =
+    comes Responder s (record { kind = CN; fields = units_fields false n; octets = o }) r (ap is_idle p) ∙ ap (λ (k : ℕ). Tells (say.Connect false k o)) (sym e)
+connect-heard Responder s sync n o side p r e = absurd cc
 
-accept-heard : (own : TokenSide) (trace : Trace) (sync : Bool) (n : ℕ) (o : List ℕ) → is_side own Responder ≡ true → phase (other own) trace ≡ Asked → resync trace ≡ None → cond sync (proposed trace) true ≡ true → n ≡ first trace
-    → hears (other own) (standing (other own) trace) (record { kind = AC; fields = units_fields sync n; octets = o }) ≡ Tells (say.Accept sync n o)
-accept-heard Responder trace true n o side p r a e =
-    comes Initiator (standing Initiator trace) (record { kind = AC; fields = units_fields true n; octets = o }) r (ap is_asked p) ∙ ap (λ (b : Bool). Tells (say.Accept b n o)) a
-accept-heard Responder trace false n o side p r a e =
-    comes Initiator (standing Initiator trace) (record { kind = AC; fields = units_fields false n; octets = o }) r (ap is_asked p) ∙ ap (λ (k : ℕ). Tells (say.Accept false k o)) (sym e)
-accept-heard Initiator trace sync n o side p r a e = absurd cc
+accept-heard : (own : TokenSide) (s : Standing) (sync : Bool) (n : ℕ) (o : List ℕ) → is_side own Responder ≡ true → s.phase ≡ Asked → s.resync ≡ None → cond sync s.proposed true ≡ true → n ≡ s.first
+    → hears (other own) s (record { kind = AC; fields = units_fields sync n; octets = o }) ≡ Tells (say.Accept sync n o)
+accept-heard Responder s true n o side p r a e =
+    comes Initiator s (record { kind = AC; fields = units_fields true n; octets = o }) r (ap is_asked p) ∙ ap (λ (b : Bool). Tells (say.Accept b n o)) a
+accept-heard Responder s false n o side p r a e =
+    comes Initiator s (record { kind = AC; fields = units_fields false n; octets = o }) r (ap is_asked p) ∙ ap (λ (k : ℕ). Tells (say.Accept false k o)) (sym e)
+accept-heard Initiator s sync n o side p r a e = absurd cc
 
-refuse-heard : (own : TokenSide) (trace : Trace) (reason : ℕ) (o : List ℕ) → is_side own Responder ≡ true → phase (other own) trace ≡ Asked → resync trace ≡ None
-    → hears (other own) (standing (other own) trace) (record { kind = RF; fields = reason_fields reason; octets = o }) ≡ Tells (say.Refuse o)
-refuse-heard Responder trace reason o side p r = comes Initiator (standing Initiator trace) (record { kind = RF; fields = reason_fields reason; octets = o }) r (ap is_asked p)
-refuse-heard Initiator trace reason o side p r = absurd cc
+refuse-heard : (own : TokenSide) (s : Standing) (reason : ℕ) (o : List ℕ) → is_side own Responder ≡ true → s.phase ≡ Asked → s.resync ≡ None
+    → hears (other own) s (record { kind = RF; fields = reason_fields reason; octets = o }) ≡ Tells (say.Refuse o)
+refuse-heard Responder s reason o side p r = comes Initiator s (record { kind = RF; fields = reason_fields reason; octets = o }) r (ap is_asked p)
+refuse-heard Initiator s reason o side p r = absurd cc
 
-finish-heard : (own : TokenSide) (trace : Trace) (o : List ℕ) → Free own trace → hears (other own) (standing (other own) trace) (record { kind = FN; fields = no_fields; octets = o }) ≡ Tells (say.Finish o)
-finish-heard own trace o f =
-    let O = other own in
-    let s = standing O trace in
-    let may : (is_open (phase O trace) && negation (is_from (other O) (resync trace))) ≡ true =
-    ap (λ (p : Phase). is_open p && negation (is_from (other O) (resync trace))) f.open_is ∙ ap (λ (r : Option Resync). negation (is_from (other O) r)) f.none_is in
-    comes O s (record { kind = FN; fields = no_fields; octets = o }) f.none_is may
+finish-heard : (own : TokenSide) (s : Standing) (o : List ℕ) → Free s → hears own s (record { kind = FN; fields = no_fields; octets = o }) ≡ Tells (say.Finish o)
+finish-heard own s o f =
+    let may : (is_open s.phase && negation (is_from (other own) s.resync)) ≡ true =
+    ap (λ (p : Phase). is_open p && negation (is_from (other own) s.resync)) f.open_is ∙ ap (λ (r : Option Resync). negation (is_from (other own) r)) f.none_is in
+    comes own s (record { kind = FN; fields = no_fields; octets = o }) f.none_is may
 
-finished-heard : (own : TokenSide) (trace : Trace) (o : List ℕ) → phase (other own) trace ≡ Leaving → resync trace ≡ None → hears (other own) (standing (other own) trace) (record { kind = DN; fields = no_fields; octets = o }) ≡ Tells (say.Finished o)
-finished-heard own trace o p r = comes (other own) (standing (other own) trace) (record { kind = DN; fields = no_fields; octets = o }) r (ap is_leaving p)
+finished-heard : (own : TokenSide) (s : Standing) (o : List ℕ) → s.phase ≡ Leaving → s.resync ≡ None → hears own s (record { kind = DN; fields = no_fields; octets = o }) ≡ Tells (say.Finished o)
+finished-heard own s o p r = comes own s (record { kind = DN; fields = no_fields; octets = o }) r (ap is_leaving p)
 
-data-heard : (own : TokenSide) (trace : Trace) (o : List ℕ) → phase own trace ≡ Open → resync trace ≡ None → hears own (standing own trace) (record { kind = DT; fields = no_fields; octets = o }) ≡ Tells (say.Data false o)
-data-heard own trace o p r = comes own (standing own trace) (record { kind = DT; fields = no_fields; octets = o }) r (data-comes own (standing own trace) p r)
+data-heard : (own : TokenSide) (s : Standing) (o : List ℕ) → Free s → hears own s (record { kind = DT; fields = no_fields; octets = o }) ≡ Tells (say.Data false o)
+data-heard own s o f = comes own s (record { kind = DT; fields = no_fields; octets = o }) f.none_is (data-comes own s f.open_is f.none_is)
 
 -- the token, from the end that has it
-passed : (own : TokenSide) (trace : Trace) → phase own trace ≡ Open → resync trace ≡ None → is_side (token trace) own ≡ false → hears own (standing own trace) (gt true) ≡ Tells (say.Token own)
-passed own trace p r t =
-    comes own (standing own trace) (gt true) r (data-comes own (standing own trace) p r)
+passed : (own : TokenSide) (s : Standing) → Free s → is_side s.token own ≡ false → hears own s (gt true) ≡ Tells (say.Token own)
+passed own s f t =
+    comes own s (gt true) f.none_is (data-comes own s f.open_is f.none_is)
     ∙ ap (λ (b : Bool). cond b (Faulty TokenFault) (Tells (say.Token own))) t
 
 check-told : (own : TokenSide) (s : Standing) (n : ℕ) → is_side s.token own ≡ false → n ≡ s.next → check_heard own s n ≡ Tells (say.Check n)
@@ -255,20 +273,18 @@ check-told own s n t e =
     let same : nat_eq n s.next ≡ true = grind (arith, nat_tests) in
     rw (t, same) refl
 
-check-heard : (own : TokenSide) (trace : Trace) (n : ℕ) → phase own trace ≡ Open → resync trace ≡ None → agreed trace ≡ true → is_side (token trace) own ≡ false → n ≡ next trace
-    → hears own (standing own trace) (record { kind = MIP; fields = serial_fields n; octets = [] }) ≡ Tells (say.Check n)
-check-heard own trace n p r a t e =
-    let s = standing own trace in
-    comes own s (record { kind = MIP; fields = serial_fields n; octets = [] }) r (sync-comes own s p r a) ∙ check-told own s n t e
+check-heard : (own : TokenSide) (s : Standing) (n : ℕ) → Free s → s.agreed ≡ true → is_side s.token own ≡ false → n ≡ s.next
+    → hears own s (record { kind = MIP; fields = serial_fields n; octets = [] }) ≡ Tells (say.Check n)
+check-heard own s n f a t e =
+    comes own s (record { kind = MIP; fields = serial_fields n; octets = [] }) f.none_is (sync-comes own s f.open_is f.none_is a) ∙ check-told own s n t e
 
 acknowledgement-told : (s : Standing) (n : ℕ) → nat_le s.oldest n ≡ true → nat_lt n s.next ≡ true → acknowledgement_heard s n ≡ Tells (say.Acknowledge n)
 acknowledgement-told s n l h = rw (l, h) refl
 
-acknowledgement-heard : (own : TokenSide) (trace : Trace) (n : ℕ) → phase own trace ≡ Open → resync trace ≡ None → agreed trace ≡ true → nat_le (oldest trace) n ≡ true → nat_lt n (next trace) ≡ true
-    → hears own (standing own trace) (record { kind = MIA; fields = serial_fields n; octets = [] }) ≡ Tells (say.Acknowledge n)
-acknowledgement-heard own trace n p r a l h =
-    let s = standing own trace in
-    comes own s (record { kind = MIA; fields = serial_fields n; octets = [] }) r (sync-comes own s p r a) ∙ acknowledgement-told s n l h
+acknowledgement-heard : (own : TokenSide) (s : Standing) (n : ℕ) → Free s → s.agreed ≡ true → nat_le s.oldest n ≡ true → nat_lt n s.next ≡ true
+    → hears own s (record { kind = MIA; fields = serial_fields n; octets = [] }) ≡ Tells (say.Acknowledge n)
+acknowledgement-heard own s n f a l h =
+    comes own s (record { kind = MIA; fields = serial_fields n; octets = [] }) f.none_is (sync-comes own s f.open_is f.none_is a) ∙ acknowledgement-told s n l h
 
 -- the fields of an RS and of an RA
 abbrev rs : TokenSide → ResyncKind → ℕ → Option TokenSide → SpduFields
@@ -288,17 +304,16 @@ resync-told : (s : Standing) (from : TokenSide) (kind : ResyncKind) (n : ℕ) (t
 resync-told s from Restart n tok o h = rw h refl
 resync-told s from Abandon n tok o h = refl
 
-resync-heard : (own : TokenSide) (trace : Trace) (kind : ResyncKind) (n : ℕ) (tok : Option TokenSide) (o : List ℕ) → phase (other own) trace ≡ Open → resync trace ≡ None → agreed trace ≡ true → numbers_rightly kind (standing (other own) trace) n ≡ true
-    → hears (other own) (standing (other own) trace) (record { kind = RS; fields = rs own kind n tok; octets = o }) ≡ Tells (say.Resync kind n tok o)
-resync-heard own trace kind n tok o p r a h =
+resync-heard : (own : TokenSide) (s : Standing) (kind : ResyncKind) (n : ℕ) (tok : Option TokenSide) (o : List ℕ) → Free s → s.agreed ≡ true → numbers_rightly kind s n ≡ true
+    → hears (other own) s (record { kind = RS; fields = rs own kind n tok; octets = o }) ≡ Tells (say.Resync kind n tok o)
+resync-heard own s kind n tok o f a h =
     let O = other own in
-    let s = standing O trace in
-    comes O s (record { kind = RS; fields = rs own kind n tok; octets = o }) r (sync-comes O s p r a)
+    comes O s (record { kind = RS; fields = rs own kind n tok; octets = o }) f.none_is (sync-comes O s f.open_is f.none_is a)
     ∙ ap (λ (r : Resync). resync_heard s r o) (asked-for own kind n tok) ∙ resync-told s (other O) kind n tok o h
 
-numbers-same : (kind : ResyncKind) (own : TokenSide) (trace : Trace) (n : ℕ) → numbers_rightly kind (standing own trace) n ≡ true → numbers_rightly kind (standing (other own) trace) n ≡ true
-numbers-same Restart own trace n h = h
-numbers-same Abandon own trace n h = h
+numbers-same : (kind : ResyncKind) (s s' : Standing) (n : ℕ) → s.next ≡ s'.next → numbers_rightly kind s n ≡ true → numbers_rightly kind s' n ≡ true
+numbers-same Restart s s' n e h = sym (ap (nat_le n) e) ∙ h
+numbers-same Abandon s s' n e h = sym (ap (nat_eq n) e) ∙ h
 
 -- while the other end's RS waits
 waits : (own : TokenSide) (s : Standing) (spdu : Spdu) (r : Resync) → s.resync ≡ Some r → is_side own r.from ≡ true → hears own s spdu ≡ waiting_hears own r spdu.fields spdu.octets spdu.kind
@@ -317,23 +332,27 @@ answer-told own r n tok o h =
     let b = named-back own tok in
     rw (h, b) refl
 
-answer-heard : (own : TokenSide) (trace : Trace) (r : Resync) (n : ℕ) (tok : Option TokenSide) (o : List ℕ) → resync trace ≡ Some r → is_side (other own) r.from ≡ true → n ≡ answer_number r.kind r.serial (next trace)
-    → told_by (other own) trace (gt false ∷ record { kind = RA; fields = ra own n tok; octets = o } ∷ []) ≡ Some (say.Resynced n tok o ∷ [])
-answer-heard own trace r n tok o e side m =
-    let O = other own in
-    let s = standing O trace in
-    let spdu : Spdu = record { kind = RA; fields = ra own n tok; octets = o } in
-    told-behind O trace (gt false) spdu (say.Resynced n tok o) (waits O s (gt false) r e side)
-    (waits O s spdu r e side ∙ answer-told own r n tok o (answered r.kind r.serial (next trace) n m))
+-- an RA, and the GT in front of it
+pub record Answered (own : TokenSide) (s : Standing) (n : ℕ) (tok : Option TokenSide) (o : List ℕ) : Type 0 where
+  pub silent : hears (other own) s (gt false) ≡ Nothing
+  pub tells : hears (other own) s (record { kind = RA; fields = ra own n tok; octets = o }) ≡ Tells (say.Resynced n tok o)
 
-answer-by : (own : TokenSide) (trace : Trace) (waiting : Option Resync) (n : ℕ) (tok : Option TokenSide) (o : List ℕ) → resync trace ≡ waiting → answers_rightly own (standing own trace) waiting n tok ≡ true
-    → told_by (other own) trace (gt false ∷ record { kind = RA; fields = ra own n tok; octets = o } ∷ []) ≡ Some (say.Resynced n tok o ∷ [])
-answer-by own trace None n tok o e h = absurd cc
-answer-by own trace (Some r) n tok o e h =
-    let names = and_true (is_side (other own) r.from && nat_eq n (answer_number r.kind r.serial (next trace))) (names_rightly r.kind (standing own trace) tok) h in
-    let numbers = and_true (is_side (other own) r.from) (nat_eq n (answer_number r.kind r.serial (next trace))) names.0 in
-    let test : nat_eq n (answer_number r.kind r.serial (next trace)) ≡ true = numbers.1 in
-    answer-heard own trace r n tok o e numbers.0 (grind (arith, nat_tests))
+answer-heard : (own : TokenSide) (s : Standing) (next : ℕ) (r : Resync) (n : ℕ) (tok : Option TokenSide) (o : List ℕ) → s.resync ≡ Some r → is_side (other own) r.from ≡ true → n ≡ answer_number r.kind r.serial next → Answered own s n tok o
+answer-heard own s next r n tok o e side m =
+    let O = other own in
+    let spdu : Spdu = record { kind = RA; fields = ra own n tok; octets = o } in
+    record {
+      silent = waits O s (gt false) r e side;
+      tells = waits O s spdu r e side ∙ answer-told own r n tok o (answered r.kind r.serial next n m);
+    }
+
+answer-by : (own : TokenSide) (s s' : Standing) (waiting : Option Resync) (n : ℕ) (tok : Option TokenSide) (o : List ℕ) → s'.resync ≡ waiting → answers_rightly own s waiting n tok ≡ true → Answered own s' n tok o
+answer-by own s s' None n tok o e h = absurd cc
+answer-by own s s' (Some r) n tok o e h =
+    let names = and_true (is_side (other own) r.from && nat_eq n (answer_number r.kind r.serial s.next)) (names_rightly r.kind s tok) h in
+    let numbers = and_true (is_side (other own) r.from) (nat_eq n (answer_number r.kind r.serial s.next)) names.0 in
+    let test : nat_eq n (answer_number r.kind r.serial s.next) ≡ true = numbers.1 in
+    answer-heard own s' s.next r n tok o e numbers.0 (grind (arith, nat_tests))
 
 -- an abort, whatever waits
 abort-side : (own : TokenSide) (s : Standing) (fields : SpduFields) (o : List ℕ) (b : Bool) → negation (is_over s.phase) ≡ true → cond b (Tells (say.Abort o)) (standing_hears own s fields o AB) ≡ Tells (say.Abort o)
@@ -344,107 +363,263 @@ abort-by : (own : TokenSide) (s : Standing) (fields : SpduFields) (o : List ℕ)
 abort-by own s fields o None h = ap (λ (b : Bool). cond b (Tells (say.Abort o)) (Faulty (State (code_of AB)))) h
 abort-by own s fields o (Some r) h = abort-side own s fields o (is_side own r.from) h
 
+-- ---- what the two ends have then
+
+named-some : (kind : ResyncKind) (s : Standing) (tok : Option TokenSide) (a b : TokenSide) → names_rightly kind s tok ≡ true → unwrap_or tok a ≡ unwrap_or tok b
+named-some Restart s None a b h = absurd cc
+named-some Abandon s None a b h = absurd cc
+named-some kind s (Some t) a b h = refl
+
+abbrev Names : Standing → SessionSay → Type 0
+Names s (say.Resync kind n tok o) = names_rightly kind s tok ≡ true
+Names s said = Unit {0}
+
+-- by a unit that is heard as it was said
+after-agree : (own a b : TokenSide) (s s' : Standing) (u : SessionSay) → Agree s s' → Names s u → Agree (advanced own own a s u) (advanced (other own) own b s' u)
+after-agree own a b s s' (say.Connect sync n o) g k = record { phases_fit = refl; proposed_is = refl; agreed_is = g.agreed_is; first_is = refl; next_is = refl; oldest_is = refl; token_is = g.token_is; resync_is = refl }
+after-agree own a b s s' (say.Accept sync n o) g k = record { phases_fit = refl; proposed_is = g.proposed_is; agreed_is = refl; first_is = refl; next_is = refl; oldest_is = refl; token_is = g.token_is; resync_is = refl }
+after-agree own a b s s' (say.Refuse o) g k = record { phases_fit = refl; proposed_is = g.proposed_is; agreed_is = g.agreed_is; first_is = g.first_is; next_is = g.next_is; oldest_is = g.oldest_is; token_is = g.token_is; resync_is = refl }
+after-agree own a b s s' (say.Finish o) g k = record { phases_fit = released own own; proposed_is = g.proposed_is; agreed_is = g.agreed_is; first_is = g.first_is; next_is = g.next_is; oldest_is = g.oldest_is; token_is = g.token_is; resync_is = g.resync_is }
+after-agree own a b s s' (say.Finished o) g k = record { phases_fit = refl; proposed_is = g.proposed_is; agreed_is = g.agreed_is; first_is = g.first_is; next_is = g.next_is; oldest_is = g.oldest_is; token_is = g.token_is; resync_is = refl }
+after-agree own a b s s' (say.Data pass o) g k = record { phases_fit = g.phases_fit; proposed_is = g.proposed_is; agreed_is = g.agreed_is; first_is = g.first_is; next_is = g.next_is; oldest_is = g.oldest_is; token_is = ap (cond pass (other own)) g.token_is; resync_is = g.resync_is }
+after-agree own a b s s' (say.Check n) g k = record { phases_fit = g.phases_fit; proposed_is = g.proposed_is; agreed_is = g.agreed_is; first_is = g.first_is; next_is = refl; oldest_is = g.oldest_is; token_is = g.token_is; resync_is = g.resync_is }
+after-agree own a b s s' (say.Acknowledge n) g k = record { phases_fit = g.phases_fit; proposed_is = g.proposed_is; agreed_is = g.agreed_is; first_is = g.first_is; next_is = g.next_is; oldest_is = refl; token_is = g.token_is; resync_is = g.resync_is }
+after-agree own a b s s' (say.Resync kind n tok o) g k = record { phases_fit = refl; proposed_is = g.proposed_is; agreed_is = g.agreed_is; first_is = g.first_is; next_is = g.next_is; oldest_is = g.oldest_is; token_is = named-some kind s tok a b k; resync_is = refl }
+after-agree own a b s s' (say.Resynced n tok o) g k = record { phases_fit = g.phases_fit; proposed_is = g.proposed_is; agreed_is = g.agreed_is; first_is = g.first_is; next_is = refl; oldest_is = refl; token_is = ap (unwrap_or tok) g.token_is; resync_is = refl }
+after-agree own a b s s' (say.Abort o) g k = record { phases_fit = aborted own own; proposed_is = g.proposed_is; agreed_is = g.agreed_is; first_is = g.first_is; next_is = g.next_is; oldest_is = g.oldest_is; token_is = g.token_is; resync_is = refl }
+after-agree own a b s s' (say.Token to) g k = record { phases_fit = g.phases_fit; proposed_is = g.proposed_is; agreed_is = g.agreed_is; first_is = g.first_is; next_is = g.next_is; oldest_is = g.oldest_is; token_is = refl; resync_is = g.resync_is }
+
+-- by the token and the data behind it
+pass-agree : (own a b c : TokenSide) (s s' : Standing) (o : List ℕ) → Agree s s'
+    → Agree (advanced own own a s (say.Data true o)) (advanced (other own) own c (advanced (other own) own b s' (say.Token (other own))) (say.Data false o))
+pass-agree own a b c s s' o g = record { phases_fit = g.phases_fit; proposed_is = g.proposed_is; agreed_is = g.agreed_is; first_is = g.first_is; next_is = g.next_is; oldest_is = g.oldest_is; token_is = refl; resync_is = g.resync_is }
+
+other-twice : (own : TokenSide) → other (other own) ≡ own
+other-twice Initiator = refl
+other-twice Responder = refl
+
+-- where the other end stands then
+stands-then : (own : TokenSide) (offer : Bool) (trace : Trace) (spdu : Spdu) (unit : SessionSay) → IsAllowed (other own) offer trace → IsRead spdu → hears (other own) (standing (other own) trace) spdu ≡ Tells unit
+    → standing (other own) (with_heard (other own) unit trace) ≡ advanced (other own) own (token (settled trace)) (standing (other own) trace) unit
+stands-then own offer trace spdu unit a r h =
+    stands-heard (other own) offer trace spdu unit a r h
+    ∙ ap (λ (from : TokenSide). advanced (other own) from (token (settled trace)) (standing (other own) trace) unit) (other-twice own)
+
+-- ---- the SPDUs that were said
+
+read-alone : (spdu : Spdu) → IsWritten spdu → first_kind (code_of spdu.kind) ≡ Some spdu.kind → IsRead spdu
+read-alone spdu w k = (spelling spdu, [], [], reads-alone spdu w k)
+
+read-behind : (spdu : Spdu) → IsWritten (gt false) → IsWritten spdu → second_kind (code_of spdu.kind) ≡ Some spdu.kind → IsRead spdu
+read-behind spdu g w k = (spelling (gt false) ++ spelling spdu, gt false ∷ [], [], reads-behind (gt false) spdu g refl w k)
+
+-- a unit that is heard as it was said
+pub record Passes (own : TokenSide) (trace : Trace) (said : SessionSay) : Type 0 where
+  pub spdu : Spdu
+  pub told : told_by (other own) trace (spdus own said) ≡ Some (said ∷ [])
+  pub tells : hears (other own) (standing (other own) trace) spdu ≡ Tells said
+  pub read : IsRead spdu
+
+alone : (own : TokenSide) (trace : Trace) (said : SessionSay) (spdu : Spdu) → spdus own said ≡ spdu ∷ [] → AllByRecursion IsWritten (spdus own said) → first_kind (code_of spdu.kind) ≡ Some spdu.kind
+    → hears (other own) (standing (other own) trace) spdu ≡ Tells said → Passes own trace said
+alone own trace said spdu e w k h =
+    let P : List Spdu → Type 0 = λ l. AllByRecursion IsWritten l in
+    record { spdu = spdu; told = ap (told_by (other own) trace) e ∙ told-one (other own) trace spdu said h; tells = h; read = read-alone spdu (subst P e w).0 k }
+
+behind : (own : TokenSide) (trace : Trace) (said : SessionSay) (spdu : Spdu) → spdus own said ≡ gt false ∷ spdu ∷ [] → AllByRecursion IsWritten (spdus own said) → second_kind (code_of spdu.kind) ≡ Some spdu.kind
+    → hears (other own) (standing (other own) trace) (gt false) ≡ Nothing → hears (other own) (standing (other own) trace) spdu ≡ Tells said → Passes own trace said
+behind own trace said spdu e w k g h =
+    let P : List Spdu → Type 0 = λ l. AllByRecursion IsWritten l in
+    let both = subst P e w in
+    record { spdu = spdu; told = ap (told_by (other own) trace) e ∙ told-behind (other own) trace (gt false) spdu said g h; tells = h; read = read-behind spdu both.0 both.1.0 k }
+
 -- ---- all of them
 
 equal : (a b : ℕ) → nat_eq a b ≡ true → a ≡ b
 equal a b h = grind (arith, nat_tests)
 
-data-said : (own : TokenSide) (trace : Trace) (pass : Bool) (o : List ℕ) → Free own trace → cond pass (agreed trace && is_side (token trace) own) true ≡ true
-    → told_by (other own) trace (spdus own (say.Data pass o)) ≡ Some (heard_of own (say.Data pass o))
-data-said own trace false o f h =
-    let O = other own in
-    told-behind O trace (gt false) (record { kind = DT; fields = no_fields; octets = o }) (say.Data false o) (gt-silent O (standing O trace) f.open_is f.none_is) (data-heard O trace o f.open_is f.none_is)
-data-said own trace true o f h =
-    let O = other own in
-    let t = not-side own (token trace) (and_true (agreed trace) (is_side (token trace) own) h).1 in
-    let dt : Spdu = record { kind = DT; fields = no_fields; octets = o } in
-    let after : Trace = record { from = other O; told = say.Token O } ∷ trace in
-    ap (told_first O trace (λ trace. told_by O trace (dt ∷ []))) (passed O trace f.open_is f.none_is t)
-    ∙ ap (option_map (λ units. say.Token O ∷ units)) (told-one O after dt (say.Data false o) (data-heard O after o f.open_is f.none_is))
+-- what stands at both ends before
+pub record Before (own : TokenSide) (offer offer' : Bool) (trace trace' : Trace) (said : SessionSay) : Type 0 where
+  pub mine : IsAllowed own offer trace
+  pub theirs : IsAllowed (other own) offer' trace'
+  pub agree : Agree (standing own trace) (standing (other own) trace')
+  pub may_say : may own offer (standing own trace) said ≡ true
 
-pub said-heard : (own : TokenSide) (offer : Bool) (trace : Trace) (said : SessionSay) → IsHeard own offer trace said
-said-heard own offer trace (say.Connect sync n o) a m =
+written-of : (own : TokenSide) (offer offer' : Bool) (trace trace' : Trace) (said : SessionSay) → Before own offer offer' trace trace' said → AllByRecursion IsWritten (spdus own said)
+written-of own offer offer' trace trace' said b =
+    may-written (kept_of own offer trace) (kept_of own offer trace) said refl (bounds-of own offer trace (allowed-kept own offer trace b.mine)) b.may_say
+
+heard-as-said : (own : TokenSide) (offer offer' : Bool) (trace trace' : Trace) (said : SessionSay) → Before own offer offer' trace trace' said → Names (standing own trace) said → heard_of own said ≡ said ∷ [] → Passes own trace' said
+    → IsHeard own offer' trace trace' said
+heard-as-said own offer offer' trace trace' said b names e p =
+    let O = other own in
+    let after = with_heard O said trace' in
+    let mine = stands-said own offer trace said b.mine b.may_say in
+    let theirs = stands-then own offer' trace' p.spdu said b.theirs p.read p.tells in
+    let agree : Agree (standing own (with_said own said trace)) (standing O after) =
+    let P : Standing → Type 0 = λ s. Agree s (standing O after) in
+    let Q : Standing → Type 0 = λ s. Agree (advanced own own (token (settled trace)) (standing own trace) said) s in
+    subst P (sym mine) (subst Q (sym theirs) (after-agree own (token (settled trace)) (token (settled trace')) (standing own trace) (standing O trace') said b.agree names)) in
+    let allowed : IsAllowed O offer' after = heard trace' p.spdu said b.theirs p.read p.tells in
+    let R : List SessionSay → Type 0 = λ units. Agree (standing own (with_said own said trace)) (standing O (with_all O units trace')) in
+    let S : List SessionSay → Type 0 = λ units. IsAllowed O offer' (with_all O units trace') in
+    record { told = p.told ∙ ap (λ (units : List SessionSay). Some units) (sym e); agree = subst R (sym e) agree; allowed = subst S (sym e) allowed }
+
+-- the token and the data behind it
+heard-passed : (own : TokenSide) (offer offer' : Bool) (trace trace' : Trace) (o : List ℕ) → Before own offer offer' trace trace' (say.Data true o) → IsHeard own offer' trace trace' (say.Data true o)
+heard-passed own offer offer' trace trace' o b =
     let O = other own in
     let s = standing own trace in
-    let allowed = (and_true (is_allowed own offer s (say.Connect sync n o)) (fits own (say.Connect sync n o)) m).0 in
+    let s' = standing O trace' in
+    let allowed = (and_true (is_allowed own offer s (say.Data true o)) (fits own (say.Data true o)) b.may_say).0 in
+    let parts = and_true (is_free s) (s.agreed && is_side s.token own) allowed in
+    let f = free s s' b.agree parts.0 in
+    let holder : is_side s'.token own ≡ true = sym (ap (λ (t : TokenSide). is_side t own) b.agree.token_is) ∙ (and_true s.agreed (is_side s.token own) parts.1).1 in
+    let dt : Spdu = record { kind = DT; fields = no_fields; octets = o } in
+    let w = written-of own offer offer' trace trace' (say.Data true o) b in
+    let gt-tells = passed O s' f (not-side own s'.token holder) in
+    let gt-read : IsRead (gt true) = (spelling (gt true) ++ spelling dt, [], dt ∷ [], reads-behind (gt true) dt w.0 refl w.1.0 refl) in
+    let dt-read : IsRead dt = (spelling (gt true) ++ spelling dt, gt true ∷ [], [], reads-behind (gt true) dt w.0 refl w.1.0 refl) in
+    let middle = with_heard O (say.Token O) trace' in
+    let middle-allowed : IsAllowed O offer' middle = heard trace' (gt true) (say.Token O) b.theirs gt-read gt-tells in
+    let still : Free (standing O middle) = record { open_is = f.open_is; none_is = f.none_is } in
+    let dt-tells = data-heard O (standing O middle) o still in
+    let after = with_heard O (say.Data false o) middle in
+    let mine = stands-said own offer trace (say.Data true o) b.mine b.may_say in
+    let first = stands-then own offer' trace' (gt true) (say.Token O) b.theirs gt-read gt-tells in
+    let second = stands-then own offer' middle dt (say.Data false o) middle-allowed dt-read dt-tells in
+    let P : Standing → Type 0 = λ x. Agree x (standing O after) in
+    let Q : Standing → Type 0 = λ x. Agree (advanced own own (token (settled trace)) s (say.Data true o)) x in
+    let R : Standing → Type 0 = λ x. Agree (advanced own own (token (settled trace)) s (say.Data true o)) (advanced O own (token (settled middle)) x (say.Data false o)) in
+    record {
+      told = ap (told_first O trace' (λ trace. told_by O trace (dt ∷ []))) gt-tells ∙ ap (option_map (λ units. say.Token O ∷ units)) (told-one O middle dt (say.Data false o) dt-tells);
+      agree = subst P (sym mine) (subst Q (sym second) (subst R (sym first) (pass-agree own (token (settled trace)) (token (settled trace')) (token (settled middle)) s s' o b.agree)));
+      allowed = heard middle dt (say.Data false o) middle-allowed dt-read dt-tells;
+    }
+
+said-by : (own : TokenSide) (offer offer' : Bool) (trace trace' : Trace) (said : SessionSay) → Before own offer offer' trace trace' said → IsHeard own offer' trace trace' said
+said-by own offer offer' trace trace' (say.Connect sync n o) b =
+    let O = other own in
+    let s = standing own trace in
+    let s' = standing O trace' in
+    let allowed = (and_true (is_allowed own offer s (say.Connect sync n o)) (fits own (say.Connect sync n o)) b.may_say).0 in
     let number = and_true _ (nat_eq n 1) (and_true _ (nat_le (length o) 10240) allowed).0 in
     let proposal = and_true (is_side own Initiator && is_idle s.phase) _ number.0 in
     let side = and_true (is_side own Initiator) (is_idle s.phase) proposal.0 in
-    let idle = idle-seen s.phase (phase O trace) (mirrored own trace) side.1 in
-    told-one O trace (record { kind = CN; fields = units_fields sync n; octets = o }) (say.Connect sync n o)
-    (connect-heard own trace sync n o side.0 idle (closed-none own offer trace a (ap is_open idle)) (equal n 1 number.1))
-said-heard own offer trace (say.Accept sync n o) a m =
+    let idle = idle-seen s.phase s'.phase b.agree.phases_fit side.1 in
+    heard-as-said own offer offer' trace trace' (say.Connect sync n o) b tt refl
+    (alone own trace' (say.Connect sync n o) (record { kind = CN; fields = units_fields sync n; octets = o }) refl (written-of own offer offer' trace trace' (say.Connect sync n o) b) refl
+    (connect-heard own s' sync n o side.0 idle (closed-none own offer trace s' b.mine b.agree (ap is_open idle)) (equal n 1 number.1)))
+said-by own offer offer' trace trace' (say.Accept sync n o) b =
     let O = other own in
     let s = standing own trace in
-    let allowed = (and_true (is_allowed own offer s (say.Accept sync n o)) (fits own (say.Accept sync n o)) m).0 in
+    let s' = standing O trace' in
+    let allowed = (and_true (is_allowed own offer s (say.Accept sync n o)) (fits own (say.Accept sync n o)) b.may_say).0 in
     let number = and_true _ (nat_eq n s.first) allowed in
     let agreement = and_true (is_side own Responder && is_asked s.phase) _ number.0 in
     let side = and_true (is_side own Responder) (is_asked s.phase) agreement.0 in
-    let asked = asked-seen s.phase (phase O trace) (mirrored own trace) side.1 in
-    told-one O trace (record { kind = AC; fields = units_fields sync n; octets = o }) (say.Accept sync n o)
-    (accept-heard own trace sync n o side.0 asked (closed-none own offer trace a (ap is_open asked)) agreement.1 (equal n (first trace) number.1))
-said-heard own offer trace (say.Refuse o) a m =
+    let asked = asked-seen s.phase s'.phase b.agree.phases_fit side.1 in
+    heard-as-said own offer offer' trace trace' (say.Accept sync n o) b tt refl
+    (alone own trace' (say.Accept sync n o) (record { kind = AC; fields = units_fields sync n; octets = o }) refl (written-of own offer offer' trace trace' (say.Accept sync n o) b) refl
+    (accept-heard own s' sync n o side.0 asked (closed-none own offer trace s' b.mine b.agree (ap is_open asked)) (sym (ap (λ (p : Bool). cond sync p true) b.agree.proposed_is) ∙ agreement.1) (equal n s.first number.1 ∙ b.agree.first_is)))
+said-by own offer offer' trace trace' (say.Refuse o) b =
     let O = other own in
     let s = standing own trace in
-    let side = and_true (is_side own Responder) (is_asked s.phase) (and_true (is_allowed own offer s (say.Refuse o)) (fits own (say.Refuse o)) m).0 in
-    let asked = asked-seen s.phase (phase O trace) (mirrored own trace) side.1 in
+    let s' = standing O trace' in
+    let side = and_true (is_side own Responder) (is_asked s.phase) (and_true (is_allowed own offer s (say.Refuse o)) (fits own (say.Refuse o)) b.may_say).0 in
+    let asked = asked-seen s.phase s'.phase b.agree.phases_fit side.1 in
     let reason = if nat_eq (length o) 0 then 0 else 2 in
-    told-one O trace (record { kind = RF; fields = reason_fields reason; octets = o }) (say.Refuse o) (refuse-heard own trace reason o side.0 asked (closed-none own offer trace a (ap is_open asked)))
-said-heard own offer trace (say.Finish o) a m =
-    let f = free own trace (and_true (is_allowed own offer (standing own trace) (say.Finish o)) (fits own (say.Finish o)) m).0 in
-    told-one (other own) trace (record { kind = FN; fields = no_fields; octets = o }) (say.Finish o) (finish-heard own trace o f)
-said-heard own offer trace (say.Finished o) a m =
+    heard-as-said own offer offer' trace trace' (say.Refuse o) b tt refl
+    (alone own trace' (say.Refuse o) (record { kind = RF; fields = reason_fields reason; octets = o }) refl (written-of own offer offer' trace trace' (say.Refuse o) b) refl
+    (refuse-heard own s' reason o side.0 asked (closed-none own offer trace s' b.mine b.agree (ap is_open asked))))
+said-by own offer offer' trace trace' (say.Finish o) b =
+    let s = standing own trace in
+    let s' = standing (other own) trace' in
+    let f = free s s' b.agree (and_true (is_allowed own offer s (say.Finish o)) (fits own (say.Finish o)) b.may_say).0 in
+    heard-as-said own offer offer' trace trace' (say.Finish o) b tt refl
+    (alone own trace' (say.Finish o) (record { kind = FN; fields = no_fields; octets = o }) refl (written-of own offer offer' trace trace' (say.Finish o) b) refl (finish-heard (other own) s' o f))
+said-by own offer offer' trace trace' (say.Finished o) b =
     let O = other own in
     let s = standing own trace in
-    let leaving = left-seen s.phase (phase O trace) (mirrored own trace) (and_true (is_allowed own offer s (say.Finished o)) (fits own (say.Finished o)) m).0 in
-    told-one O trace (record { kind = DN; fields = no_fields; octets = o }) (say.Finished o) (finished-heard own trace o leaving (closed-none own offer trace a (ap is_open leaving)))
-said-heard own offer trace (say.Data pass o) a m =
-    let s = standing own trace in
-    let parts = and_true (is_free s) (cond pass (s.agreed && is_side s.token own) true) (and_true (is_allowed own offer s (say.Data pass o)) (fits own (say.Data pass o)) m).0 in
-    data-said own trace pass o (free own trace parts.0) parts.1
-said-heard own offer trace (say.Check n) a m =
+    let s' = standing O trace' in
+    let leaving = left-seen s.phase s'.phase b.agree.phases_fit (and_true (is_allowed own offer s (say.Finished o)) (fits own (say.Finished o)) b.may_say).0 in
+    heard-as-said own offer offer' trace trace' (say.Finished o) b tt refl
+    (alone own trace' (say.Finished o) (record { kind = DN; fields = no_fields; octets = o }) refl (written-of own offer offer' trace trace' (say.Finished o) b) refl
+    (finished-heard O s' o leaving (closed-none own offer trace s' b.mine b.agree (ap is_open leaving))))
+said-by own offer offer' trace trace' (say.Data true o) b = heard-passed own offer offer' trace trace' o b
+said-by own offer offer' trace trace' (say.Data false o) b =
     let O = other own in
     let s = standing own trace in
-    let allowed = (and_true (is_allowed own offer s (say.Check n)) (fits own (say.Check n)) m).0 in
+    let s' = standing O trace' in
+    let parts = and_true (is_free s) true (and_true (is_allowed own offer s (say.Data false o)) (fits own (say.Data false o)) b.may_say).0 in
+    let f = free s s' b.agree parts.0 in
+    heard-as-said own offer offer' trace trace' (say.Data false o) b tt refl
+    (behind own trace' (say.Data false o) (record { kind = DT; fields = no_fields; octets = o }) refl (written-of own offer offer' trace trace' (say.Data false o) b) refl (gt-silent O s' f.open_is f.none_is) (data-heard O s' o f))
+said-by own offer offer' trace trace' (say.Check n) b =
+    let O = other own in
+    let s = standing own trace in
+    let s' = standing O trace' in
+    let allowed = (and_true (is_allowed own offer s (say.Check n)) (fits own (say.Check n)) b.may_say).0 in
     let number = and_true _ (nat_eq n s.next) (and_true _ (is_written n) allowed).0 in
     let holder = and_true (is_free s && s.agreed) (is_side s.token own) number.0 in
     let sync = and_true (is_free s) s.agreed holder.0 in
-    let f = free own trace sync.0 in
-    told-behind O trace (gt false) (record { kind = MIP; fields = serial_fields n; octets = [] }) (say.Check n) (gt-silent O (standing O trace) f.open_is f.none_is)
-    (check-heard O trace n f.open_is f.none_is sync.1 (not-side own s.token holder.1) (equal n s.next number.1))
-said-heard own offer trace (say.Acknowledge n) a m =
+    let f = free s s' b.agree sync.0 in
+    let theirs : is_side s'.token own ≡ true = sym (ap (λ (t : TokenSide). is_side t own) b.agree.token_is) ∙ holder.1 in
+    heard-as-said own offer offer' trace trace' (say.Check n) b tt refl
+    (behind own trace' (say.Check n) (record { kind = MIP; fields = serial_fields n; octets = [] }) refl (written-of own offer offer' trace trace' (say.Check n) b) refl (gt-silent O s' f.open_is f.none_is)
+    (check-heard O s' n f (sym b.agree.agreed_is ∙ sync.1) (not-side own s'.token theirs) (equal n s.next number.1 ∙ b.agree.next_is)))
+said-by own offer offer' trace trace' (say.Acknowledge n) b =
     let O = other own in
     let s = standing own trace in
-    let high = and_true (is_free s && s.agreed && nat_le s.oldest n) (nat_lt n s.next) (and_true (is_allowed own offer s (say.Acknowledge n)) (fits own (say.Acknowledge n)) m).0 in
+    let s' = standing O trace' in
+    let high = and_true (is_free s && s.agreed && nat_le s.oldest n) (nat_lt n s.next) (and_true (is_allowed own offer s (say.Acknowledge n)) (fits own (say.Acknowledge n)) b.may_say).0 in
     let low = and_true (is_free s && s.agreed) (nat_le s.oldest n) high.0 in
     let sync = and_true (is_free s) s.agreed low.0 in
-    let f = free own trace sync.0 in
-    told-behind O trace (gt false) (record { kind = MIA; fields = serial_fields n; octets = [] }) (say.Acknowledge n) (gt-silent O (standing O trace) f.open_is f.none_is)
-    (acknowledgement-heard O trace n f.open_is f.none_is sync.1 low.1 high.1)
-said-heard own offer trace (say.Resync kind n tok o) a m =
+    let f = free s s' b.agree sync.0 in
+    heard-as-said own offer offer' trace trace' (say.Acknowledge n) b tt refl
+    (behind own trace' (say.Acknowledge n) (record { kind = MIA; fields = serial_fields n; octets = [] }) refl (written-of own offer offer' trace trace' (say.Acknowledge n) b) refl (gt-silent O s' f.open_is f.none_is)
+    (acknowledgement-heard O s' n f (sym b.agree.agreed_is ∙ sync.1) (sym (ap (λ (k : ℕ). nat_le k n) b.agree.oldest_is) ∙ low.1) (sym (ap (nat_lt n) b.agree.next_is) ∙ high.1)))
+said-by own offer offer' trace trace' (say.Resync kind n tok o) b =
     let O = other own in
     let s = standing own trace in
-    let allowed = (and_true (is_allowed own offer s (say.Resync kind n tok o)) (fits own (say.Resync kind n tok o)) m).0 in
-    let written = and_true _ (is_written n) (and_true _ (names_rightly kind s tok) allowed).0 in
+    let s' = standing O trace' in
+    let allowed = (and_true (is_allowed own offer s (say.Resync kind n tok o)) (fits own (say.Resync kind n tok o)) b.may_say).0 in
+    let names = and_true _ (names_rightly kind s tok) allowed in
+    let written = and_true _ (is_written n) names.0 in
     let number = and_true (is_free s && s.agreed) (numbers_rightly kind s n) written.0 in
     let sync = and_true (is_free s) s.agreed number.0 in
-    let f = free own trace sync.0 in
-    told-behind O trace (gt false) (record { kind = RS; fields = rs own kind n tok; octets = o }) (say.Resync kind n tok o) (gt-silent O (standing O trace) f.open_is f.none_is)
-    (resync-heard own trace kind n tok o f.open_is f.none_is sync.1 (numbers-same kind own trace n number.1))
-said-heard own offer trace (say.Resynced n tok o) a m =
-    let s = standing own trace in
-    let allowed = (and_true (is_allowed own offer s (say.Resynced n tok o)) (fits own (say.Resynced n tok o)) m).0 in
-    answer-by own trace (resync trace) n tok o refl (and_true (is_open s.phase && is_written n) (answers_rightly own s s.resync n tok) allowed).1
-said-heard own offer trace (say.Abort o) a m =
+    let f = free s s' b.agree sync.0 in
+    heard-as-said own offer offer' trace trace' (say.Resync kind n tok o) b names.1 refl
+    (behind own trace' (say.Resync kind n tok o) (record { kind = RS; fields = rs own kind n tok; octets = o }) refl (written-of own offer offer' trace trace' (say.Resync kind n tok o) b) refl (gt-silent O s' f.open_is f.none_is)
+    (resync-heard own s' kind n tok o f (sym b.agree.agreed_is ∙ sync.1) (numbers-same kind s s' n b.agree.next_is number.1)))
+said-by own offer offer' trace trace' (say.Resynced n tok o) b =
     let O = other own in
     let s = standing own trace in
-    let over = over-seen s.phase (phase O trace) (mirrored own trace) (and_true (is_allowed own offer s (say.Abort o)) (fits own (say.Abort o)) m).0 in
+    let s' = standing O trace' in
+    let allowed = (and_true (is_allowed own offer s (say.Resynced n tok o)) (fits own (say.Resynced n tok o)) b.may_say).0 in
+    let a = answer-by own s s' s.resync n tok o (sym b.agree.resync_is) (and_true (is_open s.phase && is_written n) (answers_rightly own s s.resync n tok) allowed).1 in
+    heard-as-said own offer offer' trace trace' (say.Resynced n tok o) b tt refl
+    (behind own trace' (say.Resynced n tok o) (record { kind = RA; fields = ra own n tok; octets = o }) refl (written-of own offer offer' trace trace' (say.Resynced n tok o) b) refl a.silent a.tells)
+said-by own offer offer' trace trace' (say.Abort o) b =
+    let O = other own in
+    let s = standing own trace in
+    let s' = standing O trace' in
+    let over = over-seen s.phase s'.phase b.agree.phases_fit (and_true (is_allowed own offer s (say.Abort o)) (fits own (say.Abort o)) b.may_say).0 in
     let fields = abort_fields (if nat_eq (length o) 0 then 5 else 3) in
-    told-one O trace (record { kind = AB; fields = fields; octets = o }) (say.Abort o) (abort-by O (standing O trace) fields o (resync trace) over)
-said-heard own offer trace (say.Token to) a m =
+    heard-as-said own offer offer' trace trace' (say.Abort o) b tt refl
+    (alone own trace' (say.Abort o) (record { kind = AB; fields = fields; octets = o }) refl (written-of own offer offer' trace trace' (say.Abort o) b) refl (abort-by O s' fields o s'.resync over))
+said-by own offer offer' trace trace' (say.Token to) b =
     let O = other own in
     let s = standing own trace in
-    let named = and_true (is_free s && s.agreed && is_side s.token own) (is_side to O) (and_true (is_allowed own offer s (say.Token to)) (fits own (say.Token to)) m).0 in
+    let s' = standing O trace' in
+    let named = and_true (is_free s && s.agreed && is_side s.token own) (is_side to O) (and_true (is_allowed own offer s (say.Token to)) (fits own (say.Token to)) b.may_say).0 in
     let holder = and_true (is_free s && s.agreed) (is_side s.token own) named.0 in
-    let f = free own trace (and_true (is_free s) s.agreed holder.0).0 in
-    told-one O trace (gt true) (say.Token to) (passed O trace f.open_is f.none_is (not-side own s.token holder.1) ∙ ap (λ (side : TokenSide). Tells (say.Token side)) (sym (same-side to O named.1)))
+    let f = free s s' b.agree (and_true (is_free s) s.agreed holder.0).0 in
+    let theirs : is_side s'.token own ≡ true = sym (ap (λ (t : TokenSide). is_side t own) b.agree.token_is) ∙ holder.1 in
+    heard-as-said own offer offer' trace trace' (say.Token to) b tt refl
+    (alone own trace' (say.Token to) (gt true) refl (written-of own offer offer' trace trace' (say.Token to) b) refl
+    (passed O s' f (not-side own s'.token theirs) ∙ ap (λ (side : TokenSide). Tells (say.Token side)) (sym (same-side to O named.1))))
+
+pub said-heard : (own : TokenSide) (offer offer' : Bool) (trace trace' : Trace) (said : SessionSay) → Hears own offer offer' trace trace' said
+said-heard own offer offer' trace trace' said mine theirs agree may_say =
+    said-by own offer offer' trace trace' said (record { mine = mine; theirs = theirs; agree = agree; may_say = may_say })

@@ -4,19 +4,17 @@ use Rattle.std.proofs.lemmas.Bool.{cases_lt}
 use Rattle.std.proofs.lemmas.Bool.Decides.{nat_tests}
 use Rattle.std.proofs.lemmas.List.{length-append}
 use Rattle.std.specs.Option.{option_map}
-use Rattle.vf_session.specs.declared.spdu.Spdu.{Spdu}
-use Rattle.vf_session.specs.declared.table.Form.TheVariants.{AtMost, UserData}
+use Rattle.vf_spdu.specs.declared.spdu.Spdu.{Spdu}
 use Rattle.vf_session.specs.declared.units.ResyncKind.{ResyncKind}
 use Rattle.vf_session.specs.declared.units.SessionSay.{SessionSay}
 use Rattle.vf_session.specs.declared.units.SessionSay.TheVariants as say
 use Rattle.vf_session.specs.declared.units.TokenSide.{TokenSide}
 use Rattle.vf_base.specs.declared.spdu_kind.SpduKind.TheVariants as kinds
-use Rattle.vf_session.specs.Fields.{no_fields}
-use Rattle.vf_session.specs.Numbers.{digits, six_digits, zeros_in_front}
-use Rattle.vf_session.specs.Rooms.{digit_count, connect_size, token_size, data_length, room}
+use Rattle.vf_spdu.specs.Fields.{no_fields}
+use Rattle.vf_spdu.specs.Numbers.{digits, digit_count, six_digits, zeros_in_front}
+use Rattle.vf_session.specs.Rooms.{connect_size, token_size, data_length, room}
 use Rattle.vf_session.specs.Saying.{fits, has_room, spdus, units_fields, reason_fields, abort_fields, serial_fields, resync_code, token_item}
-use Rattle.vf_session.specs.Spelling.{spelled, spelled_if, first_data, second_data, parameters, reasoned}
-use Rattle.vf_session.specs.Table.{optional}
+use Rattle.vf_spdu.specs.Spelling.{spelled, spelled_if, second_data, spelled_parameters, reasoned}
 
 -- ---- one parameter
 
@@ -53,17 +51,17 @@ data-by true o = refl
 data-by false o = length-spelled 193 o
 
 abbrev user-data : List ℕ → List ℕ
-user-data o = spelled_if 193 (first_data (optional 193 UserData) o)
+user-data o = spelled_if 193 (cond (nat_eq (length o) 0) None (Some o))
 
 user-data-size : (o : List ℕ) → length (user-data o ++ []) ≡ data_size (length o)
 user-data-size o =
-    let a = length-append (spelled_if 193 (first_data (optional 193 UserData) o)) [] in
+    let a = length-append (user-data o) [] in
     let b = data-by (nat_eq (length o) 0) o in
     a ∙ omega arith ∙ b
 
 -- what the user data of a CN takes, in the one row or the other
 abbrev connect-data : List ℕ → List ℕ
-connect-data o = spelled_if 193 (first_data (optional 193 (AtMost 512)) o) ++ (spelled_if 194 (second_data o) ++ [])
+connect-data o = spelled_if 193 (cond (nat_eq (length o) 0) None (cond (nat_le (length o) 512) (Some o) None)) ++ (spelled_if 194 (second_data o) ++ [])
 
 is_some_data : (n : ℕ) → nat_eq (suc n) 0 ≡ false
 is_some_data n = grind (arith, nat_tests)
@@ -122,7 +120,7 @@ and_true true = refl
 and_true false = refl
 
 -- an SPDU whose other parameters have so many octets has room for the rest
-rest-fits : (spdu : Spdu) (p most : ℕ) (o : List ℕ) → length (parameters spdu) ≡ p + data_size (length o) → p ≤ 60000 → most ≡ 65531 - p → (has_room spdu && true) ≡ nat_le (length o) most
+rest-fits : (spdu : Spdu) (p most : ℕ) (o : List ℕ) → length (spelled_parameters spdu) ≡ p + data_size (length o) → p ≤ 60000 → most ≡ 65531 - p → (has_room spdu && true) ≡ nat_le (length o) most
 rest-fits spdu p most o e s m =
     and_true (has_room spdu) ∙ ap (λ k. nat_le k 65535) e ∙ room-by p (length o) (data_size (length o)) (sized (length o)) s ∙ ap (nat_le (length o)) (sym m)
 
@@ -141,11 +139,11 @@ item-size n rest =
     let both = length-append (spelled 5 (19 ∷ 1 ∷ 0 ∷ 22 ∷ 1 ∷ 2 ∷ (spelled 23 (digits n) ++ (26 ∷ 1 ∷ 0 ∷ [])))) (20 ∷ 2 ∷ 0 ∷ 42 ∷ rest) in
     both ∙ ap (λ k. k + suc (suc (suc (suc (length rest))))) (whole ∙ ap (λ k. k + 2) content) ∙ omega arith
 
-connect-size : (sync : Bool) (n : ℕ) (o : List ℕ) → length (parameters (record { kind = kinds.CN; fields = units_fields sync n; octets = o })) ≡ connect_size sync n + data_size (length o)
+connect-size : (sync : Bool) (n : ℕ) (o : List ℕ) → length (spelled_parameters (record { kind = kinds.CN; fields = units_fields sync n; octets = o })) ≡ connect_size sync n + data_size (length o)
 connect-size true n o = item-size n (connect-data o) ∙ ap (λ k. connect_size true n + k) (connect-data-size o)
 connect-size false n o = ap (λ k. suc (suc (suc (suc (suc (suc (suc (suc (suc (suc (suc (suc k)))))))))))) (connect-data-size o) ∙ omega arith
 
-accept-size : (sync : Bool) (n : ℕ) (o : List ℕ) → length (parameters (record { kind = kinds.AC; fields = units_fields sync n; octets = o })) ≡ connect_size sync n + data_size (length o)
+accept-size : (sync : Bool) (n : ℕ) (o : List ℕ) → length (spelled_parameters (record { kind = kinds.AC; fields = units_fields sync n; octets = o })) ≡ connect_size sync n + data_size (length o)
 accept-size true n o = item-size n (user-data o ++ []) ∙ ap (λ k. connect_size true n + k) (user-data-size o)
 accept-size false n o = ap (λ k. suc (suc (suc (suc (suc (suc (suc (suc (suc (suc (suc (suc k)))))))))))) (user-data-size o) ∙ omega arith
 
@@ -153,7 +151,7 @@ connect-few : (sync : Bool) (n : ℕ) → connect_size sync n ≤ 60000
 connect-few true n = omega arith
 connect-few false n = omega arith
 
-abort-size : (o : List ℕ) (reason : ℕ) → length (parameters (record { kind = kinds.AB; fields = abort_fields reason; octets = o })) ≡ 3 + data_size (length o)
+abort-size : (o : List ℕ) (reason : ℕ) → length (spelled_parameters (record { kind = kinds.AB; fields = abort_fields reason; octets = o })) ≡ 3 + data_size (length o)
 abort-size o reason = ap (λ k. suc (suc (suc k))) (user-data-size o) ∙ omega arith
 
 numbered-size : (n : ℕ) (o : List ℕ) → length (spelled 42 (digits n) ++ (user-data o ++ [])) ≡ digit_count n + 2 + data_size (length o)
@@ -162,12 +160,12 @@ numbered-size n o =
     a ∙ ap (λ k. k + length (user-data o ++ [])) (digits-size 42 n) ∙ ap (λ k. digit_count n + 2 + k) (user-data-size o)
 
 resync-size : (own : TokenSide) (kind : ResyncKind) (n : ℕ) (tok : Option TokenSide) (o : List ℕ)
-    → length (parameters (record { kind = kinds.RS; fields = record no_fields { tokens = option_map (token_item own) tok; resync = Some (resync_code kind); serial = Some n }; octets = o })) ≡ token_size tok + 5 + digit_count n + data_size (length o)
+    → length (spelled_parameters (record { kind = kinds.RS; fields = record no_fields { tokens = option_map (token_item own) tok; resync = Some (resync_code kind); serial = Some n }; octets = o })) ≡ token_size tok + 5 + digit_count n + data_size (length o)
 resync-size own kind n None o = ap (λ k. suc (suc (suc k))) (numbered-size n o) ∙ omega arith
 resync-size own kind n (Some side) o = ap (λ k. suc (suc (suc (suc (suc (suc k)))))) (numbered-size n o) ∙ omega arith
 
 resynced-size : (own : TokenSide) (n : ℕ) (tok : Option TokenSide) (o : List ℕ)
-    → length (parameters (record { kind = kinds.RA; fields = record no_fields { tokens = option_map (token_item own) tok; serial = Some n }; octets = o })) ≡ token_size tok + 2 + digit_count n + data_size (length o)
+    → length (spelled_parameters (record { kind = kinds.RA; fields = record no_fields { tokens = option_map (token_item own) tok; serial = Some n }; octets = o })) ≡ token_size tok + 2 + digit_count n + data_size (length o)
 resynced-size own n None o = numbered-size n o ∙ omega arith
 resynced-size own n (Some side) o = ap (λ k. suc (suc (suc k))) (numbered-size n o) ∙ omega arith
 
@@ -176,7 +174,7 @@ token-few None = omega arith
 token-few (Some side) = omega arith
 
 -- a reason, and the user data behind it
-refuse-size : (o : List ℕ) (reason : ℕ) → length (parameters (record { kind = kinds.RF; fields = reason_fields reason; octets = o })) ≡ size_of (suc (length o))
+refuse-size : (o : List ℕ) (reason : ℕ) → length (spelled_parameters (record { kind = kinds.RF; fields = reason_fields reason; octets = o })) ≡ size_of (suc (length o))
 refuse-size o reason =
     let a = length-append (spelled 50 (reason ∷ o)) [] in
     a ∙ omega arith ∙ length-spelled 50 (reason ∷ o)

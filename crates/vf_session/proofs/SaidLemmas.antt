@@ -5,7 +5,7 @@ use Rattle.std.specs.List.{list_all, AllByRecursion}
 use Rattle.std.specs.Option.{option_map}
 use Rattle.vf_base.specs.declared.spdu_kind.SpduKind.TheVariants as kinds
 use Rattle.vf_session.specs.declared.resync.Resync.{Resync}
-use Rattle.vf_session.specs.declared.spdu.Spdu.{Spdu}
+use Rattle.vf_spdu.specs.declared.spdu.Spdu.{Spdu}
 use Rattle.vf_session.specs.declared.standing.Standing.{Standing}
 use Rattle.vf_session.specs.declared.units.ResyncKind.{ResyncKind}
 use Rattle.vf_session.specs.declared.units.ResyncKind.TheVariants.{Restart, Abandon}
@@ -13,16 +13,16 @@ use Rattle.vf_session.specs.declared.units.SessionSay.{SessionSay}
 use Rattle.vf_session.specs.declared.units.SessionSay.TheVariants as say
 use Rattle.vf_session.specs.declared.units.TokenSide.{TokenSide}
 use Rattle.vf_session.specs.declared.units.TokenSide.TheVariants.{Initiator}
-use Rattle.vf_session.specs.Fields.{no_fields}
-use Rattle.vf_session.specs.Numbers.{last_serial}
+use Rattle.vf_spdu.specs.Fields.{no_fields}
+use Rattle.vf_spdu.specs.Numbers.{last_serial}
 use Rattle.vf_session.specs.Advances.{Grows}
 use Rattle.vf_session.specs.Represents.{Kept}
 use Rattle.vf_session.specs.Saying.{may, is_allowed, fits, has_room, spdus, gt, units_fields, reason_fields, abort_fields, serial_fields, resync_code, token_item, is_named, names_rightly, answers_rightly, is_written, is_free, answer_number}
-use Rattle.vf_session.specs.Spelling.{IsWritten, HasFields, HasUnits, HasReason, HasAbort, HasToken, IsSide, parameters}
+use Rattle.vf_spdu.specs.Spelling.{IsWritten, HasFields, HasUnits, HasReason, HasAbort, HasToken, IsSide, spelled_parameters}
 use Rattle.vf_session.specs.Trace.{other, is_side, is_resync}
 use Rattle.vf_session.proofs.GrowLemmas.{and_true, InBounds, said-free, said-grows}
 
-room-of : (spdu : Spdu) → has_room spdu ≡ true → length (parameters spdu) ≤ 65535
+room-of : (spdu : Spdu) → has_room spdu ≡ true → length (spelled_parameters spdu) ≤ 65535
 room-of spdu h = grind (arith, nat_tests)
 
 written : (spdu : Spdu) → HasFields spdu.kind spdu.fields spdu.octets → has_room spdu ≡ true → IsWritten spdu

@@ -1,17 +1,52 @@
--- What one end may say after a trace the other end hears, where the same trace stands at both, so that nothing is on its
--- way.
+-- What one end may say the other end hears, while nothing is on its way. The two traces needn't be the same: a token that
+-- passes in front of data is one unit where it is said and two where it is heard. They agree where they leave the
+-- connection at the same place, each end in a phase that fits the other's.
 use Rattle.std.specs.Prelude.{◌≡◌, Bool, true, false, IsTrue, List, [], ◌∷◌, Option, None, Some}
 use Rattle.std.specs.Option.{option_map}
+use Rattle.vf_spdu.specs.declared.spdu.Spdu.{Spdu}
 use Rattle.vf_session.specs.declared.hearing.Hearing.{Hearing}
 use Rattle.vf_session.specs.declared.hearing.Hearing.TheVariants.{Nothing, Tells, Faulty}
-use Rattle.vf_session.specs.declared.spdu.Spdu.{Spdu}
+use Rattle.vf_session.specs.declared.phase.Phase.{Phase}
+use Rattle.vf_session.specs.declared.phase.Phase.TheVariants.{Idle, Asked, Open, Leaving, Left, Aborted, Over}
+use Rattle.vf_session.specs.declared.standing.Standing.{Standing}
 use Rattle.vf_session.specs.declared.units.SessionSay.{SessionSay}
 use Rattle.vf_session.specs.declared.units.SessionSay.TheVariants.{Data, Token}
 use Rattle.vf_session.specs.declared.units.TokenSide.{TokenSide}
 use Rattle.vf_session.specs.Allowed.{IsAllowed}
-use Rattle.vf_session.specs.Hearing.{hears}
+use Rattle.vf_session.specs.Hearing.{hears, is_over}
 use Rattle.vf_session.specs.Saying.{may, spdus}
-use Rattle.vf_session.specs.Trace.{Trace, other, standing, with_heard}
+use Rattle.vf_session.specs.Trace.{Trace, other, standing, with_heard, with_said}
+
+-- ---- two ends that agree
+
+-- the phases of the two ends
+abbrev pub Fits : Phase → Phase → Type 0
+Fits Idle p = p ≡ Idle
+Fits Asked p = p ≡ Asked
+Fits Open p = p ≡ Open
+Fits Leaving p = p ≡ Left
+Fits Left p = p ≡ Leaving
+Fits Aborted p = is_over p ≡ true
+Fits Over p = is_over p ≡ true
+
+pub record Agree (s s' : Standing) : Type 0 where
+  pub phases_fit : Fits s.phase s'.phase
+  pub proposed_is : s.proposed ≡ s'.proposed
+  pub agreed_is : s.agreed ≡ s'.agreed
+  pub first_is : s.first ≡ s'.first
+  pub next_is : s.next ≡ s'.next
+  pub oldest_is : s.oldest ≡ s'.oldest
+  pub token_is : s.token ≡ s'.token
+  pub resync_is : s.resync ≡ s'.resync
+
+-- two ends begin so, and it doesn't matter which of them is named first
+abbrev pub Begins : TokenSide → Type 0
+Begins own = Agree (standing own []) (standing (other own) [])
+
+abbrev pub Turns : Standing → Standing → Type 0
+Turns s s' = Agree s s' → Agree s' s
+
+-- ---- what is told
 
 -- What several SPDUs tell one after the other; none where one of them is a fault.
 abbrev pub told_first : TokenSide → Trace → (Trace → Option (List SessionSay)) → Hearing → Option (List SessionSay)
@@ -28,6 +63,17 @@ abbrev pub heard_of : TokenSide → SessionSay → List SessionSay
 heard_of own (Data true octets) = Token (other own) ∷ Data false octets ∷ []
 heard_of own said = said ∷ []
 
-abbrev pub IsHeard : TokenSide → Bool → Trace → SessionSay → Type 0
-IsHeard own offer trace said =
-    IsAllowed own offer trace → IsTrue (may own offer (standing own trace) said) → told_by (other own) trace (spdus own said) ≡ Some (heard_of own said)
+abbrev pub with_all : TokenSide → List SessionSay → Trace → Trace
+with_all own [] trace = trace
+with_all own (unit ∷ units) trace = with_all own units (with_heard own unit trace)
+
+-- The other end hears what was said, its trace with it is one that it may have, and the two ends agree again.
+pub record IsHeard (own : TokenSide) (offer' : Bool) (trace trace' : Trace) (said : SessionSay) : Type 0 where
+  pub told : told_by (other own) trace' (spdus own said) ≡ Some (heard_of own said)
+  pub agree : Agree (standing own (with_said own said trace)) (standing (other own) (with_all (other own) (heard_of own said) trace'))
+  pub allowed : IsAllowed (other own) offer' (with_all (other own) (heard_of own said) trace')
+
+abbrev pub Hears : TokenSide → Bool → Bool → Trace → Trace → SessionSay → Type 0
+Hears own offer offer' trace trace' said =
+    IsAllowed own offer trace → IsAllowed (other own) offer' trace' → Agree (standing own trace) (standing (other own) trace')
+    → IsTrue (may own offer (standing own trace) said) → IsHeard own offer' trace trace' said

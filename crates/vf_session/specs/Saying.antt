@@ -5,8 +5,8 @@ use Rattle.std.specs.Option.{option_map}
 use Rattle.vf_base.specs.declared.spdu_kind.SpduKind.{SpduKind}
 use Rattle.vf_base.specs.declared.spdu_kind.SpduKind.TheVariants.{CN, AC, RF, FN, DN, AB, DT, GT, MIP, MIA, RS, RA}
 use Rattle.vf_session.specs.declared.resync.Resync.{Resync}
-use Rattle.vf_session.specs.declared.spdu.Spdu.{Spdu}
-use Rattle.vf_session.specs.declared.spdu.SpduFields.{SpduFields}
+use Rattle.vf_spdu.specs.declared.spdu.Spdu.{Spdu}
+use Rattle.vf_spdu.specs.declared.spdu.SpduFields.{SpduFields}
 use Rattle.vf_session.specs.declared.standing.Standing.{Standing}
 use Rattle.vf_session.specs.declared.units.ResyncKind.{ResyncKind}
 use Rattle.vf_session.specs.declared.units.ResyncKind.TheVariants.{Restart, Abandon}
@@ -14,10 +14,10 @@ use Rattle.vf_session.specs.declared.units.SessionSay.{SessionSay}
 use Rattle.vf_session.specs.declared.units.SessionSay.TheVariants as say
 use Rattle.vf_session.specs.declared.units.TokenSide.{TokenSide}
 use Rattle.vf_session.specs.declared.units.TokenSide.TheVariants.{Initiator, Responder}
-use Rattle.vf_session.specs.Fields.{no_fields}
+use Rattle.vf_spdu.specs.Fields.{no_fields}
 use Rattle.vf_session.specs.Hearing.{is_idle, is_asked, is_open, is_left, is_over, negation}
-use Rattle.vf_session.specs.Numbers.{last_serial}
-use Rattle.vf_session.specs.Spelling.{parameters}
+use Rattle.vf_spdu.specs.Numbers.{last_serial}
+use Rattle.vf_spdu.specs.Spelling.{spelled_parameters}
 use Rattle.vf_session.specs.Trace.{other, is_side}
 
 -- ---- the SPDUs
@@ -68,7 +68,7 @@ spdus own (say.Token to) = gt true ∷ []
 
 -- the parameters of each fit a length
 abbrev pub has_room : Spdu → Bool
-has_room spdu = nat_le (length (parameters spdu)) 65535
+has_room spdu = nat_le (length (spelled_parameters spdu)) 65535
 
 abbrev pub fits : TokenSide → SessionSay → Bool
 fits own said = list_all has_room (spdus own said)

@@ -4,11 +4,11 @@ ghost use Rattle.vf_session.specs.Trace.{other as other_side, is_side as same_si
 ghost use Rattle.vf_session.specs.Hearing.{hears as told_by, standing_hears as told_standing, waiting_hears as told_waiting, allowed_hears as told_allowed, may_come as comes, hears_data as data_comes, owes as owed, has_sync as sync_in, kind_of as kind_by, named as named_side, number_of as number_in, resync_of as resync_in, crossing_heard as crossing, answer_heard as answer, answers as answered, token_heard as token_told, check_heard as check_told, acknowledgement_heard as acknowledgement_told, resync_heard as resync_told_by, resync_told as resync_tells};
 ghost use Rattle.vf_session.specs.declared.hearing.Hearing.TheVariants as told;
 
-use crate::kinds::code_of;
 use crate::resync::Resync;
 use crate::standing::Standing;
 use crate::{Phase, ResyncKind, SessionError, SessionSay, Spdu, SpduFields, TokenSide};
 use vf_base::{Octets, SpduKind};
+use vf_spdu::code_of;
 
 /// What an SPDU tells.
 #[derive(Drop)]

@@ -1,14 +1,13 @@
 //! What one end may say.
 ghost use Rattle.std.specs.Prelude.{◌≡◌, ◌≤◌, ◌-◌, if◌then◌else◌};
-ghost use Rattle.vf_session.specs.Numbers.{zeros_in_front as zeros};
 ghost use Rattle.vf_session.specs.Rooms.{connect_size as connect_octets, data_length as octets_in, room as room_of, token_size as token_octets};
 ghost use Rattle.vf_session.specs.Saying.{is_allowed as allowed, fits as fitting, is_free as free, is_named as named, names_rightly as names, numbers_rightly as numbers, answers_rightly as answers, answer_number as number_answered, is_written as written};
 
 use crate::hearing::{is_side, other};
-use crate::numbers::zeros_in_front;
 use crate::resync::Resync;
 use crate::standing::Standing;
 use crate::{Phase, ResyncKind, SessionSay, TokenSide};
+use vf_spdu::digit_count;
 
 /// Whether a unit may be said where the connection stands so; its length isn't looked at, but for that of a CN.
 pub(crate) fn is_allowed(own: TokenSide, offer: bool, s: &Standing, say: &SessionSay) -> bool
@@ -206,12 +205,4 @@ fn token_size(token: Option<TokenSide>) -> usize
         None => 0,
         Some(_) => 3,
     }
-}
-
-/// The number of digits that a serial number is written with.
-fn digit_count(serial: u32) -> usize
-    ensures size { result ≡ 6 - zeros serial }
-    ensures bound { result ≤ 6 }
-{
-    6 - zeros_in_front(serial)
 }

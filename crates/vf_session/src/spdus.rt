@@ -1,11 +1,10 @@
 //! The SPDUs in which a unit is said.
 ghost use Rattle.std.specs.Prelude.{◌≡◌, ◌++◌, ◌∷◌, [], true, false, IfOk, OnOk, OnErr, Some};
 ghost use Rattle.std.specs.Option.{option_map};
-ghost use Rattle.vf_session.specs.Fields.{no_fields};
+ghost use Rattle.vf_spdu.specs.Fields.{no_fields};
 ghost use Rattle.vf_session.specs.Saying.{abort_fields as with_abort, gt as gt_spdu, reason_fields as with_reason, resync_code as code_of_resync, serial_fields as with_serial, spdus, token_item as item_of, units_fields as with_units};
 
 use crate::hearing::is_side;
-use crate::reading::NO_FIELDS;
 use crate::{ResyncKind, SessionSay, Spdu, SpduFields, TokenSide};
 use std::alloc::Global;
 use vf_base::{NoMemory, Octets, SpduKind};
@@ -31,10 +30,16 @@ pub(crate) fn put_spdus(
             let reason = if data.len() == 0 { 0 } else { 2 };
             put_one(alloc, SpduKind::RF, reason_fields(reason), data, out)
         }
-        SessionSay::Finish { data } => put_one(alloc, SpduKind::FN, NO_FIELDS, data, out),
-        SessionSay::Finished { data } => put_one(alloc, SpduKind::DN, NO_FIELDS, data, out),
+        SessionSay::Finish { data } => put_one(alloc, SpduKind::FN, SpduFields::none(), data, out),
+        SessionSay::Finished { data } => put_one(
+            alloc,
+            SpduKind::DN,
+            SpduFields::none(),
+            data,
+            out,
+        ),
         SessionSay::Data { pass, data } => {
-            put_two(alloc, *pass, SpduKind::DT, NO_FIELDS, data, out)
+            put_two(alloc, *pass, SpduKind::DT, SpduFields::none(), data, out)
         }
         SessionSay::Check { serial } => put_number(alloc, SpduKind::MIP, *serial, out),
         SessionSay::Acknowledge { serial } => put_number(alloc, SpduKind::MIA, *serial, out),
@@ -139,7 +144,10 @@ fn gt(alloc: Global, pass: bool) -> Result<Spdu, NoMemory>
     let given = if pass { Some(4) } else { None };
     Ok(Spdu {
         kind: SpduKind::GT,
-        fields: SpduFields { given, ..NO_FIELDS },
+        fields: SpduFields {
+            given,
+            ..SpduFields::none()
+        },
         octets,
     })
 }
@@ -153,12 +161,12 @@ fn units_fields(sync: bool, serial: u32) -> SpduFields
             units: Some(0x2A),
             first: Some(serial),
             tokens: Some(0),
-            ..NO_FIELDS
+            ..SpduFields::none()
         }
     } else {
         SpduFields {
             units: Some(2),
-            ..NO_FIELDS
+            ..SpduFields::none()
         }
     }
 }
@@ -168,7 +176,7 @@ fn serial_fields(serial: u32) -> SpduFields
 {
     SpduFields {
         serial: Some(serial),
-        ..NO_FIELDS
+        ..SpduFields::none()
     }
 }
 
@@ -177,7 +185,7 @@ fn reason_fields(reason: u8) -> SpduFields
 {
     SpduFields {
         reason: Some(reason),
-        ..NO_FIELDS
+        ..SpduFields::none()
     }
 }
 
@@ -186,7 +194,7 @@ fn abort_fields(abort: u8) -> SpduFields
 {
     SpduFields {
         abort: Some(abort),
-        ..NO_FIELDS
+        ..SpduFields::none()
     }
 }
 
@@ -206,7 +214,7 @@ fn resync_fields(
         tokens: token_item(own, token),
         resync: Some(resync),
         serial: Some(serial),
-        ..NO_FIELDS
+        ..SpduFields::none()
     }
 }
 
@@ -216,7 +224,7 @@ fn resynced_fields(own: TokenSide, serial: u32, token: Option<TokenSide>) -> Spd
     SpduFields {
         tokens: token_item(own, token),
         serial: Some(serial),
-        ..NO_FIELDS
+        ..SpduFields::none()
     }
 }
 

@@ -14,6 +14,18 @@ struct End {
     heard: usize,
 }
 
+/// How many units of each kind were heard, in the order of `SessionSay`.
+type Counts = [u32; 12];
+
+/// So many of each must be heard in all walks.
+const LEAST: Counts = [99, 99, 0, 5, 1, 250, 80, 40, 50, 15, 1, 200];
+
+fn count(counts: &mut Counts, unit: &SessionSay) {
+    if let Some(count) = counts.get_mut(usize::from(compared_by(unit).tag)) {
+        *count = count.saturating_add(1);
+    }
+}
+
 impl End {
     fn new(alloc: Global, side: TokenSide, session: Session) -> End {
         End {
@@ -153,7 +165,7 @@ fn compared_by(unit: &SessionSay) -> Key {
     key
 }
 
-fn data(unit: &SessionSay) -> &[u8] {
+pub(super) fn data(unit: &SessionSay) -> &[u8] {
     match unit {
         SessionSay::Connect { data, .. }
         | SessionSay::Accept { data, .. }
@@ -212,7 +224,7 @@ fn joins(end: &mut End, unit: SessionSay) -> Result<(), Fail> {
 }
 
 /// The end hears its next TSDU, by the session as by the plain program; none where a fault ends the connection.
-fn listens(alloc: Global, end: &mut End) -> Result<Option<bool>, Fail> {
+fn listens(alloc: Global, end: &mut End, counts: &mut Counts) -> Result<Option<bool>, Fail> {
     let Some(tsdu) = end.inbox.get(end.heard) else {
         return Ok(Some(true));
     };
@@ -232,6 +244,7 @@ fn listens(alloc: Global, end: &mut End) -> Result<Option<bool>, Fail> {
                 if !good {
                     return Ok(Some(false));
                 }
+                count(counts, &unit);
                 joins(end, unit)?;
             }
         }
@@ -251,15 +264,26 @@ fn speaks(alloc: Global, end: &mut End, peer: &mut End, choice: u64) -> Result<b
 }
 
 /// One end says this unit, and the other hears it.
-fn tells(alloc: Global, end: &mut End, peer: &mut End, unit: &SessionSay) -> Result<bool, Fail> {
+fn tells(
+    alloc: Global,
+    end: &mut End,
+    peer: &mut End,
+    unit: &SessionSay,
+    counts: &mut Counts,
+) -> Result<bool, Fail> {
     if !says(alloc, end, peer, unit)? {
         return Ok(false);
     }
-    Ok(listens(alloc, peer)? == Some(true))
+    Ok(listens(alloc, peer, counts)? == Some(true))
 }
 
 /// The connection opens with sync.
-fn opens(alloc: Global, calling: &mut End, called: &mut End) -> Result<bool, Fail> {
+fn opens(
+    alloc: Global,
+    calling: &mut End,
+    called: &mut End,
+    counts: &mut Counts,
+) -> Result<bool, Fail> {
     let connect = SessionSay::Connect {
         sync: true,
         serial: 1,
@@ -270,15 +294,15 @@ fn opens(alloc: Global, calling: &mut End, called: &mut End) -> Result<bool, Fai
         serial: 1,
         data: Octets::of(alloc, b"aare")?,
     };
-    let asked = tells(alloc, calling, called, &connect)?;
-    let answered = tells(alloc, called, calling, &accept)?;
+    let asked = tells(alloc, calling, called, &connect, counts)?;
+    let answered = tells(alloc, called, calling, &accept, counts)?;
     Ok(asked && answered && calling.session.has_token() && !called.session.has_token())
 }
 
-fn walk(alloc: Global, start: u64) -> Result<bool, Fail> {
+fn walk(alloc: Global, start: u64, counts: &mut Counts) -> Result<bool, Fail> {
     let mut calling = End::new(alloc, TokenSide::Initiator, Session::calling(true));
     let mut called = End::new(alloc, TokenSide::Responder, Session::called());
-    if !opens(alloc, &mut calling, &mut called)? {
+    if !opens(alloc, &mut calling, &mut called, counts)? {
         return Ok(false);
     }
     let mut seed = start;
@@ -287,8 +311,8 @@ fn walk(alloc: Global, start: u64) -> Result<bool, Fail> {
         let good = match seed >> 62 {
             0 => Some(speaks(alloc, &mut calling, &mut called, seed)?),
             1 => Some(speaks(alloc, &mut called, &mut calling, seed)?),
-            2 => listens(alloc, &mut calling)?,
-            _ => listens(alloc, &mut called)?,
+            2 => listens(alloc, &mut calling, counts)?,
+            _ => listens(alloc, &mut called, counts)?,
         };
         match good {
             None => return Ok(true),
@@ -301,9 +325,13 @@ fn walk(alloc: Global, start: u64) -> Result<bool, Fail> {
 
 #[test]
 fn walks(rt: HostRuntime) -> Result<(), Fail> {
+    let mut counts = [0; 12];
     for start in 1..100 {
-        let good = walk(rt.alloc(), start * 0x9E37_79B9_7F4A)?;
+        let good = walk(rt.alloc(), start * 0x9E37_79B9_7F4A, &mut counts)?;
         assert!(rt; good, "walk {start}");
+    }
+    for (count, least) in counts.iter().zip(&LEAST) {
+        assert!(rt; count >= least, "{counts:?}");
     }
     Ok(())
 }

@@ -1,0 +1,13 @@
+pub mod NumberLemmas
+pub mod PartLemmas
+pub mod FrontLemmas
+pub mod DigitLemmas
+pub mod ParameterLemmas
+pub mod RoundTrip
+pub mod AfterLemmas
+pub mod GrammarLemmas
+pub mod HoldsLemmas
+pub mod PlaceLemmas
+pub mod WriteLemmas
+pub mod ReadableLemmas
+pub mod FaultLemmas

@@ -1,0 +1,10 @@
+pub mod Kinds
+pub mod Table
+pub mod Numbers
+pub mod Parts
+pub mod Grammar
+pub mod Fields
+pub mod Reading
+pub mod Faults
+pub mod Steps
+pub mod Spelling
