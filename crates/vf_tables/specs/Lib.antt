@@ -1,0 +1,5 @@
+pub mod Diagnostics
+pub mod Effects
+pub mod Files
+pub mod Readings
+pub mod Rows
