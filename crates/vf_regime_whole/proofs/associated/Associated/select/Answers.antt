@@ -1,0 +1,58 @@
+use Rattle.std.proofs.Common.{◌≡◌, Some, None, Err, [], ◌∷◌, ap, refl, sym, subst, ◌∙◌}
+use Rattle.vf_base.specs.declared.diagnostic.Diagnostic.{Diagnostic}
+use Rattle.vf_elements.specs.declared.message.Message.TheVariants as messages
+use Rattle.vf_elements.specs.declared.message.Said.TheVariants as answers
+use Rattle.vf_pdu_whole.specs.declared.pdu.Pdu.{Pdu}
+use Rattle.vf_pdu_whole.specs.declared.pdu.Pdu.TheVariants.{SelectRequest, SelectResponse}
+use Rattle.vf_tables.specs.Diagnostics.{plain}
+use Rattle.vf_tables.specs.Files.{file_named}
+use Rattle.vf_tables.specs.Rows.{Nothing, select_row}
+use Rattle.vf_regime_whole.specs.declared.selected.Selected.{Selected}
+use Rattle.vf_regime_whole.specs.declared.step.Step.{Step}
+use Rattle.vf_regime_whole.specs.declared.step.StepError.TheVariants as errors
+use Rattle.vf_regime_whole.specs.Represents.{IsAssociated, IsSelected, IsStep, with_tables}
+use Rattle.vf_regime_whole.specs.Transition.{performed}
+use Rattle.vf_regime_whole.proofs.Performed.{select_performed}
+use Rattle.vf_regime_whole.proofs.Steps.{good_step, refused_step}
+use Rattle.vf_regime_whole.proofs.associated.Associated.select.Goals as goal
+
+response : Diagnostic → Pdu
+response diagnostic = SelectResponse (Some diagnostic)
+
+pub returns-in-Some-clause-consequence : goal.returns-in-Some-clause-consequence
+unfolding response
+returns-in-Some-clause-consequence c =
+    let asked = c.in-SelectRequest in
+    let request = SelectRequest asked.name asked.requested asked._controls asked.password in
+    let tables = c.args.tables.now in
+    let number = c.in-Some.number in
+    let decides : select_row (file_named asked.name tables.files) c.args.self.identity asked.password asked.requested ≡ Some number = cc in
+    subst (λ (d : Diagnostic). IsStep {New = Selected} IsAssociated IsSelected tables c.args.self c.args.moment (messages.Pdu c.args.request) response (Err (c.args.self, errors.Refused d)))
+    (sym c.plain.ensures)
+    (refused_step IsAssociated IsSelected tables c.args.self c.args.moment (messages.Pdu c.args.request) (messages.Pdu request) response c.args.self (plain number)
+    (λ state party represents.
+    ap (λ r. performed (with_tables tables state) party c.args.moment (messages.Pdu r)) asked.is
+    ∙ select_performed tables state party c.args.moment c.args.self represents asked.name asked.requested asked._controls asked.password (Some number) decides))
+
+pub returns-clause-consequence : goal.returns-clause-consequence
+unfolding response
+returns-clause-consequence c =
+    let asked = c.in-SelectRequest in
+    let request = SelectRequest asked.name asked.requested asked._controls asked.password in
+    let tables = c.args.tables.now in
+    let decides : select_row (file_named asked.name tables.files) c.args.self.identity asked.password asked.requested ≡ None = cc in
+    let state : Selected = record { associated = c.args.self; file = asked.name; requested = asked.requested } in
+    let step : Step Selected = record { state = state; said = c.in-Ok.said; changes = c.new.result } in
+    good_step IsAssociated IsSelected tables c.args.self c.args.moment (messages.Pdu c.args.request) (messages.Pdu request) response
+    step (answers.Pdu (SelectResponse None) ∷ []) [] Nothing
+    (λ state party represents.
+    ap (λ r. performed (with_tables tables state) party c.args.moment (messages.Pdu r)) asked.is
+    ∙ select_performed tables state party c.args.moment c.args.self represents asked.name asked.requested asked._controls asked.password None decides)
+    c.in-Ok.ensures c.new.ensures
+    (λ ordinal link history represents. record {
+      linked = represents.linked;
+      associated = represents.stands;
+      stands = refl;
+      opened = represents.opened;
+      moved = represents.moved;
+    })

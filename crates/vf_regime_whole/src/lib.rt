@@ -1,0 +1,26 @@
+//! The nested regimes of one party (ISO 8571-4, file service regimes), as typed states.
+#![tactic(auto)]
+
+mod associated;
+mod built;
+mod idle;
+mod moving;
+mod opened;
+mod outcomes;
+mod party;
+mod selected;
+mod step;
+mod transfers;
+mod write;
+
+pub use associated::Associated;
+pub use idle::Idle;
+pub use moving::{Movement, Moving};
+pub use opened::Open;
+pub use party::{Outcome, Party};
+pub use selected::Selected;
+pub use step::{Step, StepError};
+pub use vf_attr::{File, Stamp};
+pub use vf_elements::{Message, Said, Stage};
+pub use vf_tables::{Change, Changes, Files, Tables};
+pub use write::Write;

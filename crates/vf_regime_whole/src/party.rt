@@ -1,0 +1,314 @@
+ghost use Rattle.std.specs.Prelude.{◌≡◌, true};
+ghost use Rattle.vf_elements.specs.Stages.{takes};
+ghost use Rattle.vf_elements.specs.declared.message.Message.TheVariants as messages;
+ghost use Rattle.vf_elements.specs.declared.stage.Stage.TheVariants as stages;
+ghost use Rattle.vf_regime_whole.specs.Built.{is_built as built_test};
+ghost use Rattle.vf_regime_whole.specs.History.{stage};
+ghost use Rattle.vf_regime_whole.specs.Represents.{IsAbort, IsTaken, IsTransition, Represents, link_of as link_number, stage_of, stage_of_movement};
+ghost use Rattle.vf_regime_whole.specs.State.{StandingParty, arrived};
+
+use crate::built::is_built;
+use crate::outcomes::{self, Setting, moves, regimes};
+use crate::{
+    Associated, Changes, Idle, Message, Movement, Moving, Open, Said, Selected, Stage, Tables,
+};
+use std::alloc::Global;
+use vf_base::{Element, Moment, NoMemory};
+use vf_pdu_whole::Pdu;
+
+/// The abort of what isn't built so far (profile).
+const NOT_BUILT: u16 = 199;
+
+/// The abort of a message that its stage doesn't take (profile).
+const WRONG_STATE: u16 = 102;
+
+/// One party of the filestore, in its innermost regime (ISO 8571-4).
+#[derive(Drop)]
+pub enum Party {
+    Idle(Idle),
+    Associated(Associated),
+    Selected(Selected),
+    Open(Open),
+    Moving(Moving),
+}
+
+/// What came of a message.
+#[derive(Drop)]
+pub struct Outcome {
+    /// The party after it; an idle one where the party is gone.
+    pub party: Party,
+    pub said: Vec<Said>,
+    pub changes: Changes,
+}
+
+impl Party {
+    /// The party of a new link.
+    pub fn idle(link: u32) -> Party
+        ensures { Represents result (arrived link) }
+    {
+        Party::Idle(Idle { link })
+    }
+
+    /// The innermost regime in which the party is, and how far a transfer in it has come.
+    pub fn stage(&self) -> Stage
+        ensures kept { result ≡ stage_of self.now }
+        ensures filter { (party : StandingParty) → Represents self.now party → result ≡ stage party.history }
+    {
+        self.kept_stage()
+    }
+
+    fn kept_stage(&self) -> Stage
+        ensures { result ≡ stage_of self.now }
+    {
+        match self {
+            Party::Idle(_) => Stage::Idle,
+            Party::Associated(_) => Stage::Associated,
+            Party::Selected(_) => Stage::Selected,
+            Party::Open(_) => Stage::Opened,
+            Party::Moving(moving) => stage_of_moving(moving),
+        }
+    }
+
+    /// The number of the party's link.
+    pub(crate) fn link(&self) -> u32
+        ensures { result ≡ link_number self.now }
+    {
+        match self {
+            Party::Idle(idle) => idle.link,
+            Party::Associated(associated) => associated.link,
+            Party::Selected(selected) => selected.associated.link,
+            Party::Open(opened) => opened.selected.associated.link,
+            Party::Moving(moving) => moving.opened.selected.associated.link,
+        }
+    }
+
+    /// Takes a message: one transition of the abstract filestore with these tables. `serial` and `token` are the
+    /// session's next serial number and whether the responder has the token, and `sync` is whether the session has
+    /// minor synchronize and resynchronize; no message that is built so far asks for these three. Without memory the
+    /// party is given back as it was.
+    pub fn take(
+        self,
+        alloc: Global,
+        message: Message,
+        moment: Moment,
+        serial: u32,
+        token: bool,
+        sync: bool,
+        tables: &Tables,
+    ) -> Result<Outcome, (Party, NoMemory)>
+        ensures { IsTransition tables.now self moment message result }
+    {
+        if !is_built(&message) {
+            return outcomes::abort_party(alloc, self, NOT_BUILT);
+        }
+        if !self.stage().takes(&message) {
+            return outcomes::abort_party(alloc, self, WRONG_STATE);
+        }
+        let setting = Setting {
+            moment,
+            serial,
+            token,
+            sync,
+        };
+        take_built(self, alloc, message, setting, tables)
+    }
+}
+
+fn stage_of_moving(moving: &Moving) -> Stage
+    ensures { result ≡ stage_of_movement moving.now.movement }
+{
+    match &moving.movement {
+        Movement::Writing(write) => match write.ended {
+            None => Stage::Writing,
+            Some(_) => Stage::Written,
+        },
+        Movement::Reading(_) => Stage::Shown,
+    }
+}
+
+/// Takes a message that is built and that its stage takes.
+fn take_built(
+    party: Party,
+    alloc: Global,
+    message: Message,
+    setting: Setting,
+    tables: &Tables,
+) -> Result<Outcome, (Party, NoMemory)>
+    requires built { built_test message ≡ true }
+    requires taken { takes (stage_of party) message ≡ true }
+    ensures { IsTaken tables.now party setting.moment message result }
+{
+    match message {
+        Message::Pdu(request) => take_request(party, alloc, request, setting, tables),
+        Message::Element(element) => take_element(party, alloc, element, setting, tables),
+        Message::Break => Ok(outcomes::end_party(alloc, party, Vec::new(alloc))),
+        Message::Check => unreachable!(),
+        Message::Acknowledge { .. } => unreachable!(),
+        Message::Restart { .. } => unreachable!(),
+    }
+}
+
+fn take_element(
+    party: Party,
+    alloc: Global,
+    element: Element,
+    setting: Setting,
+    tables: &Tables,
+) -> Result<Outcome, (Party, NoMemory)>
+    requires { takes (stage_of party) (messages.Element element) ≡ true }
+    ensures { IsTaken tables.now party setting.moment (messages.Element element) result }
+{
+    match party {
+        Party::Moving(moving) => moves::element(moving, alloc, element, setting, tables),
+        Party::Idle(_) => unreachable!(),
+        Party::Associated(_) => unreachable!(),
+        Party::Selected(_) => unreachable!(),
+        Party::Open(_) => unreachable!(),
+    }
+}
+
+fn take_request(
+    party: Party,
+    alloc: Global,
+    request: Pdu,
+    setting: Setting,
+    tables: &Tables,
+) -> Result<Outcome, (Party, NoMemory)>
+    requires built { built_test (messages.Pdu request) ≡ true }
+    requires taken { takes (stage_of party) (messages.Pdu request) ≡ true }
+    ensures { IsTaken tables.now party setting.moment (messages.Pdu request) result }
+{
+    match party {
+        Party::Idle(idle) => take_idle(idle, alloc, request, setting, tables),
+        Party::Associated(associated) => take_associated(
+            associated, alloc, request, setting, tables,
+        ),
+        Party::Selected(selected) => take_selected(selected, alloc, request, setting, tables),
+        Party::Open(opened) => take_open(opened, alloc, request, setting, tables),
+        Party::Moving(moving) => take_moving(moving, alloc, request, setting, tables),
+    }
+}
+
+fn take_idle(
+    idle: Idle,
+    alloc: Global,
+    request: Pdu,
+    setting: Setting,
+    tables: &Tables,
+) -> Result<Outcome, (Party, NoMemory)>
+    requires built { built_test (messages.Pdu request) ≡ true }
+    requires taken { takes stages.Idle (messages.Pdu request) ≡ true }
+    ensures { IsTaken tables.now (Party.Idle idle) setting.moment (messages.Pdu request) result }
+{
+    match request {
+        request @ Pdu::InitializeRequest { .. } => regimes::initialize(
+            idle, alloc, request, setting, tables,
+        ),
+        _ => unreachable!(),
+    }
+}
+
+fn take_associated(
+    associated: Associated,
+    alloc: Global,
+    request: Pdu,
+    setting: Setting,
+    tables: &Tables,
+) -> Result<Outcome, (Party, NoMemory)>
+    requires built { built_test (messages.Pdu request) ≡ true }
+    requires taken { takes stages.Associated (messages.Pdu request) ≡ true }
+    ensures { IsTaken tables.now (Party.Associated associated) setting.moment (messages.Pdu request) result }
+{
+    match request {
+        request @ Pdu::SelectRequest { .. } => regimes::select(
+            associated, alloc, request, setting, tables,
+        ),
+        request @ Pdu::CreateRequest { .. } => regimes::create(
+            associated, alloc, request, setting, tables,
+        ),
+        request @ Pdu::TerminateRequest => regimes::terminate(
+            associated, alloc, request, setting, tables,
+        ),
+        request => take_abort(
+            Party::Associated(associated),
+            alloc,
+            request,
+            setting,
+            tables,
+        ),
+    }
+}
+
+fn take_selected(
+    selected: Selected,
+    alloc: Global,
+    request: Pdu,
+    setting: Setting,
+    tables: &Tables,
+) -> Result<Outcome, (Party, NoMemory)>
+    requires built { built_test (messages.Pdu request) ≡ true }
+    requires taken { takes stages.Selected (messages.Pdu request) ≡ true }
+    ensures { IsTaken tables.now (Party.Selected selected) setting.moment (messages.Pdu request) result }
+{
+    match request {
+        request @ Pdu::DeselectRequest => regimes::deselect(
+            selected, alloc, request, setting, tables,
+        ),
+        request @ Pdu::OpenRequest { .. } => regimes::open_file(
+            selected, alloc, request, setting, tables,
+        ),
+        request => take_abort(Party::Selected(selected), alloc, request, setting, tables),
+    }
+}
+
+fn take_open(
+    opened: Open,
+    alloc: Global,
+    request: Pdu,
+    setting: Setting,
+    tables: &Tables,
+) -> Result<Outcome, (Party, NoMemory)>
+    requires built { built_test (messages.Pdu request) ≡ true }
+    requires taken { takes stages.Opened (messages.Pdu request) ≡ true }
+    ensures { IsTaken tables.now (Party.Open opened) setting.moment (messages.Pdu request) result }
+{
+    match request {
+        request @ Pdu::CloseRequest => regimes::close(opened, alloc, request, setting, tables),
+        request @ Pdu::ReadRequest { .. } => moves::read(opened, alloc, request, setting, tables),
+        request @ Pdu::WriteRequest { .. } => moves::write(opened, alloc, request, setting, tables),
+        request => take_abort(Party::Open(opened), alloc, request, setting, tables),
+    }
+}
+
+fn take_moving(
+    moving: Moving,
+    alloc: Global,
+    request: Pdu,
+    setting: Setting,
+    tables: &Tables,
+) -> Result<Outcome, (Party, NoMemory)>
+    requires built { built_test (messages.Pdu request) ≡ true }
+    requires taken { takes (stage_of_movement moving.movement) (messages.Pdu request) ≡ true }
+    ensures { IsTaken tables.now (Party.Moving moving) setting.moment (messages.Pdu request) result }
+{
+    match request {
+        request @ Pdu::DataEnd { .. } => moves::data_end(moving, alloc, request, setting, tables),
+        request @ Pdu::TransferEndRequest => moves::finish(moving, alloc, request, setting, tables),
+        request => take_abort(Party::Moving(moving), alloc, request, setting, tables),
+    }
+}
+
+/// The initiator's abort, after which the party is gone.
+fn take_abort(
+    party: Party,
+    alloc: Global,
+    request: Pdu,
+    setting: Setting,
+    tables: &Tables,
+) -> Result<Outcome, (Party, NoMemory)>
+    requires { IsAbort request }
+    ensures { IsTaken tables.now party setting.moment (messages.Pdu request) result }
+{
+    drop(request);
+    Ok(outcomes::end_party(alloc, party, Vec::new(alloc)))
+}

@@ -1,0 +1,30 @@
+ghost use Rattle.std.specs.Prelude.{◌≡◌, [], ◌∷◌, IfOk};
+
+use crate::{Changes, Said};
+use std::alloc::Global;
+use vf_base::{Diagnostic, NoMemory};
+
+/// What a good step of a typed state gives: the next state, what is said, and what changes.
+#[derive(Drop)]
+pub struct Step<S> {
+    pub state: S,
+    pub said: Vec<Said>,
+    pub changes: Changes,
+}
+
+/// Why a step gave its state back.
+#[derive(Drop)]
+pub enum StepError {
+    /// The request was refused with this diagnostic.
+    Refused(Diagnostic),
+    NoMemory,
+}
+
+/// A list of one thing that is said.
+pub(crate) fn one_said(alloc: Global, said: Said) -> Result<Vec<Said>, NoMemory>
+    ensures { IfOk result (λ list. list.items ≡ said ∷ []) }
+{
+    let mut list = Vec::new(alloc);
+    list.push(said)?;
+    Ok(list)
+}
