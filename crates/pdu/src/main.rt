@@ -9,7 +9,7 @@ use std::alloc::Global;
 use std::process::ExitCode;
 use vf_base::{NoMemory, ReadSource, Sink, WriteSink, read_up_to};
 use vf_ber::{BerError, Value, WriteError, read, write};
-use vf_pdu_whole::{PduError, of_value, to_value};
+use vf_pdu::{PduError, of_value, to_value};
 
 /// The most octets of input.
 const LIMIT: usize = 1 << 26;

@@ -1,74 +1,125 @@
 -- What every consequence keeps: the link, and that a party that is told an abort is gone.
-use Rattle.std.proofs.Common.{◌≡◌, ◌<◌, ℕ, Bool, true, false, cond, not, true≢false, List, [], ◌∷◌, Option, None, Some, IfSome, refl, ap, sym, ◌∙◌, arith}
-use Rattle.std.specs.List.{AllByRecursion, list_any}
-use Rattle.vf_base.specs.declared.diagnostic.Diagnostic.{Diagnostic}
+use Rattle.std.proofs.Common.{◌≡◌, ℕ, Bool, true, false, not, true≢false, List, [], ◌∷◌, ◌++◌, map, Option, None, Some, IfSome, refl, ap, sym, ◌∙◌}
+use Rattle.std.specs.Prelude.{IsTrue, ◌&&◌, ◌≤◌, nat_le, if◌then◌else◌}
+use Rattle.std.specs.List.{list_any}
+use Rattle.std.proofs.Common.{arith}
+use Rattle.vf_base.specs.declared.element.Element.{Element}
+use Rattle.vf_fields.proofs.Plain.{some_is}
+use Rattle.vf_elements.specs.Stages.{takes}
+use Rattle.vf_elements.specs.declared.message.Message.{Message}
+use Rattle.vf_elements.specs.declared.message.Message.TheVariants as messages
+use Rattle.vf_elements.specs.declared.message.Said.{Said}
+use Rattle.vf_elements.specs.declared.message.Said.TheVariants as answers
+use Rattle.vf_elements.specs.declared.stage.Stage.TheVariants as stages
+use Rattle.vf_pdu.specs.PduRows.{row_of}
 use Rattle.vf_pdu.specs.declared.pdu.Pdu.{Pdu}
-use Rattle.vf_pdu.specs.declared.pdu.Pdu.TheVariants.{InitializeRequest, InitializeResponse, TerminateRequest, TerminateResponse, ProviderAbort, SelectRequest, SelectResponse, DeselectRequest, DeselectResponse, CreateRequest, CreateResponse}
-use Rattle.vf_regime.specs.declared.message.Message.TheVariants as messages
+use Rattle.vf_pdu.specs.declared.pdu.Pdu.TheVariants.{InitializeRequest, InitializeResponse, TerminateRequest, SelectRequest, DeselectRequest, CreateRequest, OpenRequest, CloseRequest, ReadRequest, WriteRequest, DataEnd, TransferEndRequest}
+use Rattle.vf_regime.specs.Built.{is_built}
+use Rattle.vf_regime.specs.History.{agreed, association, data_end, done, mode, position, selection, stage, survivors, transfer}
+use Rattle.vf_base.specs.declared.diagnostic.Diagnostic.{Diagnostic}
+use Rattle.vf_regime.specs.Represents.{IsNext, Represents, stage_of, stage_of_movement, stage_of_write}
+use Rattle.vf_regime.specs.declared.moving.Movement.{Movement}
+use Rattle.vf_regime.specs.declared.moving.Movement.TheVariants as movements
+use Rattle.vf_regime.specs.Sayable.{IsSayable}
+use Rattle.vf_regime.specs.State.{State, StandingParty}
+use Rattle.vf_regime.specs.Transition.{Consequence, aborts, concludes, created_by, ended_by, ending_in, file_in, identity_in, joined, leaves, limit, mode_in, not_built, opened_by, performed, read_by, refuses, requested, requested_in, selected_by, stamp_of, taken, transition, units_in, unless_aborted, wrong_state}
 use Rattle.vf_regime.specs.declared.party.Party.{Party}
 use Rattle.vf_regime.specs.declared.party.Party.TheVariants as parties
-use Rattle.vf_regime.specs.declared.stage.Stage.TheVariants as stages
-use Rattle.vf_regime.specs.Represents.{IsNext, Represents, stage_of}
-use Rattle.vf_regime.specs.Refusal.{Refusal, AbortOf, DiagnosticOf, first_row, is_built, not_built, refusal, rows}
-use Rattle.vf_regime.specs.History.{stage}
-use Rattle.vf_regime.specs.State.{State, StandingParty}
-use Rattle.vf_regime.specs.Transition.{concludes, response, transition, consequence_by}
-use Rattle.vf_pdu.specs.Value.{InRange}
-use Rattle.vf_regime.specs.declared.file.File.{File}
-use Rattle.vf_cli.specs.Conversation.{IsSayable}
-use Rattle.vf_cli.specs.Dialogue.{is_abort}
+use Rattle.vf_tables.specs.Files.{file_named}
+use Rattle.vf_tables.specs.Rows.{Given, Nothing, Refused, Showed, created, opened, read_given, select_row}
+use Rattle.vf_tables.specs.declared.changes.Change.{Change}
+use Rattle.vf_tables.specs.declared.creation.Created.{Created}
+use Rattle.vf_tables.specs.declared.creation.Created.TheVariants as creations
+use Rattle.vf_tables.specs.declared.opening.Opened.{Opened}
+use Rattle.vf_tables.specs.declared.opening.Opened.TheVariants as openings
+use Rattle.vf_cli.specs.Dialogue.{is_abort, outside}
 
--- no response is an abort
-responses_go : (diagnostic : Option Diagnostic) (request : Pdu) → list_any is_abort (response diagnostic request) ≡ false
-responses_go diagnostic (InitializeRequest units) = refl
-responses_go diagnostic TerminateRequest = refl
-responses_go diagnostic (SelectRequest name) = refl
-responses_go diagnostic DeselectRequest = refl
-responses_go diagnostic (CreateRequest name contents) = refl
-responses_go diagnostic (InitializeResponse d units) = refl
-responses_go diagnostic TerminateResponse = refl
-responses_go diagnostic (ProviderAbort number place) = refl
-responses_go diagnostic (SelectResponse d) = refl
-responses_go diagnostic (DeselectResponse d) = refl
-responses_go diagnostic (CreateResponse d) = refl
+-- no abort is said, and the link is kept
+record Keeps (party : StandingParty) (consequence : Consequence) : Type 0 where
+  silent : list_any is_abort consequence.said ≡ false
+  linked : IfSome consequence.party (λ (next : StandingParty). next.link ≡ party.link)
 
-module _ (state : State) (party : StandingParty) (moment : ℕ) (request : Pdu) where
-  abort_ends_by : (row : Option Refusal) → list_any is_abort (consequence_by row state party moment request).said ≡ true
-      → (consequence_by row state party moment request).party ≡ None
-  abort_ends_by (Some (AbortOf number)) said = refl
-  abort_ends_by (Some (DiagnosticOf diagnostic)) said = absurd (true≢false (sym said ∙ responses_go (Some diagnostic) request))
-  abort_ends_by None said = absurd (true≢false (sym said ∙ responses_go None request))
+shown_silent : (elements : List Element) (end : Pdu) → list_any is_abort (map answers.Element elements ++ answers.Pdu end ∷ []) ≡ false
+shown_silent [] end = refl
+shown_silent (element ∷ elements) end = shown_silent elements end
 
-  pub abort_ends : list_any is_abort (transition state party moment (messages.Pdu request)).said ≡ true
-      → (transition state party moment (messages.Pdu request)).party ≡ None
-  abort_ends = abort_ends_by (refusal state party request)
+module _ (state : State) (party : StandingParty) (moment : ℕ) where
+  selects : (message : Message) (row : Option ℕ) → Keeps party (selected_by row state party moment message)
+  selects message None = record { silent = refl; linked = refl }
+  selects message (Some number) = record { silent = refl; linked = refl }
 
-some_link : (found next party : StandingParty) → found.link ≡ party.link → Some found ≡ Some next → next.link ≡ party.link
-some_link found next party same e =
-    let goes : found ≡ next = cc in
-    ap (λ (p : StandingParty). p.link) (sym goes) ∙ same
+  creates : (message : Message) (made : Created) → Keeps party (created_by made state party moment message)
+  creates message (creations.Refused diagnostic) = record { silent = refl; linked = refl }
+  creates message (creations.Made file) = record { silent = refl; linked = refl }
 
-concludes_link : (state : State) (moment : ℕ) (request : Pdu) (party next : StandingParty) → concludes state moment request party ≡ Some next → next.link ≡ party.link
-concludes_link state moment (InitializeRequest units) party next e = some_link _ next party refl e
-concludes_link state moment TerminateRequest party next e = absurd cc
-concludes_link state moment (SelectRequest name) party next e = some_link _ next party refl e
-concludes_link state moment DeselectRequest party next e = some_link _ next party refl e
-concludes_link state moment (CreateRequest name contents) party next e = some_link _ next party refl e
-concludes_link state moment (InitializeResponse d units) party next e = some_link _ next party refl e
-concludes_link state moment TerminateResponse party next e = some_link _ next party refl e
-concludes_link state moment (ProviderAbort number place) party next e = some_link _ next party refl e
-concludes_link state moment (SelectResponse d) party next e = some_link _ next party refl e
-concludes_link state moment (DeselectResponse d) party next e = some_link _ next party refl e
-concludes_link state moment (CreateResponse d) party next e = some_link _ next party refl e
+  opens : (message : Message) (found : Opened) → Keeps party (opened_by found state party moment message)
+  opens message (openings.Refused diagnostic) = record { silent = refl; linked = refl }
+  opens message (openings.Contents contents) = record { silent = refl; linked = refl }
 
-module _ (state : State) (party next : StandingParty) (moment : ℕ) (request : Pdu) where
-  keeps_link_by : (row : Option Refusal) → (consequence_by row state party moment request).party ≡ Some next → next.link ≡ party.link
-  keeps_link_by (Some (AbortOf number)) e = absurd cc
-  keeps_link_by (Some (DiagnosticOf diagnostic)) e = some_link _ next party refl e
-  keeps_link_by None e = concludes_link state moment request party next e
+  reads : (message : Message) (given : Given) → Keeps party (read_by given state party moment message)
+  reads message Nothing = record { silent = refl; linked = refl }
+  reads message (Refused diagnostic) = record { silent = refl; linked = refl }
+  reads message (Showed version elements position) = record { silent = shown_silent elements (DataEnd None); linked = refl }
 
-  pub keeps_link : (transition state party moment (messages.Pdu request)).party ≡ Some next → next.link ≡ party.link
-  keeps_link = keeps_link_by (refusal state party request)
+  requests : (request : Pdu) → Keeps party (requested state party moment request)
+  requests (InitializeRequest units identity password window) = record { silent = refl; linked = refl }
+  requests TerminateRequest = record { silent = refl; linked = tt }
+  requests (SelectRequest name actions controls password) =
+      selects (messages.Pdu (SelectRequest name actions controls password)) (select_row (file_named name state.files) (identity_in (association party.history)) password actions)
+  requests DeselectRequest = record { silent = refl; linked = refl }
+  requests (CreateRequest over name contents permitted terms actions controls password) =
+      creates (messages.Pdu (CreateRequest over name contents permitted terms actions controls password))
+      (created state.files (units_in (association party.history)) (stamp_of (association party.history) moment) password actions
+      (record { name = name; contents = contents; permitted = permitted; terms = terms }))
+  requests (OpenRequest mode contents controls activity) =
+      opens (messages.Pdu (OpenRequest mode contents controls activity))
+      (opened (file_named (file_in (selection party.history)) state.files) (requested_in (selection party.history)) mode)
+  requests CloseRequest = record { silent = refl; linked = refl }
+  requests (ReadRequest fadu context) =
+      reads (messages.Pdu (ReadRequest fadu context))
+      (read_given (file_named (file_in (selection party.history)) state.files) (units_in (association party.history)) (mode_in (mode party.history)) (position party.history) fadu context)
+  requests (WriteRequest operation fadu) = record { silent = refl; linked = refl }
+  requests (DataEnd diagnostic) = record { silent = refl; linked = refl }
+  requests TransferEndRequest = record { silent = refl; linked = refl }
+  requests _ = record { silent = refl; linked = tt }
+
+  performs : (message : Message) → Keeps party (performed state party moment message)
+  performs (messages.Pdu request) = requests request
+  performs (messages.Element element) = record { silent = refl; linked = refl }
+  performs _ = record { silent = refl; linked = tt }
+
+  -- what aborts, or what keeps
+  ends_by : (built placed : Bool) (row : Option ℕ) (consequence : Consequence) → Keeps party consequence
+      → list_any is_abort (if not built then aborts not_built else if not placed then aborts wrong_state else unless_aborted row consequence).said ≡ true
+      → (if not built then aborts not_built else if not placed then aborts wrong_state else unless_aborted row consequence).party ≡ None
+  ends_by false placed row consequence keeps said = refl
+  ends_by true false row consequence keeps said = refl
+  ends_by true true (Some number) consequence keeps said = refl
+  ends_by true true None consequence keeps said = absurd (true≢false (sym said ∙ keeps.silent))
+
+  pub abort_ends : (message : Message) → list_any is_abort (transition state party moment message).said ≡ true
+      → (transition state party moment message).party ≡ None
+  abort_ends message =
+      ends_by (is_built message) (takes (stage party.history) message) (limit (survivors party.history) (done party.history) message)
+      (performed state party moment message) (performs message)
+
+  links_by : (next : StandingParty) (built placed : Bool) (row : Option ℕ) (consequence : Consequence) → Keeps party consequence
+      → (if not built then aborts not_built else if not placed then aborts wrong_state else unless_aborted row consequence).party ≡ Some next
+      → next.link ≡ party.link
+  links_by next false placed row consequence keeps e = absurd cc
+  links_by next true false row consequence keeps e = absurd cc
+  links_by next true true (Some number) consequence keeps e = absurd cc
+  links_by next true true None consequence keeps e = by consequence.party keeps.linked e
+    where
+      by : (found : Option StandingParty) → IfSome found (λ (next : StandingParty). next.link ≡ party.link) → found ≡ Some next → next.link ≡ party.link
+      by None linked e = absurd cc
+      by (Some other) linked e = ap (λ (p : StandingParty). p.link) (sym (some_is other next e)) ∙ linked
+
+pub keeps_link : (state : State) (party next : StandingParty) (moment : ℕ) (message : Message)
+    → (transition state party moment message).party ≡ Some next → next.link ≡ party.link
+keeps_link state party next moment message =
+    links_by state party moment next (is_built message) (takes (stage party.history) message) (limit (survivors party.history) (done party.history) message)
+    (performed state party moment message) (performs state party moment message)
 
 -- a party that isn't idle after a consequence goes on
 pub goes_on : (link : ℕ) (after : Option StandingParty) (party : Party) → IsNext link after party → (stage_of party ≡ stages.Idle → ⊥)
@@ -77,57 +128,36 @@ goes_on link None party next busy = absurd (busy (ap stage_of next))
 goes_on link (Some standing) (parties.Idle idle) next busy = absurd next
 goes_on link (Some standing) (parties.Associated associated) next busy = (standing, refl, next)
 goes_on link (Some standing) (parties.Selected selected) next busy = (standing, refl, next)
+goes_on link (Some standing) (parties.Open opened) next busy = (standing, refl, next)
+goes_on link (Some standing) (parties.Moving moving) next busy = (standing, refl, next)
 
--- a refusal whose diagnostic is in its range
-abbrev pub IsGood : Refusal → Type 0
-IsGood (AbortOf number) = Unit {0}
-IsGood (DiagnosticOf diagnostic) = 0 < diagnostic.number
-
-abbrev pub IsGoodRow : Bool × Refusal → Type 0
-IsGoodRow row = IsGood row.1
-
-first_good : (rows : List (Bool × Refusal)) → AllByRecursion IsGoodRow rows → IfSome (first_row rows) IsGood
-first_good [] good = tt
-first_good (row ∷ later) good = by row.0 (first_good later good.1)
+-- no transfer is idle
+moving_busy : (movement : Movement) → stage_of_movement movement ≡ stages.Idle → ⊥
+moving_busy (movements.Writing write) idle = by write.ended idle
   where
-    by : (b : Bool) → IfSome (first_row later) IsGood → IfSome (cond b (Some row.1) (first_row later)) IsGood
-    by true rest = good.0
-    by false rest = rest
+    by : (ended : Option (Option Diagnostic)) → stage_of_write ended ≡ stages.Idle → ⊥
+    by None idle = absurd cc
+    by (Some diagnostic) idle = absurd cc
+moving_busy (movements.Reading refused) idle = absurd cc
 
-rows_good : (files : List File) (request : Pdu) → AllByRecursion IsGoodRow (rows files request)
-rows_good files (SelectRequest name) = (omega arith, tt)
-rows_good files (CreateRequest name contents) = (omega arith, tt)
-rows_good files (InitializeRequest units) = tt
-rows_good files TerminateRequest = tt
-rows_good files DeselectRequest = tt
-rows_good files (InitializeResponse d units) = tt
-rows_good files TerminateResponse = tt
-rows_good files (ProviderAbort number place) = tt
-rows_good files (SelectResponse d) = tt
-rows_good files (DeselectResponse d) = tt
-rows_good files (CreateResponse d) = tt
+-- a party that is idle after a consequence is gone
+pub ends_idle : (link : ℕ) (after : Option StandingParty) (party : Party) → IsNext link after party → stage_of party ≡ stages.Idle → after ≡ None
+ends_idle link None party next idle = refl
+ends_idle link (Some standing) (parties.Idle state) next idle = absurd next
+ends_idle link (Some standing) (parties.Associated associated) next idle = absurd cc
+ends_idle link (Some standing) (parties.Selected selected) next idle = absurd cc
+ends_idle link (Some standing) (parties.Open opened) next idle = absurd cc
+ends_idle link (Some standing) (parties.Moving moving) next idle = absurd (moving_busy moving.movement idle)
 
-response_sayable : (diagnostic : Option Diagnostic) (request : Pdu) → InRange diagnostic → AllByRecursion IsSayable (response diagnostic request)
-response_sayable diagnostic (InitializeRequest units) good = ((good, tt), tt)
-response_sayable diagnostic TerminateRequest good = ((tt, tt), tt)
-response_sayable diagnostic (SelectRequest name) good = ((good, tt), tt)
-response_sayable diagnostic DeselectRequest good = ((good, tt), tt)
-response_sayable diagnostic (CreateRequest name contents) good = ((good, tt), tt)
-response_sayable diagnostic (InitializeResponse d units) good = tt
-response_sayable diagnostic TerminateResponse good = tt
-response_sayable diagnostic (ProviderAbort number place) good = tt
-response_sayable diagnostic (SelectResponse d) good = tt
-response_sayable diagnostic (DeselectResponse d) good = tt
-response_sayable diagnostic (CreateResponse d) good = tt
+both : (a b : Bool) → a ≡ true → b ≡ true → IsTrue ((a && b) && true)
+both true true x y = refl
+both true false x y = absurd cc
+both false b x y = absurd cc
 
-module _ (state : State) (party : StandingParty) (moment : ℕ) (request : Pdu) where
-  sayable_by : (row : Option Refusal) → IfSome row IsGood → AllByRecursion IsSayable (consequence_by row state party moment request).said
-  sayable_by (Some (AbortOf number)) good = (omega arith, tt)
-  sayable_by (Some (DiagnosticOf diagnostic)) good = response_sayable (Some diagnostic) request good
-  sayable_by None good = response_sayable None request tt
-
-  -- what a consequence says has a value
-  pub consequence_sayable : AllByRecursion IsSayable (transition state party moment (messages.Pdu request)).said
-  consequence_sayable =
-      let all : List (Bool × Refusal) = (not (is_built (stage party.history) request), AbortOf not_built) ∷ rows state.files request in
-      sayable_by (refusal state party request) (first_good all (tt, rows_good state.files request))
+-- an abort of octets outside the grammar is told
+pub outside_sayable : (place : ℕ) → place ≤ 4294967295 → IsSayable (answers.Abort outside place)
+unfolding row_of
+outside_sayable place le =
+    let some : nat_le 0 place ≡ true = grind arith in
+    let few : nat_le place 9007199254740992 ≡ true = grind (arith, le) in
+    both (nat_le 0 place) (nat_le place 9007199254740992) some few

@@ -1,5 +1,5 @@
 -- How what is still printed goes on, message by message.
-use Rattle.std.proofs.Common.{◌≡◌, ℕ, Bool, true, false, ◌||◌, List, [], ◌∷◌, ◌++◌, Option, None, Some, refl, ap, sym, ◌∙◌, append_assoc, append-nil, drop, nat_eq, option_to_list}
+use Rattle.std.proofs.Common.{◌≡◌, ℕ, Bool, true, false, ◌||◌, List, [], ◌∷◌, ◌++◌, Option, None, Some, refl, ap, sym, ◌∙◌, append_assoc, append-nil, drop, nat_eq, option_to_list, Ok}
 use Rattle.std.specs.Prelude.{if◌then◌else◌}
 use Rattle.std.specs.List.{flat_map, list_any}
 use Rattle.std.proofs.lemmas.List.Folds.{list_any-append}
@@ -7,15 +7,14 @@ use Rattle.std.proofs.lemmas.Grind.{flat_map-append}
 use Rattle.vf_ber.specs.Reader.{verdict}
 use Rattle.vf_ber.specs.Tree.{Tree}
 use Rattle.vf_ber.specs.Verdict.{Read, Short}
-use Rattle.vf_pdu.specs.Meaning.{meaning}
-use Rattle.vf_pdu.specs.declared.pdu.Pdu.{Pdu}
-use Rattle.vf_regime.specs.declared.message.Message.TheVariants as messages
-use Rattle.vf_regime.specs.declared.message.Said.{Said}
-use Rattle.vf_regime.specs.declared.message.Said.TheVariants as answers
+use Rattle.vf_elements.specs.Messages.{message_in}
+use Rattle.vf_elements.specs.declared.message.Message.{Message}
+use Rattle.vf_elements.specs.declared.message.Said.{Said}
+use Rattle.vf_elements.specs.declared.message.Said.TheVariants as answers
 use Rattle.vf_regime.specs.State.{State, StandingParty, party_of, with_party}
 use Rattle.vf_regime.specs.Transition.{Consequence, after_transition, transition}
 use Rattle.vf_cli.specs.Conversation.{Aborts, Continues, IsQuiet, behind}
-use Rattle.vf_cli.specs.Dialogue.{Fault, Received, Request, answer, answer_by, dialogue_from, received, received_first, is_abort, joined, link, behind_replies, message_of, prints_after, reply, said_to, consequence_to}
+use Rattle.vf_cli.specs.Dialogue.{Faulty, Heard, Received, answer, answer_by, dialogue_from, received, received_first, is_abort, joined, link, behind_replies, heard, outside, prints_after, reply, said_to, consequence_to}
 use Rattle.vf_cli.specs.Printed.{Printed}
 use Rattle.vf_cli.proofs.ReceivedLemmas.{received-read, received_front}
 
@@ -86,29 +85,29 @@ module _ (old new : State) (octets rest : List ℕ) where
         ∙ prints_after-abort said input.bad abort;
   }
 
--- a request in front is taken by the one party
-pub says_request : (state : State) (party : StandingParty) (octets : List ℕ) (tree : Tree) (n : ℕ) (pdu : Pdu)
-    → state.parties ≡ party ∷ [] → party.link ≡ link → verdict octets ≡ Read tree n → meaning tree ≡ Some pdu
-    → Says state (after_transition state link (transition state party 0 (messages.Pdu pdu))) octets (drop n octets) (transition state party 0 (messages.Pdu pdu)).said
-says_request state party octets tree n pdu one here read means = λ more.
-    ap (said_to state) (received-read octets more tree n read ∙ ap (λ o. message_of o ∷ received (drop n octets ++ more)) means)
-    ∙ said_to-one state party (Request pdu) (received (drop n octets ++ more)) one here
+-- a message in front is taken by the one party
+pub says_message : (state : State) (party : StandingParty) (octets : List ℕ) (tree : Tree) (n : ℕ) (message : Message)
+    → state.parties ≡ party ∷ [] → party.link ≡ link → verdict octets ≡ Read tree n → message_in tree ≡ Ok message
+    → Says state (after_transition state link (transition state party 0 message)) octets (drop n octets) (transition state party 0 message).said
+says_message state party octets tree n message one here read means = λ more.
+    ap (said_to state) (received-read octets more tree n read ∙ ap (λ o. heard o ∷ received (drop n octets ++ more)) means)
+    ∙ said_to-one state party (Heard message) (received (drop n octets ++ more)) one here
 
 -- octets that are no message end the one party
-pub aborts_fault : (state : State) (party : StandingParty) (octets : List ℕ) (number place : ℕ) → state.parties ≡ party ∷ [] → party.link ≡ link
-    → ((more : List ℕ) → (later : List Received) × (received (octets ++ more) ≡ Fault number place ∷ later))
-    → Aborts state octets (reply (answers.Abort number place))
-aborts_fault state party octets number place one here faulty = record {
+pub aborts_fault : (state : State) (party : StandingParty) (octets : List ℕ) (place : ℕ) → state.parties ≡ party ∷ [] → party.link ≡ link
+    → ((more : List ℕ) → (later : List Received) × (received (octets ++ more) ≡ Faulty place ∷ later))
+    → Aborts state octets (reply (answers.Abort outside place))
+aborts_fault state party octets place one here faulty = record {
   prints = λ input.
       let fault = faulty (joined input.pieces) in
-      let consequence = consequence_to state party (Fault number place) in
-      let said : List Said = answers.Abort number place ∷ [] in
+      let consequence = consequence_to state party (Faulty place) in
+      let said : List Said = answers.Abort outside place ∷ [] in
       let after = after_transition state link consequence in
       ap (λ l. prints_after l input.bad)
-      (ap (said_to state) fault.1 ∙ said_to-one state party (Fault number place) fault.0 one here
+      (ap (said_to state) fault.1 ∙ said_to-one state party (Faulty place) fault.0 one here
       ∙ ap (λ l. said ++ l) (said_to-gone after fault.0 (after_one state party consequence one here)))
       ∙ prints_after-abort said input.bad refl
-      ∙ (λ i. record { octets = append-nil (reply (answers.Abort number place)) i; status = 7 });
+      ∙ (λ i. record { octets = append-nil (reply (answers.Abort outside place)) i; status = 7 });
 }
 
 module _ (first second third : State) (octets between rest said later : List ℕ) where

@@ -4,8 +4,8 @@ use Rattle.std.proofs.lemmas.List.{drop-append-le}
 use Rattle.vf_ber.specs.Reader.{verdict}
 use Rattle.vf_ber.specs.Tree.{Tree}
 use Rattle.vf_ber.specs.Verdict.{Verdict, Short, Bad, Deep, Long, Read}
-use Rattle.vf_pdu.specs.Meaning.{meaning}
-use Rattle.vf_cli.specs.Dialogue.{received, received_first, received_within, message_of}
+use Rattle.vf_elements.specs.Messages.{message_in}
+use Rattle.vf_cli.specs.Dialogue.{received, received_first, received_within, heard}
 use Rattle.vf_cli.proofs.ReadingLemmas.{IsSettled, Takes, verdict-append, verdict-takes, verdict_none}
 
 received_none : (n : ℕ) → received_within n [] ≡ []
@@ -30,7 +30,7 @@ received_enough (suc m) (suc n) octets p q =
     by (Bad at) takes rest = refl
     by (Deep at) takes rest = refl
     by (Long at) takes rest = refl
-    by (Read tree k) takes rest = ap (λ l. message_of (meaning tree) ∷ l) (rest k takes.0)
+    by (Read tree k) takes rest = ap (λ l. heard (message_in tree) ∷ l) (rest k takes.0)
 
 -- what is received begins with what stands in front
 pub received_front : (octets : List ℕ) → received octets ≡ received_first received octets (verdict octets)
@@ -47,7 +47,7 @@ received_front (octet ∷ octets) =
     by (Read tree k) takes =
         let rest = drop k (octet ∷ octets) in
         let shorter : length rest ≤ length octets = omega (arith, length-drop k (octet ∷ octets)) in
-        ap (λ l. message_of (meaning tree) ∷ l) (received_enough (length octets) (length rest) rest shorter (omega arith))
+        ap (λ l. heard (message_in tree) ∷ l) (received_enough (length octets) (length rest) rest shorter (omega arith))
 
 -- a front that is settled is received as it is, and then what is behind it
 pub received-settled : (octets more : List ℕ) (r : Verdict) → verdict octets ≡ r → IsSettled r → received (octets ++ more) ≡ received_first received (octets ++ more) r
@@ -56,8 +56,8 @@ received-settled octets more r is settled =
     ∙ ap (received_first received (octets ++ more)) (verdict-append octets more (subst IsSettled (sym is) settled) ∙ is)
 
 pub received-read : (octets more : List ℕ) (tree : Tree) (n : ℕ) → verdict octets ≡ Read tree n
-    → received (octets ++ more) ≡ message_of (meaning tree) ∷ received (drop n octets ++ more)
+    → received (octets ++ more) ≡ heard (message_in tree) ∷ received (drop n octets ++ more)
 received-read octets more tree n read =
     let takes = subst (Takes octets) read (verdict-takes octets) in
     received-settled octets more (Read tree n) read tt
-    ∙ ap (λ l. message_of (meaning tree) ∷ received l) (drop-append-le n octets more takes.1)
+    ∙ ap (λ l. heard (message_in tree) ∷ received l) (drop-append-le n octets more takes.1)

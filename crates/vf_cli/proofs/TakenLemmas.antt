@@ -5,55 +5,55 @@ use Rattle.std.proofs.lemmas.List.{drop-drop}
 use Rattle.vf_ber.specs.Tree.{Tree}
 use Rattle.vf_ber.specs.Reader.{verdict}
 use Rattle.vf_ber.specs.Verdict.{Verdict, Short, Bad, Deep, Long, Read}
-use Rattle.vf_pdu.specs.Meaning.{meaning}
-use Rattle.vf_pdu.specs.declared.pdu.Pdu.{Pdu}
-use Rattle.vf_regime.specs.declared.message.Message.TheVariants as messages
-use Rattle.vf_regime.specs.declared.message.Said.TheVariants as answers
+use Rattle.vf_elements.specs.Messages.{message_in, place_of}
+use Rattle.vf_elements.specs.declared.message.Message.{Message}
+use Rattle.vf_elements.specs.declared.message.Said.TheVariants as answers
 use Rattle.vf_regime.specs.declared.party.Party.{Party}
-use Rattle.vf_regime.specs.declared.tables.Tables.{Tables}
+use Rattle.vf_tables.specs.declared.tables.Tables.{Tables}
 use Rattle.vf_regime.specs.Files.{after_changes}
-use Rattle.vf_regime.specs.Refusal.{not_built}
 use Rattle.vf_regime.specs.Represents.{with_tables}
+use Rattle.vf_regime.specs.Sayable.{CanServe, NextCanServe}
+use Rattle.vf_regime.proofs.Served.{goes_on_serving}
 use Rattle.vf_regime.specs.State.{State, StandingParty}
 use Rattle.vf_regime.specs.Transition.{Consequence, after_transition, transition}
 use Rattle.vf_cli.specs.declared.conversation.After.{After}
 use Rattle.vf_cli.specs.declared.conversation.After.TheVariants as after
 use Rattle.vf_cli.specs.declared.message.Front.TheVariants as front
 use Rattle.vf_cli.specs.Conversation.{Aborts, Appends, Continues, Holds, IsAfter, IsFront, Makes, Took}
-use Rattle.vf_cli.specs.Dialogue.{Fault, Received, received, link, message_of, outside, reply, said_to}
-use Rattle.vf_cli.proofs.ContinuesLemmas.{aborts, aborts_fault, after_one, continues, continues-aborts, continues-continues, says_request}
+use Rattle.vf_cli.specs.Dialogue.{Faulty, Received, heard, received, link, outside, reply, said_to}
+use Rattle.vf_cli.proofs.ContinuesLemmas.{aborts, aborts_fault, after_one, continues, continues-aborts, continues-continues, says_message}
 use Rattle.vf_cli.proofs.ReceivedLemmas.{received-read, received-settled}
 use Rattle.vf_cli.proofs.ConsequenceLemmas.{keeps_link}
 
 -- a state with the tables' files is the same with the tables
-with_tables-same : (tables : Tables) (state : State) → state.files ≡ tables.files → with_tables tables state ≡ state
+pub with_tables-same : (tables : Tables) (state : State) → state.files ≡ tables.files → with_tables tables state ≡ state
 with_tables-same tables state same = λ i. record { users = state.users; files = sym same i; parties = state.parties; transitions = state.transitions }
 
 -- where a fault stands in front, it is received first
-same_fault : (things later : List Received) (number place n at : ℕ) → number ≡ n → place ≡ at → things ≡ Fault n at ∷ later → things ≡ Fault number place ∷ later
-same_fault things later number place n at same there is = is ∙ ap (λ k. Fault k at ∷ later) (sym same) ∙ ap (λ k. Fault number k ∷ later) (sym there)
+same_fault : (things later : List Received) (place at : ℕ) → place ≡ at → things ≡ Faulty at ∷ later → things ≡ Faulty place ∷ later
+same_fault things later place at there is = is ∙ ap (λ k. Faulty k ∷ later) (sym there)
 
-faulty : (rest more : List ℕ) (number place : ℕ) → IsFront (verdict rest) (Ok (front.Fault number place)) → (later : List Received) × (received (rest ++ more) ≡ Fault number place ∷ later)
-faulty rest more number place found = by (verdict rest) refl found
+faulty : (rest more : List ℕ) (place : ℕ) → IsFront (verdict rest) (Ok (front.Fault place)) → (later : List Received) × (received (rest ++ more) ≡ Faulty place ∷ later)
+faulty rest more place found = by (verdict rest) refl found
   where
-    by : (r : Verdict) → verdict rest ≡ r → IsFront r (Ok (front.Fault number place)) → (later : List Received) × (received (rest ++ more) ≡ Fault number place ∷ later)
+    by : (r : Verdict) → verdict rest ≡ r → IsFront r (Ok (front.Fault place)) → (later : List Received) × (received (rest ++ more) ≡ Faulty place ∷ later)
     by Short e found = absurd found
-    by (Bad at) e found = ([], same_fault (received (rest ++ more)) [] number place outside at found.0 found.1 (received-settled rest more (Bad at) e tt))
-    by (Deep at) e found = ([], same_fault (received (rest ++ more)) [] number place outside at found.0 found.1 (received-settled rest more (Deep at) e tt))
-    by (Long at) e found = ([], same_fault (received (rest ++ more)) [] number place outside at found.0 found.1 (received-settled rest more (Long at) e tt))
+    by (Bad at) e found = ([], same_fault (received (rest ++ more)) [] place at found (received-settled rest more (Bad at) e tt))
+    by (Deep at) e found = ([], same_fault (received (rest ++ more)) [] place at found (received-settled rest more (Deep at) e tt))
+    by (Long at) e found = ([], same_fault (received (rest ++ more)) [] place at found (received-settled rest more (Long at) e tt))
     by (Read tree n) e found =
         let later = received (drop n rest ++ more) in (
           later,
-          same_fault (received (rest ++ more)) later number place not_built 0 found.1 found.2
-              (received-read rest more tree n e ∙ ap (λ o. message_of o ∷ later) found.0),
+          same_fault (received (rest ++ more)) later place (place_of found.0) found.2
+              (received-read rest more tree n e ∙ ap (λ o. heard o ∷ later) found.1),
         )
 
--- a request in front was read
-read_request : (rest : List ℕ) (pdu : Pdu) (n : ℕ) → IsFront (verdict rest) (Ok (front.Request pdu n))
-    → (tree : Tree) × (verdict rest ≡ Read tree n) × (meaning tree ≡ Some pdu)
-read_request rest pdu n found = by (verdict rest) refl found
+-- a message in front was read
+read_message : (rest : List ℕ) (message : Message) (n : ℕ) → IsFront (verdict rest) (Ok (front.Heard message n))
+    → (tree : Tree) × (verdict rest ≡ Read tree n) × (message_in tree ≡ Ok message)
+read_message rest message n found = by (verdict rest) refl found
   where
-    by : (r : Verdict) → verdict rest ≡ r → IsFront r (Ok (front.Request pdu n)) → (tree : Tree) × (verdict rest ≡ Read tree n) × (meaning tree ≡ Some pdu)
+    by : (r : Verdict) → verdict rest ≡ r → IsFront r (Ok (front.Heard message n)) → (tree : Tree) × (verdict rest ≡ Read tree n) × (message_in tree ≡ Ok message)
     by Short e found = absurd found
     by (Bad at) e found = absurd found
     by (Deep at) e found = absurd found
@@ -66,49 +66,52 @@ module _ (first state next : State) (octets between rest said : List ℕ) (conse
       → ((more : List ℕ) → said_to state (received (between ++ more)) ≡ consequence.said ++ said_to next (received (rest ++ more)))
       → next.parties ≡ option_to_list consequence.party ++ [] → next.files ≡ made.files
       → ((standing : StandingParty) → consequence.party ≡ Some standing → standing.link ≡ link)
+      → ((standing : StandingParty) → consequence.party ≡ Some standing → CanServe next standing)
       → IsAfter consequence after → Took first octets (said ++ flat_map reply consequence.said) made after rest
-  took (after.Goes party) before says parties files links goes =
+  took (after.Goes party) before says parties files links serves goes =
       let one = parties ∙ ap (λ (o : Option StandingParty). option_to_list o ++ []) goes.1 in (
         next,
-        (goes.0, one, links goes.0 goes.1, goes.2, files),
+        (goes.0, one, links goes.0 goes.1, goes.2, files, serves goes.0 goes.1),
         continues-continues first state next octets between rest said (flat_map reply consequence.said) before
             (continues state next between rest consequence.said goes.3 says),
       )
-  took after.Gone before says parties files links goes = (
+  took after.Gone before says parties files links serves goes = (
     next,
     parties ∙ ap (λ (o : Option StandingParty). option_to_list o ++ []) goes.0,
     continues-continues first state next octets between rest said (flat_map reply consequence.said) before
         (continues state next between rest consequence.said goes.1 says),
   )
-  took after.Aborted before says parties files links goes =
+  took after.Aborted before says parties files links serves goes =
       continues-aborts first state next octets between rest said (flat_map reply consequence.said) before
       (aborts state next between rest consequence.said goes.1 (parties ∙ ap (λ (o : Option StandingParty). option_to_list o ++ []) goes.0) says)
 
 module _ (first state : State) (party : Party) (tables : Tables) (octets said old : List ℕ) (at : ℕ)
     (holds : Holds (Some party) tables state) (before : Continues first octets said state (drop at octets)) where
-  pub takes_fault : (number place : ℕ) → IsFront (verdict (drop at octets)) (Ok (front.Fault number place)) → Aborts first octets (said ++ reply (answers.Abort number place))
-  takes_fault number place found =
+  pub takes_fault : (place : ℕ) → IsFront (verdict (drop at octets)) (Ok (front.Fault place)) → Aborts first octets (said ++ reply (answers.Abort outside place))
+  takes_fault place found =
       let rest = drop at octets in
-      continues-aborts first state state octets rest [] said (reply (answers.Abort number place)) before
-      (aborts_fault state holds.0 rest number place holds.1 holds.2 (λ more. faulty rest more number place found))
+      continues-aborts first state state octets rest [] said (reply (answers.Abort outside place)) before
+      (aborts_fault state holds.0 rest place holds.1 holds.2 (λ more. faulty rest more place found))
 
-  -- what is printed goes on with the consequence of a request in front
-  pub takes_request : (pdu : Pdu) (n : ℕ) (new replies : List ℕ) (made : Tables) (rest : After) → replies ≡ old ++ said
-      → IsFront (verdict (drop at octets)) (Ok (front.Request pdu n))
-      → Makes (transition (with_tables tables state) holds.0 0 (messages.Pdu pdu)) replies new tables made rest
+  -- what is printed goes on with the consequence of a message in front
+  pub takes_message : (message : Message) (n : ℕ) (new replies : List ℕ) (made : Tables) (rest : After) → replies ≡ old ++ said
+      → IsFront (verdict (drop at octets)) (Ok (front.Heard message n))
+      → Makes (transition (with_tables tables state) holds.0 0 message) replies new tables made rest
       → Appends first octets old new made rest (drop (at + n) octets)
-  takes_request pdu n new replies made rest so_far found makes =
-      let consequence = transition state holds.0 0 (messages.Pdu pdu) in
-      let same = subst (λ (s : State). Makes (transition s holds.0 0 (messages.Pdu pdu)) replies new tables made rest) (with_tables-same tables state holds.4) makes in
-      let read = read_request (drop at octets) pdu n found in
+  takes_message message n new replies made rest so_far found makes =
+      let consequence = transition state holds.0 0 message in
+      let same = subst (λ (s : State). Makes (transition s holds.0 0 message) replies new tables made rest) (with_tables-same tables state holds.4) makes in
+      let read = read_message (drop at octets) message n found in
       let next = after_transition state link consequence in
       let lines = flat_map reply consequence.said in
       let says : (more : List ℕ) → said_to state (received (drop at octets ++ more)) ≡ consequence.said ++ said_to next (received (drop (at + n) octets ++ more)) =
-      λ more. says_request state holds.0 (drop at octets) read.0 n pdu holds.1 holds.2 read.1 read.2 more
+      λ more. says_message state holds.0 (drop at octets) read.0 n message holds.1 holds.2 read.1 read.2 more
       ∙ ap (λ l. consequence.said ++ said_to next (received (l ++ more))) (drop-drop n at octets) in
       let files = sym (same.changed ∙ ap (after_changes consequence.changes) (sym holds.4)) in
       let parties = after_one state holds.0 consequence holds.1 holds.2 in
       let written : new ≡ old ++ (said ++ lines) = same.said ∙ ap (λ l. l ++ lines) so_far ∙ append_assoc old said lines in
       let links : (standing : StandingParty) → consequence.party ≡ Some standing → standing.link ≡ link =
-      λ standing goes. keeps_link state holds.0 standing 0 pdu goes ∙ holds.2 in
-      (said ++ lines, written, took first state next octets (drop at octets) (drop (at + n) octets) said consequence made rest before says parties files links same.goes)
+      λ standing goes. keeps_link state holds.0 standing 0 message goes ∙ holds.2 in
+      let serves : (standing : StandingParty) → consequence.party ≡ Some standing → CanServe next standing =
+      λ standing goes. subst (NextCanServe next) goes (goes_on_serving state holds.0 0 link message holds.5) in
+      (said ++ lines, written, took first state next octets (drop at octets) (drop (at + n) octets) said consequence made rest before says parties files links serves same.goes)

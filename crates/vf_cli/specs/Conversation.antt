@@ -3,17 +3,16 @@ use Rattle.std.specs.Prelude.{◌≡◌, ◌<◌, ◌≤◌, length as length_of
 use Rattle.std.specs.List.{flat_map, list_any}
 use Rattle.vf_base.specs.declared.errors.NoMemory.{NoMemory}
 use Rattle.vf_ber.specs.Reader.{verdict}
+use Rattle.vf_ber.specs.Tree.{Tree}
 use Rattle.vf_ber.specs.Verdict.{Verdict, Short, Bad, Deep, Long, Read}
-use Rattle.vf_pdu.specs.declared.pdu.Pdu.TheVariants.{ProviderAbort}
-use Rattle.vf_pdu.specs.Meaning.{meaning}
-use Rattle.vf_pdu.specs.Value.{IsMessage, IsNamed}
-use Rattle.vf_regime.specs.declared.message.Said.{Said}
-use Rattle.vf_regime.specs.declared.message.Said.TheVariants as answers
+use Rattle.vf_elements.specs.Messages.{message_in, place_of}
+use Rattle.vf_fields.specs.Fault.{Fault}
+use Rattle.vf_elements.specs.declared.message.Said.{Said}
 use Rattle.vf_regime.specs.declared.party.Party.{Party}
-use Rattle.vf_regime.specs.declared.tables.Tables.{Tables}
+use Rattle.vf_tables.specs.declared.tables.Tables.{Tables}
 use Rattle.vf_regime.specs.Files.{after_changes}
-use Rattle.vf_regime.specs.Refusal.{not_built}
 use Rattle.vf_regime.specs.Represents.{Represents}
+use Rattle.vf_regime.specs.Sayable.{CanServe}
 use Rattle.vf_regime.specs.State.{State, StandingParty}
 use Rattle.vf_regime.specs.Transition.{Consequence}
 use Rattle.vf_scan.specs.Scanned.{HasTaken}
@@ -23,7 +22,7 @@ use Rattle.vf_cli.specs.declared.conversation.After.TheVariants as after
 use Rattle.vf_cli.specs.declared.conversation.Conversation.{Conversation}
 use Rattle.vf_cli.specs.declared.message.Front.{Front}
 use Rattle.vf_cli.specs.declared.message.Front.TheVariants as front
-use Rattle.vf_cli.specs.Dialogue.{dialogue, dialogue_from, outside, received, is_abort, link, reply, said_to}
+use Rattle.vf_cli.specs.Dialogue.{dialogue, dialogue_from, received, is_abort, link, reply, said_to}
 use Rattle.vf_cli.specs.declared.lines.NextLine.{NextLine}
 use Rattle.vf_cli.specs.Lines.{Input, input_limit}
 use Rattle.vf_cli.specs.Reader.{Answers}
@@ -34,30 +33,29 @@ use Rattle.vf_cli.specs.Printed.{Printed, Wrote, WroteFront}
 -- what stands in front of octets of this verdict
 abbrev pub IsFront : Verdict → Result Front NoMemory → Type 0
 IsFront verdict (Ok front.Nothing) = verdict ≡ Short
-IsFront Short (Ok (front.Fault number place)) = ⊥
-IsFront (Bad at) (Ok (front.Fault number place)) = (number ≡ outside) × (place ≡ at)
-IsFront (Deep at) (Ok (front.Fault number place)) = (number ≡ outside) × (place ≡ at)
-IsFront (Long at) (Ok (front.Fault number place)) = (number ≡ outside) × (place ≡ at)
-IsFront (Read tree n) (Ok (front.Fault number place)) = (meaning tree ≡ None) × (number ≡ not_built) × (place ≡ 0)
-IsFront (Read tree n) (Ok (front.Request pdu length)) = (meaning tree ≡ Some pdu) × (n ≡ length)
-IsFront verdict (Ok (front.Request pdu length)) = ⊥
+IsFront Short (Ok (front.Fault place)) = ⊥
+IsFront (Bad at) (Ok (front.Fault place)) = place ≡ at
+IsFront (Deep at) (Ok (front.Fault place)) = place ≡ at
+IsFront (Long at) (Ok (front.Fault place)) = place ≡ at
+IsFront (Read tree n) (Ok (front.Fault place)) = (fault : Fault) × (message_in tree ≡ Err fault) × (place ≡ place_of fault)
+IsFront (Read tree n) (Ok (front.Heard message length)) = (message_in tree ≡ Ok message) × (n ≡ length)
+IsFront verdict (Ok (front.Heard message length)) = ⊥
 IsFront verdict (Err error) = Unit {0}
+
+-- what a value in front means
+abbrev pub MeansFront : Tree → ℕ → Result Front NoMemory → Type 0
+MeansFront tree n result = IsFront (Read tree n) result
 
 -- a message in front is some of the octets
 abbrev pub Advances : List ℕ → Result Front NoMemory → Type 0
-Advances octets (Ok (front.Request pdu length)) = (0 < length) × (length ≤ length_of octets)
+Advances octets (Ok (front.Heard message length)) = (0 < length) × (length ≤ length_of octets)
 Advances octets _ = Unit {0}
-
--- a reply whose fields are in their ranges
-abbrev pub IsSayable : Said → Type 0
-IsSayable (answers.Pdu pdu) = IsMessage pdu × IsNamed pdu
-IsSayable (answers.Abort number place) = IsMessage (ProviderAbort number place)
 
 -- A party that goes on, with these tables, stands for the one party of the state. One that is gone stands nowhere.
 abbrev pub Holds : Option Party → Tables → State → Type 0
 Holds (Some party) tables state =
     (standing : StandingParty) × (state.parties ≡ standing ∷ []) × (standing.link ≡ link) × Represents party standing
-    × (state.files ≡ tables.files)
+    × (state.files ≡ tables.files) × CanServe state standing
 Holds None tables state = state.parties ≡ []
 
 -- octets that are no message yet: nothing is said to them

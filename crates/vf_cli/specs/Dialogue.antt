@@ -1,44 +1,43 @@
 -- What `dialogue` prints (profile): one party's messages over a filestore that starts empty. It has no layers
 -- below, so a piece of the stream of messages is a line, and every message comes at moment 0.
-use Rattle.std.specs.Prelude.{ℕ, zero, suc, Bool, true, false, List, [], ◌∷◌, ◌++◌, length, drop, Option, None, Some, if◌then◌else◌}
+use Rattle.std.specs.Prelude.{ℕ, zero, suc, Bool, true, false, List, [], ◌∷◌, ◌++◌, length, drop, Option, None, Some, Result, Ok, Err, if◌then◌else◌}
 use Rattle.std.specs.List.{flat_map, list_any}
 use Rattle.vf_ber.specs.Reader.{verdict}
 use Rattle.vf_ber.specs.Spelling.{spell}
 use Rattle.vf_ber.specs.Verdict.{Verdict, Short, Bad, Deep, Long, Read}
-use Rattle.vf_pdu.specs.declared.pdu.Pdu.{Pdu}
+use Rattle.vf_elements.specs.ElementValue.{value as element_value}
+use Rattle.vf_elements.specs.Messages.{message_in, place_of}
+use Rattle.vf_elements.specs.declared.message.Message.{Message}
+use Rattle.vf_elements.specs.declared.message.Said.{Said}
+use Rattle.vf_elements.specs.declared.message.Said.TheVariants as answers
+use Rattle.vf_fields.specs.Fault.{Fault}
+use Rattle.vf_pdu.specs.PduValue.{value}
 use Rattle.vf_pdu.specs.declared.pdu.Pdu.TheVariants.{ProviderAbort}
-use Rattle.vf_pdu.specs.Meaning.{meaning}
-use Rattle.vf_pdu.specs.Value.{value}
-use Rattle.vf_regime.specs.declared.message.Message.TheVariants as messages
-use Rattle.vf_regime.specs.declared.message.Said.{Said}
-use Rattle.vf_regime.specs.declared.message.Said.TheVariants as answers
-use Rattle.vf_regime.specs.Refusal.{not_built}
 use Rattle.vf_regime.specs.State.{State, StandingParty, arrived, party_of}
 use Rattle.vf_regime.specs.Transition.{Consequence, after_transition, leaves, transition}
 use Rattle.vf_cli.specs.Lines.{Input, says, hex_line, bad_line}
 use Rattle.vf_cli.specs.Printed.{Printed}
 
--- A message that is built so far. Or octets that are no such message, with the number of the abort that tells it,
--- and the place of the fault in the octets of the message.
+-- a message, or octets outside the grammar with the place of their fault
 pub data Received : Type 0 where
-  Request : Pdu → Received
-  Fault : ℕ → ℕ → Received
+  Heard : Message → Received
+  Faulty : ℕ → Received
 
--- the abort of octets that no value begins with (profile)
+-- the abort of octets that are no message (profile)
 abbrev pub outside : ℕ
 outside = 101
 
-abbrev pub message_of : Option Pdu → Received
-message_of (Some pdu) = Request pdu
-message_of None = Fault not_built 0
+abbrev pub heard : Result Message Fault → Received
+heard (Ok message) = Heard message
+heard (Err fault) = Faulty (place_of fault)
 
 -- what the octets in front are received as, and behind them what `behind` makes of the rest
 abbrev pub received_first : (List ℕ → List Received) → List ℕ → Verdict → List Received
 received_first behind octets Short = []
-received_first behind octets (Bad at) = Fault outside at ∷ []
-received_first behind octets (Deep at) = Fault outside at ∷ []
-received_first behind octets (Long at) = Fault outside at ∷ []
-received_first behind octets (Read tree n) = message_of (meaning tree) ∷ behind (drop n octets)
+received_first behind octets (Bad at) = Faulty at ∷ []
+received_first behind octets (Deep at) = Faulty at ∷ []
+received_first behind octets (Long at) = Faulty at ∷ []
+received_first behind octets (Read tree n) = heard (message_in tree) ∷ behind (drop n octets)
 
 -- The messages of a stream, one after another. A rest that is no whole value yet is nothing, and behind octets
 -- that begin no value nothing is read. The bound is on their number; the number of octets is always enough.
@@ -59,8 +58,8 @@ opened = record { users = []; files = []; parties = arrived link ∷ []; transit
 
 -- what comes of what the party receives
 abbrev pub consequence_to : State → StandingParty → Received → Consequence
-consequence_to state party (Request pdu) = transition state party 0 (messages.Pdu pdu)
-consequence_to state party (Fault number place) = leaves (answers.Abort number place ∷ [])
+consequence_to state party (Heard message) = transition state party 0 message
+consequence_to state party (Faulty place) = leaves (answers.Abort outside place ∷ [])
 
 -- what is said to one message or fault, and the state after it; a party that is gone receives nothing
 pub record Answer : Type 0 where
@@ -81,14 +80,17 @@ abbrev pub said_to : State → List Received → List Said
 said_to state [] = []
 said_to state (thing ∷ things) = (answer state thing).said ++ said_to (answer state thing).state things
 
--- a reply is a line
+-- A reply is a line. Checkpoints are the session's (ISO 8327), of which there is none: they have no line.
 abbrev pub reply : Said → List ℕ
 reply (answers.Pdu pdu) = hex_line (spell (value pdu))
+reply (answers.Element element) = hex_line (spell (element_value element))
+reply (answers.Check point) = []
+reply (answers.Acknowledge point) = []
 reply (answers.Abort number place) = hex_line (spell (value (ProviderAbort number place)))
 
 abbrev pub is_abort : Said → Bool
-is_abort (answers.Pdu pdu) = false
 is_abort (answers.Abort number place) = true
+is_abort _ = false
 
 abbrev pub behind_replies : Option ℕ → Printed
 behind_replies None = record { octets = []; status = 0 }

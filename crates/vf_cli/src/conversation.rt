@@ -1,18 +1,18 @@
 //! A conversation with one party.
 ghost use Rattle.std.specs.Prelude.{◌≡◌, ◌++◌, ◌≤◌, [], drop, IfOk, IfSome, Some, length, List, vec_len, ℕ};
 ghost use Rattle.std.specs.List.{AllByRecursion, flat_map, list_any};
-ghost use Rattle.vf_regime.specs.declared.message.Message.TheVariants as messages;
 ghost use Rattle.vf_regime.specs.Represents.{Represents, with_tables};
+ghost use Rattle.vf_regime.specs.Sayable.{CanServe, IsSayable};
 ghost use Rattle.vf_regime.specs.State.{State, StandingParty};
 ghost use Rattle.vf_regime.specs.Transition.{transition};
-ghost use Rattle.vf_cli.specs.Conversation.{Appends, Holds, IsRest, IsSayable, IsScanned, Makes, Stands, TakesPiece};
-ghost use Rattle.vf_cli.specs.Dialogue.{is_abort as abort_test, opened, reply};
+ghost use Rattle.vf_cli.specs.Conversation.{Appends, Holds, IsRest, IsScanned, Makes, Stands, TakesPiece};
+ghost use Rattle.vf_cli.specs.Dialogue.{is_abort as abort_test, opened, outside, reply};
 
 use crate::message::{Front, append_reply, front_of};
 use std::alloc::Global;
 use vf_base::{Moment, NoMemory};
-use vf_pdu::Pdu;
-use vf_regime::{Message, Outcome, Party, Said, Stage, Tables};
+use vf_elements::{Message, Said, Stage};
+use vf_regime::{Outcome, Party, Tables};
 use vf_scan::Scan;
 
 /// A conversation with one party over a filestore that starts empty.
@@ -125,13 +125,13 @@ pub(crate) fn take_messages(
         let (_, rest) = octets.split_at(at);
         match front_of(alloc, rest)? {
             Front::Nothing => return Ok((After::Goes(party), at)),
-            Front::Fault { number, place } => {
-                append_abort(alloc, number, place, replies)?;
+            Front::Fault { place } => {
+                append_abort(alloc, place, replies)?;
                 return Ok((After::Aborted, at));
             }
-            Front::Request { pdu, length } => {
+            Front::Heard { message, length } => {
                 at += length;
-                match take_request(alloc, party, tables, pdu, replies)? {
+                match take_message(alloc, party, tables, message, replies)? {
                     After::Goes(next) => party = next,
                     ended => return Ok((ended, at)),
                 }
@@ -140,21 +140,21 @@ pub(crate) fn take_messages(
     }
 }
 
-fn take_request(
+fn take_message(
     alloc: Global,
     party: Party,
     tables: &mut Tables,
-    pdu: Pdu,
+    message: Message,
     replies: &mut Vec<u8>,
 ) -> Result<After, NoMemory>
-    requires { (standing : StandingParty) × Represents party standing }
+    requires { (state : State) × (standing : StandingParty) × Represents party standing × CanServe (with_tables tables.old state) standing }
     ensures { IfOk result (λ rest. (state : State) (standing : StandingParty) → Represents party standing
-        → Makes (transition (with_tables tables.old state) standing 0 (messages.Pdu pdu)) replies.old.items replies.new.items tables.old tables.new rest) }
+        → Makes (transition (with_tables tables.old state) standing 0 message) replies.old.items replies.new.items tables.old tables.new rest) }
 {
     let Ok(moment) = Moment::of(0) else {
         unreachable!()
     };
-    let Ok(outcome) = party.take(alloc, Message::Pdu(pdu), moment, 1, false, false, tables) else {
+    let Ok(outcome) = party.take(alloc, message, moment, 1, false, false, tables) else {
         return Err(NoMemory);
     };
     let Outcome {
@@ -191,16 +191,22 @@ fn is_abort(said: &Said) -> bool
 {
     match said {
         Said::Pdu(_) => false,
+        Said::Element(_) => false,
+        Said::Check { .. } => false,
+        Said::Acknowledge { .. } => false,
         Said::Abort { .. } => true,
     }
 }
 
-fn append_abort(alloc: Global, number: u16, place: u32, text: &mut Vec<u8>) -> Result<(), NoMemory>
-    ensures { IfOk result (λ _. text.new.items ≡ text.old.items ++ reply (Said.Abort number place)) }
+/// The abort of octets that are no message (profile).
+const OUTSIDE: u16 = 101;
+
+fn append_abort(alloc: Global, place: u32, text: &mut Vec<u8>) -> Result<(), NoMemory>
+    ensures { IfOk result (λ _. text.new.items ≡ text.old.items ++ reply (Said.Abort outside place)) }
 {
     let abort = Said::Abort {
-        number,
-        place: place as u64,
+        number: OUTSIDE,
+        place: u64::from(place),
     };
     append_reply(alloc, &abort, text)?;
     Ok(())

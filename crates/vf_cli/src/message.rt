@@ -1,36 +1,36 @@
 //! Messages in front of octets, and replies as lines.
 ghost use Rattle.std.specs.Prelude.{◌≡◌, ◌++◌, OnOk};
+ghost use Rattle.vf_ber.specs.Limits.{IsTooLarge};
 ghost use Rattle.vf_ber.specs.Reader.{verdict};
-ghost use Rattle.vf_cli.specs.Conversation.{Advances, IsFront, IsSayable};
 ghost use Rattle.vf_ber.specs.Spelling.{spell};
-ghost use Rattle.vf_pdu.specs.Value.{IsMessage, IsNamed, value};
+ghost use Rattle.vf_ber.specs.Views.{tree_of};
+ghost use Rattle.vf_cli.specs.Conversation.{Advances, IsFront, MeansFront};
 ghost use Rattle.vf_cli.specs.Dialogue.{reply};
 ghost use Rattle.vf_cli.specs.Lines.{hex_line};
+ghost use Rattle.vf_elements.specs.ElementValue.{IsWritable, value as element_value};
+ghost use Rattle.vf_elements.specs.Sizes.{IsShort};
+ghost use Rattle.vf_pdu.specs.PduMeaning.{IsInRange};
+ghost use Rattle.vf_pdu.specs.PduValue.{value};
+ghost use Rattle.vf_regime.specs.Sayable.{IsSayable};
 
 use crate::printed::append_hex_line;
 use std::alloc::Global;
-use vf_base::NoMemory;
-use vf_ber::{BerError, WriteError};
-use vf_pdu::{Pdu, PduError};
-use vf_regime::Said;
+use vf_base::{Element, NoMemory};
+use vf_ber::{BerError, Value, WriteError};
+use vf_elements::{Message, Said};
+use vf_fields::PduError;
+use vf_pdu::Pdu;
 
 /// What stands in front of octets.
 #[derive(Drop)]
 pub(crate) enum Front {
     /// A proper front of a message.
     Nothing,
-    /// Octets that no built message begins with, with the abort that tells it: its number, and the place of the
-    /// fault from 0 on.
-    Fault { number: u16, place: u32 },
+    /// Octets outside the grammar, with the place of their fault from 0 on.
+    Fault { place: u32 },
     /// A message of so many octets.
-    Request { pdu: Pdu, length: usize },
+    Heard { message: Message, length: usize },
 }
-
-/// The abort of octets that no value begins with (profile).
-const OUTSIDE: u16 = 101;
-
-/// The abort of values that are no built message (profile).
-const NOT_BUILT: u16 = 199;
 
 /// What stands in front of the octets.
 pub(crate) fn front_of(alloc: Global, octets: &[u8]) -> Result<Front, NoMemory>
@@ -41,26 +41,35 @@ pub(crate) fn front_of(alloc: Global, octets: &[u8]) -> Result<Front, NoMemory>
         Ok(read) => read,
         Err(BerError::NoMemory) => return Err(NoMemory),
         Err(BerError::Short) => return Ok(Front::Nothing),
-        Err(BerError::Bad { at }) => return Ok(outside(at)),
-        Err(BerError::Deep { at }) => return Ok(outside(at)),
-        Err(BerError::Long { at }) => return Ok(outside(at)),
+        Err(BerError::Bad { at }) => return Ok(fault(at)),
+        Err(BerError::Deep { at }) => return Ok(fault(at)),
+        Err(BerError::Long { at }) => return Ok(fault(at)),
     };
-    match vf_pdu::of_value(alloc, &value) {
-        Ok(pdu) => Ok(Front::Request { pdu, length }),
-        Err(PduError::NotBuilt) => Ok(Front::Fault {
-            number: NOT_BUILT,
-            place: 0,
-        }),
-        Err(PduError::NoMemory) => Err(NoMemory),
-    }
+    let front = front_by(alloc, &value, length)?;
+    Ok(front)
 }
 
-fn outside(at: u32) -> Front
-    ensures { result ≡ Front.Fault 101 at }
+fn fault(place: u32) -> Front
+    ensures { result ≡ Front.Fault place }
 {
-    Front::Fault {
-        number: OUTSIDE,
-        place: at,
+    Front::Fault { place }
+}
+
+/// What a value of so many octets in front means.
+fn front_by(alloc: Global, value: &Value, length: usize) -> Result<Front, NoMemory>
+    ensures { MeansFront (tree_of value.now) length result }
+{
+    match vf_elements::message_of(alloc, value) {
+        Ok(message) => Ok(Front::Heard { message, length }),
+        Err(PduError::Unknown { .. }) => Ok(Front::Fault { place: 0 }),
+        Err(PduError::Field { place }) => Ok(Front::Fault { place }),
+        Err(PduError::Range { field }) => Ok(Front::Fault {
+            place: u32::from(field),
+        }),
+        Err(PduError::Missing { field }) => Ok(Front::Fault {
+            place: u32::from(field),
+        }),
+        Err(PduError::NoMemory) => Err(NoMemory),
     }
 }
 
@@ -71,6 +80,9 @@ pub(crate) fn append_reply(alloc: Global, said: &Said, text: &mut Vec<u8>) -> Re
 {
     match said {
         Said::Pdu(pdu) => append_pdu(alloc, pdu, text),
+        Said::Element(element) => append_element(alloc, element, text),
+        Said::Check { .. } => Ok(()),
+        Said::Acknowledge { .. } => Ok(()),
         Said::Abort { number, place } => {
             let abort = Pdu::ProviderAbort {
                 number: *number,
@@ -82,14 +94,32 @@ pub(crate) fn append_reply(alloc: Global, said: &Said, text: &mut Vec<u8>) -> Re
 }
 
 fn append_pdu(alloc: Global, pdu: &Pdu, text: &mut Vec<u8>) -> Result<(), NoMemory>
-    requires message { IsMessage pdu.now }
-    requires named { IsNamed pdu.now }
+    requires { IsInRange pdu.now }
     ensures { OnOk result (text.new.items ≡ text.old.items ++ hex_line (spell (value pdu.now))) }
 {
-    let value = vf_pdu::to_value(alloc, pdu)?;
-    let mut octets = Vec::new(alloc);
+    let made = vf_pdu::to_value(alloc, pdu)?;
     vf_pdu::value_is_within();
-    match vf_ber::write(alloc, &value, &mut octets) {
+    append_value(alloc, &made, text)?;
+    Ok(())
+}
+
+fn append_element(alloc: Global, element: &Element, text: &mut Vec<u8>) -> Result<(), NoMemory>
+    requires writable { IsWritable element.now }
+    requires short { IsShort element.now }
+    ensures { OnOk result (text.new.items ≡ text.old.items ++ hex_line (spell (element_value element.now))) }
+{
+    let made = vf_elements::to_value(alloc, element)?;
+    vf_elements::value_is_within();
+    append_value(alloc, &made, text)?;
+    Ok(())
+}
+
+fn append_value(alloc: Global, value: &Value, text: &mut Vec<u8>) -> Result<(), NoMemory>
+    requires { IsTooLarge (tree_of value.now) → ⊥ }
+    ensures { OnOk result (text.new.items ≡ text.old.items ++ hex_line (spell (tree_of value.now))) }
+{
+    let mut octets = Vec::new(alloc);
+    match vf_ber::write(alloc, value, &mut octets) {
         Ok(()) => {}
         Err(WriteError::TooLarge) => unreachable!(),
         Err(WriteError::NoMemory) => return Err(NoMemory),

@@ -7,8 +7,8 @@ use Rattle.vf_elements.specs.ElementReading.{element_in}
 use Rattle.vf_elements.specs.declared.message.Message.{Message}
 use Rattle.vf_elements.specs.declared.message.Message.TheVariants as messages
 use Rattle.vf_fields.specs.Fault.{Fault, Unknown, Field, Range, Missing}
-use Rattle.vf_pdu_whole.specs.PduReading.{pdu_in}
-use Rattle.vf_pdu_whole.specs.declared.pdu.Pdu.{Pdu}
+use Rattle.vf_pdu.specs.PduReading.{pdu_in}
+use Rattle.vf_pdu.specs.declared.pdu.Pdu.{Pdu}
 
 abbrev pub from_pdu : Result Pdu Fault → Result Message Fault
 from_pdu (Ok pdu) = Ok (messages.Pdu pdu)

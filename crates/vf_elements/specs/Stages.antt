@@ -1,7 +1,7 @@
 -- Which messages each stage takes from the initiator (ISO 8571-4, file service regimes; the stages are profile).
 use Rattle.std.specs.Prelude.{ℕ, Bool, true, false, nat_eq, List, [], ◌∷◌}
 use Rattle.std.specs.List.{list_any}
-use Rattle.vf_pdu_whole.specs.PduSlots.{number_of}
+use Rattle.vf_pdu.specs.PduSlots.{number_of}
 use Rattle.vf_elements.specs.declared.message.Message.{Message}
 use Rattle.vf_elements.specs.declared.message.Message.TheVariants as messages
 use Rattle.vf_elements.specs.declared.stage.Stage.{Stage}

@@ -1,11 +1,11 @@
 //! What a message is.
 ghost use Rattle.std.specs.Prelude.{◌≡◌};
-ghost use Rattle.vf_pdu_whole.specs.PduSlots.{number_of as tag_number};
+ghost use Rattle.vf_pdu.specs.PduSlots.{number_of as tag_number};
 ghost use Rattle.vf_elements.specs.Stages.{lists};
 ghost use Rattle.vf_elements.specs.Kinds.{kind_of};
 
 use crate::Stage;
-use vf_pdu_whole::Pdu;
+use vf_pdu::Pdu;
 
 /// What a message is: a PDU by the number of its tag (ISO 8571-4), or what isn't a PDU.
 #[derive(Clone, Copy, Debug, PartialEq, Eq)]

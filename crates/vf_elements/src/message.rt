@@ -1,5 +1,5 @@
 use vf_base::Element;
-use vf_pdu_whole::Pdu;
+use vf_pdu::Pdu;
 
 /// What comes to a party (ISO 8571-3, the service primitives of the initiator).
 #[derive(Drop)]

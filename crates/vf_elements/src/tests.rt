@@ -5,7 +5,7 @@ use std::alloc::Global;
 use std::test::Fail;
 use vf_base::Element;
 use vf_fields::PduError;
-use vf_pdu_whole::Pdu;
+use vf_pdu::Pdu;
 
 /// The stages in the order of the digits below.
 const STAGES: [Stage; 9] = [

@@ -1,3 +1,11 @@
-pub mod Alone
-pub mod Meanings
-pub mod Sizes
+pub mod Answering
+pub mod Back
+pub mod Computed
+pub mod Found
+pub mod OneMeaning
+pub mod Ranges
+pub mod Same
+pub mod Tables
+pub mod Whole
+pub mod Within
+pub mod Written

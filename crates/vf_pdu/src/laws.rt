@@ -1,17 +1,44 @@
-//! Laws of values and messages, each the contract of a function that does nothing.
-ghost use Rattle.vf_pdu.specs.Laws.{IsWithin, MeaningIsValue, ValueMeans};
+//! Laws of meanings and faults, each the contract of a function that does nothing.
+ghost use Rattle.vf_pdu.specs.Laws.{FormsHaveOneContent, MeaningHasNoFault, MeaningIsComputed, MeaningIsInRange, MeaningIsOne, WrittenIsReadAgain};
+ghost use Rattle.vf_pdu.specs.PduSizes.{PduIsWithin};
+ghost use Rattle.vf_pdu.specs.PduValue.{ValueMeans};
 
-/// The value of a request that is built so far means this request.
+/// A value that means a PDU has no fault.
+pub fn meaning_has_no_fault()
+    ensures { MeaningHasNoFault }
+{}
+
+/// A value means no two PDUs.
+pub fn meaning_is_one()
+    ensures { MeaningIsOne }
+{}
+
+/// A part has one content of the form of its field at most, which is the one that its fault is judged by.
+pub fn forms_have_one_content()
+    ensures { FormsHaveOneContent }
+{}
+
+/// What a value means is in range, so that what was read can be written.
+pub fn meaning_is_in_range()
+    ensures { MeaningIsInRange }
+{}
+
+/// Which PDU a value means can be computed.
+pub fn meaning_is_computed()
+    ensures { MeaningIsComputed }
+{}
+
+/// The value of a PDU means it.
 pub fn value_means()
     ensures { ValueMeans }
 {}
 
-/// A value that means a request is the value of this request.
-pub fn meaning_is_value()
-    ensures { MeaningIsValue }
+/// What was written is read again: the value of a PDU has no fault, and means no other PDU.
+pub fn written_is_read_again()
+    ensures { WrittenIsReadAgain }
 {}
 
-/// The value of a message is within the limits that `vf_ber::write` has: depth 32 and 1,048,576 octets.
+/// The value of a PDU is within the limits that `vf_ber::write` has: depth 32 and 1,048,576 octets.
 pub fn value_is_within()
-    ensures { IsWithin }
+    ensures { PduIsWithin }
 {}

@@ -1,18 +1,28 @@
-//! The FTAM PDUs (ISO 8571-4).
+//! The PDUs of FTAM (ISO 8571-4) as values of the basic encoding rules.
 #![tactic(auto)]
 
-mod errors;
-mod fields;
+mod copy;
 mod laws;
-mod meaning;
+mod number;
 mod pdu;
-mod value;
+mod read;
+mod read_files;
+mod read_regimes;
+mod read_transfer;
+mod write;
+mod write_files;
+mod write_regimes;
+mod write_transfer;
 
-pub use errors::PduError;
-pub use laws::{meaning_is_value, value_is_within, value_means};
-pub use meaning::of_value;
+pub use laws::{
+    forms_have_one_content, meaning_has_no_fault, meaning_is_computed, meaning_is_in_range,
+    meaning_is_one, value_is_within, value_means, written_is_read_again,
+};
 pub use pdu::Pdu;
-pub use value::to_value;
+pub use read::of_value;
+pub use vf_fields::{AttributeControls, ContentControls, PduError, WriteOperation};
+pub use vf_parameters::{Attributes, Grant, Grants, Stamp};
+pub use write::to_value;
 
 #[cfg(test)]
 mod tests;

@@ -1,104 +1,175 @@
 use super::*;
+use std::alloc::Global;
 use std::test::*;
-use vf_base::Diagnostic;
+use vf_ber::Tag;
 
-const REQUESTS: [&[u8]; 5] = [
-    &[0xa0, 0x03, 0x80, 0x01, 0x0f],
-    &[0xa2, 0x00],
-    &[0xa6, 0x03, 0x80, 0x01, 0x61],
-    &[0xa8, 0x00],
-    &[
-        0xaa, 0x0c, 0x81, 0x01, 0x61, 0xa2, 0x07, 0x80, 0x05, 0x28, 0xc2, 0x7b, 0x05, 0x03,
-    ],
-];
+/// What the octets of one value are read as.
+fn pdu_of(alloc: Global, octets: &[u8]) -> Option<Result<Pdu, PduError>> {
+    match vf_ber::read(alloc, octets) {
+        Ok((value, _)) => Some(of_value(alloc, &value)),
+        Err(_) => None,
+    }
+}
 
 #[test]
-fn writes_the_requests_that_it_reads(rt: HostRuntime) -> Result<(), Fail> {
-    for octets in REQUESTS {
-        let (value, _) = vf_ber::read(rt.alloc(), octets).ok().ok_or("a value")?;
-        let pdu = of_value(rt.alloc(), &value).ok().ok_or("a request")?;
-        let value = to_value(rt.alloc(), &pdu).ok().ok_or("memory")?;
-        let mut out = Vec::new(rt.alloc());
-        vf_ber::write(rt.alloc(), &value, &mut out)
-            .ok()
-            .ok_or("written")?;
-        assert_eq!(rt; out.as_slice(), octets);
+fn names_the_first_fault(rt: HostRuntime) -> Result<(), Fail> {
+    let other = Tag {
+        class: 2,
+        number: 41,
+    };
+    let faults: [(&[u8], PduError); 7] = [
+        // The number isn't in the fewest octets.
+        (
+            &[0xa0, 0x04, 0x80, 0x02, 0x00, 0x0f],
+            PduError::Field { place: 0 },
+        ),
+        (&[0xa0, 0x00], PduError::Missing { field: 0 }),
+        (&[0x9f, 0x29, 0x00], PduError::Unknown { tag: other }),
+        // A diagnostic is from 1 on, and has no field 3.
+        (
+            &[0xa7, 0x05, 0xa0, 0x03, 0x80, 0x01, 0x00],
+            PduError::Range { field: 0 },
+        ),
+        (
+            &[0xa7, 0x07, 0xa0, 0x05, 0x80, 0x01, 0x0b, 0x83, 0x00],
+            PduError::Field { place: 0 },
+        ),
+        // Attributes with an empty name, and with a field 9.
+        (
+            &[0xaf, 0x04, 0xa1, 0x02, 0x80, 0x00],
+            PduError::Range { field: 1 },
+        ),
+        (
+            &[0xaf, 0x05, 0xa1, 0x03, 0x89, 0x01, 0x00],
+            PduError::Field { place: 0 },
+        ),
+    ];
+    for (octets, error) in faults {
+        let found = pdu_of(rt.alloc(), octets).ok_or("a value")?;
+        assert!(rt; matches!(found, Err(given) if given == error));
     }
     Ok(())
 }
 
 #[test]
-fn writes_the_answers(rt: HostRuntime) -> Result<(), Fail> {
-    let found = Diagnostic {
-        number: 11,
-        first: 0,
-        second: 0,
+fn reads_a_begin_of_a_group(rt: HostRuntime) -> Result<(), Fail> {
+    let found = pdu_of(rt.alloc(), &[0xb6, 0x03, 0x80, 0x01, 0x03]).ok_or("a value")?;
+    assert!(rt; matches!(found, Ok(Pdu::BeginGroupRequest { threshold: 3 })));
+    Ok(())
+}
+
+#[test]
+fn fills_in_defaults(rt: HostRuntime) -> Result<(), Fail> {
+    let octets = [
+        0xbb, 0x09, 0x81, 0x01, 0x01, 0x82, 0x01, 0x01, 0x83, 0x01, 0xff,
+    ];
+    let found = pdu_of(rt.alloc(), &octets).ok_or("a value")?;
+    assert!(rt;
+        matches!(
+            found,
+            Ok(Pdu::RecoverResponse {
+                number: Some(1),
+                point: 1,
+                moving: true,
+                last: 0,
+                ..
+            })
+        )
+    );
+    Ok(())
+}
+
+#[test]
+fn reads_attributes(rt: HostRuntime) -> Result<(), Fail> {
+    let octets = [0xaf, 0x06, 0xa1, 0x04, 0x81, 0x02, 0x00, 0xff];
+    let found = pdu_of(rt.alloc(), &octets).ok_or("a value")?;
+    assert!(rt;
+        matches!(
+            found,
+            Ok(Pdu::ReadAttribResponse {
+                attributes: Some(Attributes {
+                    permitted: Some(255),
+                    ..
+                }),
+                ..
+            })
+        )
+    );
+    Ok(())
+}
+
+/// The spelling of what the octets of one value are read as.
+fn spelled_again(alloc: Global, octets: &[u8]) -> Option<Vec<u8>> {
+    let Ok((value, _)) = vf_ber::read(alloc, octets) else {
+        return None;
     };
-    let detailed = Diagnostic {
-        number: 300,
-        first: -129,
-        second: 128,
+    let Ok(pdu) = of_value(alloc, &value) else {
+        return None;
     };
-    let answers: [(Pdu, &[u8]); 7] = [
+    let Ok(again) = to_value(alloc, &pdu) else {
+        return None;
+    };
+    let mut spelled = Vec::new(alloc);
+    match vf_ber::write(alloc, &again, &mut spelled) {
+        Ok(()) => Some(spelled),
+        Err(_) => None,
+    }
+}
+
+#[test]
+fn writes_what_was_read(rt: HostRuntime) -> Result<(), Fail> {
+    let spellings: [(&[u8], &[u8]); 4] = [
+        // A window of 1 is left out, and the identity comes in segments.
         (
-            Pdu::InitializeResponse {
-                diagnostic: None,
-                units: 15,
-            },
-            &[0xa1, 0x03, 0x81, 0x01, 0x0f],
-        ),
-        (Pdu::TerminateResponse, &[0xa3, 0x00]),
-        (
-            Pdu::ProviderAbort {
-                number: 199,
-                place: 0,
-            },
-            &[0xa5, 0x04, 0x80, 0x02, 0x00, 0xc7],
-        ),
-        (
-            Pdu::SelectResponse {
-                diagnostic: Some(found),
-            },
-            &[0xa7, 0x05, 0xa0, 0x03, 0x80, 0x01, 0x0b],
-        ),
-        (Pdu::DeselectResponse { diagnostic: None }, &[0xa9, 0x00]),
-        (Pdu::CreateResponse { diagnostic: None }, &[0xab, 0x00]),
-        (
-            Pdu::CreateResponse {
-                diagnostic: Some(detailed),
-            },
             &[
-                0xab, 0x0e, 0xa0, 0x0c, 0x80, 0x02, 0x01, 0x2c, 0x81, 0x02, 0xff, 0x7f, 0x82, 0x02,
-                0x00, 0x80,
+                0xa0, 0x0f, 0x80, 0x01, 0x0f, 0xa1, 0x07, 0x04, 0x01, 0x61, 0x04, 0x02, 0x62, 0x63,
+                0x83, 0x01, 0x01,
             ],
+            &[0xa0, 0x08, 0x80, 0x01, 0x0f, 0x81, 0x03, 0x61, 0x62, 0x63],
         ),
+        // Any octet but 0 is true.
+        (
+            &[0xbb, 0x03, 0x83, 0x01, 0x01],
+            &[0xbb, 0x03, 0x83, 0x01, 0xff],
+        ),
+        (
+            &[0xb1, 0x05, 0xa0, 0x03, 0x80, 0x01, 0x0b],
+            &[0xb1, 0x05, 0xa0, 0x03, 0x80, 0x01, 0x0b],
+        ),
+        (&[0xbf, 0x26, 0x00], &[0xbf, 0x26, 0x00]),
     ];
-    for (pdu, octets) in &answers {
-        let value = to_value(rt.alloc(), pdu).ok().ok_or("memory")?;
-        let mut out = Vec::new(rt.alloc());
-        vf_ber::write(rt.alloc(), &value, &mut out)
-            .ok()
-            .ok_or("written")?;
-        assert_eq!(rt; out.as_slice(), *octets);
+    for (octets, expected) in spellings {
+        let spelled = spelled_again(rt.alloc(), octets).ok_or("a PDU")?;
+        assert!(rt; spelled.as_slice() == expected);
     }
     Ok(())
 }
 
-#[test]
-fn refuses_what_is_not_built(rt: HostRuntime) -> Result<(), Fail> {
-    let others: [&[u8]; 5] = [
-        &[0xa0, 0x03, 0x80, 0x01, 0x0e],
-        &[0xa0, 0x04, 0x80, 0x02, 0x00, 0x0f],
-        &[0xa2, 0x02, 0x80, 0x00],
-        &[0xa6, 0x02, 0x80, 0x00],
-        &[
-            0xaa, 0x0f, 0x81, 0x01, 0x61, 0xa2, 0x0a, 0x80, 0x05, 0x28, 0xc2, 0x7b, 0x05, 0x03,
-            0x81, 0x01, 0x19,
-        ],
-    ];
-    for octets in others {
-        let (value, _) = vf_ber::read(rt.alloc(), octets).ok().ok_or("a value")?;
-        assert!(rt; matches!(of_value(rt.alloc(), &value), Err(PduError::NotBuilt)));
+/// A copy of what the octets of one value are read as.
+fn copy_of(alloc: Global, octets: &[u8]) -> Option<Pdu> {
+    let Some(Ok(pdu)) = pdu_of(alloc, octets) else {
+        return None;
+    };
+    match pdu.copy(alloc) {
+        Ok(copy) => Some(copy),
+        Err(_) => None,
     }
+}
+
+#[test]
+fn copies_what_was_read(rt: HostRuntime) -> Result<(), Fail> {
+    let octets = [0xbb, 0x06, 0x81, 0x01, 0x01, 0x83, 0x01, 0xff];
+    let copy = copy_of(rt.alloc(), &octets).ok_or("a PDU")?;
+    assert!(rt;
+        matches!(
+            copy,
+            Pdu::RecoverResponse {
+                number: Some(1),
+                point: 0,
+                moving: true,
+                ..
+            }
+        )
+    );
     Ok(())
 }

@@ -1,2 +1,10 @@
-mod Keyed
-mod Decided
+pub mod After
+pub mod Left
+pub mod Limits
+pub mod Performed
+pub mod Stages
+pub mod Steps
+pub mod Stepped
+pub mod Values
+pub mod Served
+pub mod Strings

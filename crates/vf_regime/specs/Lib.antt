@@ -1,6 +1,9 @@
+pub mod Built
 pub mod Files
 pub mod History
-pub mod Refusal
 pub mod Represents
+pub mod Rows
+pub mod Sayable
 pub mod State
+pub mod Transfers
 pub mod Transition

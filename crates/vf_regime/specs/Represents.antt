@@ -1,73 +1,141 @@
 -- Which standing parties the typed states and a party represent, and what their steps owe: what is kept equals
 -- what the filters give on the history, so that one clause speaks of every history that a state may stand after.
-use Rattle.std.specs.Prelude.{◌≡◌, ℕ, List, [], Option, None, Some, Result, Ok, Err}
+use Rattle.std.specs.Prelude.{◌≡◌, ℕ, ◌<◌, true, List, [], ◌∷◌, Option, None, Some, Result, Ok, Err}
+use Rattle.vf_base.specs.declared.access.Context.{Context}
+use Rattle.vf_base.specs.declared.access.FaduId.{FaduId}
+use Rattle.vf_base.specs.declared.diagnostic.Diagnostic.{Diagnostic}
 use Rattle.vf_base.specs.declared.errors.NoMemory.{NoMemory}
+use Rattle.vf_elements.specs.declared.message.Message.{Message}
+use Rattle.vf_elements.specs.declared.message.Said.{Said}
+use Rattle.vf_elements.specs.declared.message.Said.TheVariants as answers
+use Rattle.vf_elements.specs.declared.stage.Stage.{Stage}
+use Rattle.vf_elements.specs.declared.stage.Stage.TheVariants as stages
 use Rattle.vf_pdu.specs.declared.pdu.Pdu.{Pdu}
+use Rattle.vf_pdu.specs.declared.pdu.Pdu.TheVariants.{UserAbort, ProviderAbort}
+use Rattle.vf_tables.specs.Rows.{Given, refusal_of}
+use Rattle.vf_tables.specs.declared.tables.Tables.{Tables}
+use Rattle.vf_transfer.specs.Checks.{RepresentsReceived}
+use Rattle.vf_tree.specs.FileTree.{octets_of_unit}
 use Rattle.vf_regime.specs.declared.associated.Associated.{Associated}
 use Rattle.vf_regime.specs.declared.idle.Idle.{Idle}
-use Rattle.vf_regime.specs.declared.message.Message.{Message}
-use Rattle.vf_regime.specs.declared.message.Message.TheVariants as messages
-use Rattle.vf_regime.specs.declared.message.Said.{Said}
+use Rattle.vf_regime.specs.declared.moving.Movement.{Movement}
+use Rattle.vf_regime.specs.declared.moving.Movement.TheVariants as movements
+use Rattle.vf_regime.specs.declared.moving.Moving.{Moving}
+use Rattle.vf_regime.specs.declared.write.Write.{Write}
+use Rattle.vf_regime.specs.declared.opened.Open.{Open}
 use Rattle.vf_regime.specs.declared.party.Outcome.{Outcome}
 use Rattle.vf_regime.specs.declared.party.Party.{Party}
 use Rattle.vf_regime.specs.declared.party.Party.TheVariants as parties
 use Rattle.vf_regime.specs.declared.selected.Selected.{Selected}
-use Rattle.vf_regime.specs.declared.stage.Stage.{Stage}
-use Rattle.vf_regime.specs.declared.stage.Stage.TheVariants as stages
 use Rattle.vf_regime.specs.declared.step.Step.{Step}
 use Rattle.vf_regime.specs.declared.step.StepError.{StepError}
 use Rattle.vf_regime.specs.declared.step.StepError.TheVariants as errors
-use Rattle.vf_regime.specs.declared.tables.Tables.{Tables}
-use Rattle.vf_regime.specs.History.{association, selection}
+use Rattle.vf_regime.specs.History.{Association, History, Reads, Writes, Selection, association, data_end, done, mode, position, selection, transfer, transferred, was_shown}
 use Rattle.vf_regime.specs.State.{State, StandingParty}
-use Rattle.vf_regime.specs.Transition.{Consequence, response, transition}
+use Rattle.vf_regime.specs.Transition.{Consequence, given_by, performed, taken, transition}
 
-abbrev pub IsIdle : Idle → StandingParty → Type 0
-IsIdle idle party = (party.link ≡ idle.link) × (association party.history ≡ None) × (selection party.history ≡ None)
+pub record IsIdle (idle : Idle) (link : ℕ) (history : History) : Type 0 where
+  pub linked : link ≡ idle.link
+  pub associated : association history ≡ None
+  pub selected : selection history ≡ None
+  pub opened : mode history ≡ None
+  pub moved : transfer history ≡ None
 
-abbrev pub IsAssociated : Associated → StandingParty → Type 0
-IsAssociated associated party =
-    (party.link ≡ associated.link) × (association party.history ≡ Some associated.units)
-    × (selection party.history ≡ None)
+abbrev pub association_of : Associated → Association
+association_of associated = record { units = associated.units; identity = associated.identity }
 
-abbrev pub IsSelected : Selected → StandingParty → Type 0
-IsSelected selected party =
-    (party.link ≡ selected.associated.link) × (association party.history ≡ Some selected.associated.units)
-    × (selection party.history ≡ Some selected.file)
+pub record IsAssociated (associated : Associated) (link : ℕ) (history : History) : Type 0 where
+  pub linked : link ≡ associated.link
+  pub stands : association history ≡ Some (association_of associated)
+  pub selected : selection history ≡ None
+  pub opened : mode history ≡ None
+  pub moved : transfer history ≡ None
+
+abbrev pub selection_of : Selected → Selection
+selection_of selected = record { file = selected.file; requested = selected.requested }
+
+pub record IsSelected (selected : Selected) (link : ℕ) (history : History) : Type 0 where
+  pub linked : link ≡ selected.associated.link
+  pub associated : association history ≡ Some (association_of selected.associated)
+  pub stands : selection history ≡ Some (selection_of selected)
+  pub opened : mode history ≡ None
+  pub moved : transfer history ≡ None
+
+-- what an open file keeps, whether or not a transfer is under way
+pub record IsOpened (open_file : Open) (link : ℕ) (history : History) : Type 0 where
+  pub linked : link ≡ open_file.selected.associated.link
+  pub associated : association history ≡ Some (association_of open_file.selected.associated)
+  pub stands : selection history ≡ Some (selection_of open_file.selected)
+  pub moded : mode history ≡ Some open_file.mode
+  pub placed : position history ≡ open_file.position
+  pub counted : done history ≡ open_file.done
+
+pub record IsOpen (open_file : Open) (link : ℕ) (history : History) : Type 0 where
+  pub opened : IsOpened open_file link history
+  pub moved : transfer history ≡ None
+
+pub record IsWriting (write : Write) (history : History) : Type 0 where
+  pub moved : transfer history ≡ Some (record { move = Writes write.fadu; given = given_by write.refused })
+  pub ended : data_end history ≡ write.ended
+  pub started : write.receiving.checks.start ≡ 0
+  pub received : RepresentsReceived write.receiving (transferred history)
+  pub counted : write.octets ≡ octets_of_unit write.receiving.values
+
+pub record IsReading (refused : Option Diagnostic) (history : History) : Type 0 where
+  pub fadu : FaduId
+  pub context : Context
+  pub given : Given
+  pub moved : transfer history ≡ Some (record { move = Reads fadu context; given = given })
+  pub found : refusal_of given ≡ refused
+  pub shown : was_shown history ≡ true
+
+abbrev pub IsMovement : Movement → History → Type 0
+IsMovement (movements.Writing write) = IsWriting write
+IsMovement (movements.Reading refused) = IsReading refused
+
+pub record IsMoving (moving : Moving) (link : ℕ) (history : History) : Type 0 where
+  pub opened : IsOpened moving.opened link history
+  pub numbered : moving.opened.done < 1000000
+  pub movement : IsMovement moving.movement history
 
 abbrev pub Represents : Party → StandingParty → Type 0
-Represents (parties.Idle idle) = IsIdle idle
-Represents (parties.Associated associated) = IsAssociated associated
-Represents (parties.Selected selected) = IsSelected selected
+Represents (parties.Idle idle) party = IsIdle idle party.link party.history
+Represents (parties.Associated associated) party = IsAssociated associated party.link party.history
+Represents (parties.Selected selected) party = IsSelected selected party.link party.history
+Represents (parties.Open opened) party = IsOpen opened party.link party.history
+Represents (parties.Moving moving) party = IsMoving moving party.link party.history
 
 -- a state of the abstract filestore with the files of these tables
 abbrev pub with_tables : Tables → State → State
 with_tables tables state = record state { files = tables.files }
 
--- A good step is the transition, with a next state that represents the party after it. A refused one is the
--- transition with that diagnostic, and its state still represents the party.
-abbrev pub MeetsStep : {Old New : Type 0} → (Old → StandingParty → Type 0) → (New → StandingParty → Type 0)
-    → Consequence → Old → Pdu → Result (Step New) (Old × StepError) → Type 0
-MeetsStep before after consequence old request (Ok step) =
+-- A good step is what its request comes to, with a next state that represents the party after it. A refused one is
+-- that with its diagnostic, and its state still represents the party.
+abbrev pub MeetsStep : {Old New : Type 0} → (Old → ℕ → History → Type 0) → (New → ℕ → History → Type 0)
+    → Consequence → Old → (Diagnostic → Pdu) → Result (Step New) (Old × StepError) → Type 0
+MeetsStep before after consequence old response (Ok step) =
     (step.said.items ≡ consequence.said) × (step.changes ≡ consequence.changes)
-    × ((next : StandingParty) × (consequence.party ≡ Some next) × after step.state next)
-MeetsStep before after consequence old request (Err (back, errors.Refused diagnostic)) =
-    (consequence.said ≡ response (Some diagnostic) request) × (consequence.changes ≡ [])
-    × ((next : StandingParty) × (consequence.party ≡ Some next) × before old next)
-MeetsStep before after consequence old request (Err (back, errors.NoMemory)) = Unit {0}
+    × ((next : StandingParty) × (consequence.party ≡ Some next) × after step.state next.link next.history)
+MeetsStep before after consequence old response (Err (back, errors.Refused diagnostic)) =
+    (consequence.said ≡ answers.Pdu (response diagnostic) ∷ []) × (consequence.changes ≡ [])
+    × ((next : StandingParty) × (consequence.party ≡ Some next) × before old next.link next.history)
+MeetsStep before after consequence old response (Err (back, errors.NoMemory)) = Unit {0}
 
--- what a step answers is the transition of every party that its state represents
-abbrev pub IsStep : {Old New : Type 0} → (Old → StandingParty → Type 0) → (New → StandingParty → Type 0)
-    → Tables → Old → Pdu → ℕ → Result (Step New) (Old × StepError) → Type 0
-IsStep before after tables old request moment result =
-    (state : State) (party : StandingParty) → before old party
-    → MeetsStep before after (transition (with_tables tables state) party moment (messages.Pdu request)) old request result
+-- What a step answers to a request that no abort refuses is what it comes to, of every party that its state
+-- represents; `response` is what is said where a diagnostic refuses it.
+abbrev pub IsStep : {Old New : Type 0} → (Old → ℕ → History → Type 0) → (New → ℕ → History → Type 0)
+    → Tables → Old → (moment : ℕ) → Message → (Diagnostic → Pdu) → Result (Step New) (Old × StepError) → Type 0
+IsStep before after tables old moment message response result =
+    (state : State) (party : StandingParty) → before old party.link party.history
+    → MeetsStep before after (performed (with_tables tables state) party moment message) old response result
 
 -- the number of a party's link
 abbrev pub link_of : Party → ℕ
 link_of (parties.Idle idle) = idle.link
 link_of (parties.Associated associated) = associated.link
 link_of (parties.Selected selected) = selected.associated.link
+link_of (parties.Open opened) = opened.selected.associated.link
+link_of (parties.Moving moving) = moving.opened.selected.associated.link
 
 -- the party of a link after a transition: the idle one where it is gone, else one that represents it and isn't idle
 abbrev pub IsNext : ℕ → Option StandingParty → Party → Type 0
@@ -90,14 +158,40 @@ IsGone party said outcome =
 abbrev pub IsAnswered : Party → List Said → Outcome → Type 0
 IsAnswered party said outcome = (outcome.said.items ≡ said) × (outcome.changes ≡ []) × (outcome.party ≡ party)
 
+abbrev pub stage_of_write : Option (Option Diagnostic) → Stage
+stage_of_write None = stages.Writing
+stage_of_write (Some ended) = stages.Written
+
+abbrev pub stage_of_movement : Movement → Stage
+stage_of_movement (movements.Writing write) = stage_of_write write.ended
+stage_of_movement (movements.Reading refused) = stages.Shown
+
 abbrev pub stage_of : Party → Stage
 stage_of (parties.Idle idle) = stages.Idle
 stage_of (parties.Associated associated) = stages.Associated
 stage_of (parties.Selected selected) = stages.Selected
+stage_of (parties.Open opened) = stages.Opened
+stage_of (parties.Moving moving) = stage_of_movement moving.movement
 
--- what a party answers to a message is the transition of every standing party that it represents
-abbrev pub IsTransition : Tables → Party → ℕ → Message → Result Outcome (Party × NoMemory) → Type 0
-IsTransition tables party moment message (Ok outcome) =
+-- What a party answers is this consequence, of every standing party that it represents; without memory the party is
+-- given back as it was.
+abbrev pub IsAnswer : (State → StandingParty → Consequence) → Tables → Party → Result Outcome (Party × NoMemory) → Type 0
+IsAnswer consequence tables party (Ok outcome) =
     (state : State) (standing : StandingParty) → Represents party standing
-    → Meets standing.link (transition (with_tables tables state) standing moment message) outcome
-IsTransition tables party moment message (Err back) = back.0 ≡ party
+    → Meets standing.link (consequence (with_tables tables state) standing) outcome
+IsAnswer consequence tables party (Err back) = back.0 ≡ party
+
+-- what a party answers to a message is the transition
+abbrev pub IsTransition : Tables → Party → (moment : ℕ) → Message → Result Outcome (Party × NoMemory) → Type 0
+IsTransition tables party moment message =
+    IsAnswer (λ state standing. transition state standing moment message) tables party
+
+-- to a message that is built and that its stage takes
+abbrev pub IsTaken : Tables → Party → (moment : ℕ) → Message → Result Outcome (Party × NoMemory) → Type 0
+IsTaken tables party moment message = IsAnswer (λ state standing. taken state standing moment message) tables party
+
+-- the initiator's aborts (ISO 8571-4, F-U-ABORT and F-P-ABORT)
+abbrev pub IsAbort : Pdu → Type 0
+IsAbort (UserAbort number) = Unit {0}
+IsAbort (ProviderAbort number place) = Unit {0}
+IsAbort _ = ⊥

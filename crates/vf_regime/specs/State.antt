@@ -1,8 +1,8 @@
 -- The state of the abstract filestore (ISO 8571-2, virtual filestore; profile). It has no stage, no locks, no
 -- window and no position: those are filters on histories.
 use Rattle.std.specs.Prelude.{ℕ, List, [], ◌∷◌, ◌++◌, Option, None, Some, if◌then◌else◌, nat_eq, option_to_list}
-use Rattle.vf_regime.specs.declared.file.File.{File}
-use Rattle.vf_regime.specs.declared.message.Message.{Message}
+use Rattle.vf_attr.specs.declared.file.File.{File}
+use Rattle.vf_elements.specs.declared.message.Message.{Message}
 use Rattle.vf_regime.specs.History.{History}
 
 pub record User : Type 0 where

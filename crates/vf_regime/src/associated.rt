@@ -1,15 +1,19 @@
-ghost use Rattle.std.specs.Prelude.{◌≡◌, [], ◌∷◌, IfOk, IfErr, IsTrue, List, ℕ};
+ghost use Rattle.std.specs.Prelude.{◌≡◌, [], ◌∷◌, IfOk, IfErr, List, ℕ, Option};
+ghost use Rattle.vf_base.specs.declared.action.Actions.{Actions as ActionSet};
 ghost use Rattle.vf_base.specs.declared.contents.Contents.{Contents as FileContents};
-ghost use Rattle.vf_regime.specs.declared.stage.Stage.TheVariants as stages;
-ghost use Rattle.vf_regime.specs.Refusal.{is_built};
+ghost use Rattle.vf_base.specs.declared.term.Term.{Term as FileTerm};
+ghost use Rattle.vf_fields.specs.declared.controls.AttributeControls.{AttributeControls as Controls};
+ghost use Rattle.vf_elements.specs.declared.message.Message.TheVariants as messages;
+ghost use Rattle.vf_pdu.specs.declared.pdu.Pdu.TheVariants as pdus;
+ghost use Rattle.vf_elements.specs.declared.message.Said.TheVariants as answers;
 ghost use Rattle.vf_regime.specs.Represents.{IsAssociated, IsSelected, IsStep};
-ghost use Rattle.vf_regime.specs.Transition.{effects, response};
 
-use crate::step::{one_said, refusal};
-use crate::{Change, Changes, File, Said, Selected, Step, StepError, Tables};
+use crate::step::one_said;
+use crate::{Change, Changes, File, Said, Selected, Stamp, Step, StepError, Tables};
 use std::alloc::Global;
-use vf_base::{Contents, Moment, Name, NoMemory};
+use vf_base::{Moment, Name, NoMemory};
 use vf_pdu::Pdu;
+use vf_tables::{Created, NewFile, create, plain, refused_select};
 
 /// A party with an association and no selected file.
 #[derive(Drop)]
@@ -17,17 +21,14 @@ pub struct Associated {
     pub(crate) link: u32,
     /// The functional units agreed.
     pub(crate) units: u16,
+    /// Who is at the other end.
+    pub(crate) identity: Name,
 }
 
-/// The diagnostic of a name that no file has.
-const NAME_UNKNOWN: u16 = 11;
-
-/// The diagnostic of a new file's name that a file has.
-const NAME_EXISTS: u16 = 12;
-
 impl Associated {
-    /// Takes a SelectRequest that no abort refuses; refused with 11 exactly where no file has the name. The state
-    /// is given back as it was with the diagnostic, or without memory.
+    /// Takes a SelectRequest that no abort refuses; refused with 11 exactly where no file has the name, and with 13, 14
+    /// or 15 where the identity may not do the requested actions. The state is given back as it was with the
+    /// diagnostic, or without memory.
     pub fn select(
         self,
         alloc: Global,
@@ -38,16 +39,27 @@ impl Associated {
         _sync: bool,
         tables: &Tables,
     ) -> Result<Step<Selected>, (Associated, StepError)>
-        requires asked { (name : List ℕ) × (request ≡ Pdu.SelectRequest name) }
-        requires built { IsTrue (is_built stages.Associated request) }
-        ensures consequence { IsStep IsAssociated IsSelected tables.now self request moment result }
+        requires { (name : List ℕ) × (requested : ActionSet) × (controls : Option Controls) × (password : Option (List ℕ)) × (request ≡ Pdu.SelectRequest name requested controls password) }
+        ensures consequence { IsStep IsAssociated IsSelected tables.now self moment (messages.Pdu request) (λ diagnostic. pdus.SelectResponse (Some diagnostic)) result }
         ensures kept { IfErr result (λ back. back.0 ≡ self) }
     {
-        let Pdu::SelectRequest { name } = request else {
+        let Pdu::SelectRequest {
+            name,
+            requested,
+            controls: _controls,
+            password,
+        } = request
+        else {
             unreachable!()
         };
-        if !tables.files.contains(&name) {
-            return Err((self, refusal(NAME_UNKNOWN)));
+        if let Some(number) = refused_select(
+            &tables.files,
+            &self.identity,
+            &name,
+            password.as_ref(),
+            requested,
+        ) {
+            return Err((self, StepError::Refused(plain(number))));
         }
         let Ok(said) = one_said(alloc, Said::Pdu(Pdu::SelectResponse { diagnostic: None })) else {
             return Err((self, StepError::NoMemory));
@@ -55,6 +67,7 @@ impl Associated {
         let state = Selected {
             associated: self,
             file: name,
+            requested,
         };
         Ok(Step {
             state,
@@ -63,8 +76,10 @@ impl Associated {
         })
     }
 
-    /// Takes a CreateRequest that no abort refuses; refused with 12 exactly where a file has the name. The state
-    /// is given back as it was with the diagnostic, or without memory.
+    /// Takes a CreateRequest that no abort refuses, and that creates where the name is free; refused with 33 without
+    /// limited file management, 12 exactly where a file has the name, 17 where the contents are no document type, 24
+    /// where there are 1,024 files, and 13, 14 or 15 where the identity may not do the requested actions. The state is
+    /// given back as it was with the diagnostic, or without memory.
     pub fn create(
         self,
         alloc: Global,
@@ -75,58 +90,82 @@ impl Associated {
         _sync: bool,
         tables: &Tables,
     ) -> Result<Step<Selected>, (Associated, StepError)>
-        requires asked { (name : List ℕ) × (contents : FileContents) × (request ≡ Pdu.CreateRequest name contents) }
-        requires built { IsTrue (is_built stages.Associated request) }
-        ensures consequence { IsStep IsAssociated IsSelected tables.now self request moment result }
+        requires { (over : ℕ) × (name : List ℕ) × (contents : FileContents) × (permitted : ActionSet) × (terms : List FileTerm) × (requested : ActionSet) × (controls : Option Controls) × (password : Option (List ℕ)) × (request ≡ Pdu.CreateRequest over name contents permitted terms requested controls password) }
+        ensures consequence { IsStep IsAssociated IsSelected tables.now self moment (messages.Pdu request) (λ diagnostic. pdus.CreateResponse (Some diagnostic)) result }
         ensures kept { IfErr result (λ back. back.0 ≡ self) }
     {
-        let Pdu::CreateRequest { name, contents } = request else {
+        let Pdu::CreateRequest {
+            over: _over,
+            name,
+            contents,
+            permitted,
+            terms,
+            requested,
+            controls: _controls,
+            password,
+        } = request
+        else {
             unreachable!()
         };
-        if tables.files.contains(&name) {
-            return Err((self, refusal(NAME_EXISTS)));
-        }
-        let Ok(made) = new_file(alloc, name, contents) else {
+        let Ok(identity) = self.identity.copy(alloc) else {
             return Err((self, StepError::NoMemory));
         };
-        let state = Selected {
-            associated: self,
-            file: made.name,
+        let Ok(file) = name.copy(alloc) else {
+            return Err((self, StepError::NoMemory));
         };
-        Ok(Step {
-            state,
-            said: made.said,
-            changes: made.changes,
-        })
+        let stamp = Stamp { moment, identity };
+        let wanted = NewFile {
+            name,
+            contents,
+            permitted,
+            terms,
+        };
+        let Ok(made) = create(
+            alloc,
+            &tables.files,
+            self.units,
+            stamp,
+            password.as_ref(),
+            requested,
+            wanted,
+        ) else {
+            return Err((self, StepError::NoMemory));
+        };
+        match made {
+            Created::Refused(diagnostic) => Err((self, StepError::Refused(diagnostic))),
+            Created::Made(made) => {
+                let Ok(put) = put_file(alloc, made) else {
+                    return Err((self, StepError::NoMemory));
+                };
+                let state = Selected {
+                    associated: self,
+                    file,
+                    requested,
+                };
+                Ok(Step {
+                    state,
+                    said: put.said,
+                    changes: put.changes,
+                })
+            }
+        }
     }
 }
 
-/// What a good create gives: the name of the new file, what is said, and what changes.
+/// What is said and what changes where a file is put into the tables.
 #[derive(Drop)]
-struct Creation {
-    name: Name,
+struct Put {
     said: Vec<Said>,
     changes: Changes,
 }
 
-fn new_file(alloc: Global, name: Name, contents: Contents) -> Result<Creation, NoMemory>
-    ensures name { IfOk result (λ made. made.name ≡ name) }
-    ensures said { IfOk result (λ made. made.said.items ≡ response None (Pdu.CreateRequest name contents)) }
-    ensures changes { IfOk result (λ made. made.changes ≡ effects (Pdu.CreateRequest name contents)) }
+/// Says that the file is made, and puts it into the tables.
+fn put_file(alloc: Global, file: File) -> Result<Put, NoMemory>
+    ensures said { IfOk result (λ put. put.said.items ≡ answers.Pdu (pdus.CreateResponse None) ∷ []) }
+    ensures changes { IfOk result (λ put. put.changes ≡ Change.PutFile file ∷ []) }
 {
-    let kept = name.copy(alloc)?;
     let said = one_said(alloc, Said::Pdu(Pdu::CreateResponse { diagnostic: None }))?;
-    let file = File {
-        name,
-        contents,
-        version: 1,
-        size: 0,
-    };
     let mut changes = Changes::new(alloc);
     changes.push(Change::PutFile { file })?;
-    Ok(Creation {
-        name: kept,
-        said,
-        changes,
-    })
+    Ok(Put { said, changes })
 }

@@ -3,26 +3,26 @@
 
 mod associated;
 mod built;
-mod changes;
-mod file;
-mod files;
 mod idle;
-mod message;
+mod laws;
+mod moving;
+mod opened;
 mod outcomes;
 mod party;
 mod selected;
-mod stage;
 mod step;
-mod tables;
+mod transfers;
+mod write;
 
 pub use associated::Associated;
-pub use changes::{Change, Changes};
-pub use file::File;
-pub use files::Files;
 pub use idle::Idle;
-pub use message::{Message, Said};
+pub use laws::{goes_on_serving, said_is_sayable};
+pub use moving::{Movement, Moving};
+pub use opened::Open;
 pub use party::{Outcome, Party};
 pub use selected::Selected;
-pub use stage::Stage;
 pub use step::{Step, StepError};
-pub use tables::Tables;
+pub use vf_attr::{File, Stamp};
+pub use vf_elements::{Message, Said, Stage};
+pub use vf_tables::{Change, Changes, Files, Tables};
+pub use write::Write;

@@ -1,18 +1,26 @@
-ghost use Rattle.std.specs.Prelude.{◌≡◌};
-ghost use Rattle.vf_regime.specs.declared.message.Message.TheVariants as messages;
+ghost use Rattle.std.specs.Prelude.{◌≡◌, true};
+ghost use Rattle.vf_elements.specs.Stages.{takes};
+ghost use Rattle.vf_elements.specs.declared.message.Message.TheVariants as messages;
+ghost use Rattle.vf_elements.specs.declared.stage.Stage.TheVariants as stages;
+ghost use Rattle.vf_regime.specs.Built.{is_built as built_test};
 ghost use Rattle.vf_regime.specs.History.{stage};
+ghost use Rattle.vf_regime.specs.Represents.{IsAbort, IsTaken, IsTransition, Represents, link_of as link_number, stage_of, stage_of_movement};
 ghost use Rattle.vf_regime.specs.State.{StandingParty, arrived};
-ghost use Rattle.vf_regime.specs.Represents.{IsTransition, Represents, link_of as link_number, stage_of};
 
 use crate::built::is_built;
-use crate::outcomes::{self, Setting};
-use crate::{Associated, Changes, Idle, Message, Said, Selected, Stage, Tables};
+use crate::outcomes::{self, Setting, moves, regimes};
+use crate::{
+    Associated, Changes, Idle, Message, Movement, Moving, Open, Said, Selected, Stage, Tables,
+};
 use std::alloc::Global;
-use vf_base::{Moment, NoMemory};
+use vf_base::{Element, Moment, NoMemory};
 use vf_pdu::Pdu;
 
 /// The abort of what isn't built so far (profile).
 const NOT_BUILT: u16 = 199;
+
+/// The abort of a message that its stage doesn't take (profile).
+const WRONG_STATE: u16 = 102;
 
 /// One party of the filestore, in its innermost regime (ISO 8571-4).
 #[derive(Drop)]
@@ -20,6 +28,8 @@ pub enum Party {
     Idle(Idle),
     Associated(Associated),
     Selected(Selected),
+    Open(Open),
+    Moving(Moving),
 }
 
 /// What came of a message.
@@ -39,15 +49,23 @@ impl Party {
         Party::Idle(Idle { link })
     }
 
-    /// The innermost regime in which the party is.
+    /// The innermost regime in which the party is, and how far a transfer in it has come.
     pub fn stage(&self) -> Stage
         ensures kept { result ≡ stage_of self.now }
         ensures filter { (party : StandingParty) → Represents self.now party → result ≡ stage party.history }
+    {
+        self.kept_stage()
+    }
+
+    fn kept_stage(&self) -> Stage
+        ensures { result ≡ stage_of self.now }
     {
         match self {
             Party::Idle(_) => Stage::Idle,
             Party::Associated(_) => Stage::Associated,
             Party::Selected(_) => Stage::Selected,
+            Party::Open(_) => Stage::Opened,
+            Party::Moving(moving) => stage_of_moving(moving),
         }
     }
 
@@ -59,6 +77,8 @@ impl Party {
             Party::Idle(idle) => idle.link,
             Party::Associated(associated) => associated.link,
             Party::Selected(selected) => selected.associated.link,
+            Party::Open(opened) => opened.selected.associated.link,
+            Party::Moving(moving) => moving.opened.selected.associated.link,
         }
     }
 
@@ -78,16 +98,72 @@ impl Party {
     ) -> Result<Outcome, (Party, NoMemory)>
         ensures { IsTransition tables.now self moment message result }
     {
+        if !is_built(&message) {
+            return outcomes::abort_party(alloc, self, NOT_BUILT);
+        }
+        if !self.stage().takes(&message) {
+            return outcomes::abort_party(alloc, self, WRONG_STATE);
+        }
         let setting = Setting {
             moment,
             serial,
             token,
             sync,
         };
-        match message {
-            Message::Pdu(request) => take_request(self, alloc, request, setting, tables),
-            Message::Break => Ok(outcomes::end_party(alloc, self, Vec::new(alloc))),
-        }
+        take_built(self, alloc, message, setting, tables)
+    }
+}
+
+fn stage_of_moving(moving: &Moving) -> Stage
+    ensures { result ≡ stage_of_movement moving.now.movement }
+{
+    match &moving.movement {
+        Movement::Writing(write) => match write.ended {
+            None => Stage::Writing,
+            Some(_) => Stage::Written,
+        },
+        Movement::Reading(_) => Stage::Shown,
+    }
+}
+
+/// Takes a message that is built and that its stage takes.
+fn take_built(
+    party: Party,
+    alloc: Global,
+    message: Message,
+    setting: Setting,
+    tables: &Tables,
+) -> Result<Outcome, (Party, NoMemory)>
+    requires built { built_test message ≡ true }
+    requires taken { takes (stage_of party) message ≡ true }
+    ensures { IsTaken tables.now party setting.moment message result }
+{
+    match message {
+        Message::Pdu(request) => take_request(party, alloc, request, setting, tables),
+        Message::Element(element) => take_element(party, alloc, element, setting, tables),
+        Message::Break => Ok(outcomes::end_party(alloc, party, Vec::new(alloc))),
+        Message::Check => unreachable!(),
+        Message::Acknowledge { .. } => unreachable!(),
+        Message::Restart { .. } => unreachable!(),
+    }
+}
+
+fn take_element(
+    party: Party,
+    alloc: Global,
+    element: Element,
+    setting: Setting,
+    tables: &Tables,
+) -> Result<Outcome, (Party, NoMemory)>
+    requires { takes (stage_of party) (messages.Element element) ≡ true }
+    ensures { IsTaken tables.now party setting.moment (messages.Element element) result }
+{
+    match party {
+        Party::Moving(moving) => moves::element(moving, alloc, element, setting, tables),
+        Party::Idle(_) => unreachable!(),
+        Party::Associated(_) => unreachable!(),
+        Party::Selected(_) => unreachable!(),
+        Party::Open(_) => unreachable!(),
     }
 }
 
@@ -98,146 +174,141 @@ fn take_request(
     setting: Setting,
     tables: &Tables,
 ) -> Result<Outcome, (Party, NoMemory)>
-    ensures { IsTransition tables.now party setting.moment (messages.Pdu request) result }
+    requires built { built_test (messages.Pdu request) ≡ true }
+    requires taken { takes (stage_of party) (messages.Pdu request) ≡ true }
+    ensures { IsTaken tables.now party setting.moment (messages.Pdu request) result }
 {
-    if !is_built(party.stage(), &request) {
-        return outcomes::abort_party(alloc, party, NOT_BUILT);
-    }
     match party {
-        Party::Idle(idle) => outcomes::initialize(idle, alloc, request, setting, tables),
-        Party::Associated(associated) => outcomes::associated(
+        Party::Idle(idle) => take_idle(idle, alloc, request, setting, tables),
+        Party::Associated(associated) => take_associated(
             associated, alloc, request, setting, tables,
         ),
-        Party::Selected(selected) => outcomes::deselect(selected, alloc, request, setting, tables),
+        Party::Selected(selected) => take_selected(selected, alloc, request, setting, tables),
+        Party::Open(opened) => take_open(opened, alloc, request, setting, tables),
+        Party::Moving(moving) => take_moving(moving, alloc, request, setting, tables),
     }
 }
 
-#[cfg(test)]
-mod tests {
-    use super::*;
-    use vf_base::{BaseError, Contents, Diagnostic, Name, Oid};
-
-    /// A message, with files named by one letter.
-    #[derive(Clone, Copy)]
-    enum Sent {
-        Initialize(u16),
-        Select(u8),
-        Create(u8),
-        CreateOther(u8),
-        Deselect,
-        Terminate,
-        Break,
+fn take_idle(
+    idle: Idle,
+    alloc: Global,
+    request: Pdu,
+    setting: Setting,
+    tables: &Tables,
+) -> Result<Outcome, (Party, NoMemory)>
+    requires built { built_test (messages.Pdu request) ≡ true }
+    requires taken { takes stages.Idle (messages.Pdu request) ≡ true }
+    ensures { IsTaken tables.now (Party.Idle idle) setting.moment (messages.Pdu request) result }
+{
+    match request {
+        request @ Pdu::InitializeRequest { .. } => regimes::initialize(
+            idle, alloc, request, setting, tables,
+        ),
+        _ => unreachable!(),
     }
+}
 
-    #[test]
-    fn says_and_changes(rt: HostRuntime) -> Result<(), BaseError> {
-        let alloc = rt.alloc();
-        let mut tables = Tables::new(alloc);
-        let mut party = Party::idle(1);
-        let rows = [
-            (Sent::Select(b'a'), "abort", 199, Stage::Idle, 0),
-            (Sent::Initialize(7), "abort", 199, Stage::Idle, 0),
-            (Sent::Initialize(15), "initialize", 15, Stage::Associated, 0),
-            (Sent::Select(b'a'), "select", 11, Stage::Associated, 0),
-            (Sent::Create(b'a'), "create", 0, Stage::Selected, 1),
-            (Sent::Deselect, "deselect", 0, Stage::Associated, 1),
-            (Sent::Create(b'a'), "create", 12, Stage::Associated, 1),
-            (Sent::Select(b'a'), "select", 0, Stage::Selected, 1),
-            (Sent::Deselect, "deselect", 0, Stage::Associated, 1),
-            (Sent::Create(b'b'), "create", 0, Stage::Selected, 2),
-            (Sent::Create(b'c'), "abort", 199, Stage::Idle, 2),
-            (Sent::Initialize(15), "initialize", 15, Stage::Associated, 2),
-            (Sent::CreateOther(b'c'), "abort", 199, Stage::Idle, 2),
-            (Sent::Initialize(15), "initialize", 15, Stage::Associated, 2),
-            (Sent::Terminate, "terminate", 0, Stage::Idle, 2),
-            (Sent::Initialize(15), "initialize", 15, Stage::Associated, 2),
-            (Sent::Break, "", 0, Stage::Idle, 2),
-        ];
-        for (row, &(sent, said, number, stage, files)) in rows.iter().enumerate() {
-            let (next, answer, answer_number) = answer(alloc, party, &mut tables, sent)?;
-            party = next;
-            assert!(rt;
-                answer == said && answer_number == number,
-                "what is said at {row}"
-            );
-            assert!(rt;
-                party.stage() == stage && tables.files.len() == files,
-                "what stands at {row}"
-            );
-        }
-        Ok(())
+fn take_associated(
+    associated: Associated,
+    alloc: Global,
+    request: Pdu,
+    setting: Setting,
+    tables: &Tables,
+) -> Result<Outcome, (Party, NoMemory)>
+    requires built { built_test (messages.Pdu request) ≡ true }
+    requires taken { takes stages.Associated (messages.Pdu request) ≡ true }
+    ensures { IsTaken tables.now (Party.Associated associated) setting.moment (messages.Pdu request) result }
+{
+    match request {
+        request @ Pdu::SelectRequest { .. } => regimes::select(
+            associated, alloc, request, setting, tables,
+        ),
+        request @ Pdu::CreateRequest { .. } => regimes::create(
+            associated, alloc, request, setting, tables,
+        ),
+        request @ Pdu::TerminateRequest => regimes::terminate(
+            associated, alloc, request, setting, tables,
+        ),
+        request => take_abort(
+            Party::Associated(associated),
+            alloc,
+            request,
+            setting,
+            tables,
+        ),
     }
+}
 
-    /// Takes the message and makes its changes; the party after it, and what was said.
-    fn answer(
-        alloc: Global,
-        party: Party,
-        tables: &mut Tables,
-        sent: Sent,
-    ) -> Result<(Party, &'static str, u16), BaseError> {
-        let message = message(alloc, sent)?;
-        let moment = Moment::of(0)?;
-        let Ok(outcome) = party.take(alloc, message, moment, 1, false, false, tables) else {
-            return Err(BaseError::NoMemory);
-        };
-        let Outcome {
-            party,
-            said,
-            changes,
-        } = outcome;
-        tables.apply(alloc, changes)?;
-        let (answer, number) = name_and_number(said.as_slice());
-        Ok((party, answer, number))
+fn take_selected(
+    selected: Selected,
+    alloc: Global,
+    request: Pdu,
+    setting: Setting,
+    tables: &Tables,
+) -> Result<Outcome, (Party, NoMemory)>
+    requires built { built_test (messages.Pdu request) ≡ true }
+    requires taken { takes stages.Selected (messages.Pdu request) ≡ true }
+    ensures { IsTaken tables.now (Party.Selected selected) setting.moment (messages.Pdu request) result }
+{
+    match request {
+        request @ Pdu::DeselectRequest => regimes::deselect(
+            selected, alloc, request, setting, tables,
+        ),
+        request @ Pdu::OpenRequest { .. } => regimes::open_file(
+            selected, alloc, request, setting, tables,
+        ),
+        request => take_abort(Party::Selected(selected), alloc, request, setting, tables),
     }
+}
 
-    fn message(alloc: Global, sent: Sent) -> Result<Message, BaseError> {
-        let pdu = match sent {
-            Sent::Initialize(units) => Pdu::InitializeRequest { units },
-            Sent::Select(letter) => Pdu::SelectRequest {
-                name: Name::of(alloc, &[letter])?,
-            },
-            Sent::Create(letter) => create(alloc, letter, 3)?,
-            Sent::CreateOther(letter) => create(alloc, letter, 1)?,
-            Sent::Deselect => Pdu::DeselectRequest,
-            Sent::Terminate => Pdu::TerminateRequest,
-            Sent::Break => return Ok(Message::Break),
-        };
-        Ok(Message::Pdu(pdu))
+fn take_open(
+    opened: Open,
+    alloc: Global,
+    request: Pdu,
+    setting: Setting,
+    tables: &Tables,
+) -> Result<Outcome, (Party, NoMemory)>
+    requires built { built_test (messages.Pdu request) ≡ true }
+    requires taken { takes stages.Opened (messages.Pdu request) ≡ true }
+    ensures { IsTaken tables.now (Party.Open opened) setting.moment (messages.Pdu request) result }
+{
+    match request {
+        request @ Pdu::CloseRequest => regimes::close(opened, alloc, request, setting, tables),
+        request @ Pdu::ReadRequest { .. } => moves::read(opened, alloc, request, setting, tables),
+        request @ Pdu::WriteRequest { .. } => moves::write(opened, alloc, request, setting, tables),
+        request => take_abort(Party::Open(opened), alloc, request, setting, tables),
     }
+}
 
-    /// A create of a file of the document type FTAM-1, 2 or 3.
-    fn create(alloc: Global, letter: u8, document: u32) -> Result<Pdu, BaseError> {
-        let name = Name::of(alloc, &[letter])?;
-        let contents = Contents {
-            kind: Oid::of(alloc, &[1, 0, 8571, 5, document])?,
-            class: 25,
-            longest: 0,
-            significance: 0,
-        };
-        Ok(Pdu::CreateRequest { name, contents })
+fn take_moving(
+    moving: Moving,
+    alloc: Global,
+    request: Pdu,
+    setting: Setting,
+    tables: &Tables,
+) -> Result<Outcome, (Party, NoMemory)>
+    requires built { built_test (messages.Pdu request) ≡ true }
+    requires taken { takes (stage_of_movement moving.movement) (messages.Pdu request) ≡ true }
+    ensures { IsTaken tables.now (Party.Moving moving) setting.moment (messages.Pdu request) result }
+{
+    match request {
+        request @ Pdu::DataEnd { .. } => moves::data_end(moving, alloc, request, setting, tables),
+        request @ Pdu::TransferEndRequest => moves::finish(moving, alloc, request, setting, tables),
+        request => take_abort(Party::Moving(moving), alloc, request, setting, tables),
     }
+}
 
-    /// The one thing said by its name, with the units agreed, the diagnostic's number or the abort's, else 0.
-    fn name_and_number(said: &[Said]) -> (&'static str, u16) {
-        match said {
-            [] => ("", 0),
-            [Said::Abort { number, .. }] => ("abort", *number),
-            [Said::Pdu(pdu)] => match pdu {
-                Pdu::InitializeResponse { units, .. } => ("initialize", *units),
-                Pdu::TerminateResponse => ("terminate", 0),
-                Pdu::SelectResponse { diagnostic } => ("select", number_of(diagnostic)),
-                Pdu::DeselectResponse { diagnostic } => ("deselect", number_of(diagnostic)),
-                Pdu::CreateResponse { diagnostic } => ("create", number_of(diagnostic)),
-                _ => ("other", 0),
-            },
-            _ => ("more", 0),
-        }
-    }
-
-    fn number_of(diagnostic: &Option<Diagnostic>) -> u16 {
-        match diagnostic {
-            Some(diagnostic) => diagnostic.number,
-            None => 0,
-        }
-    }
+/// The initiator's abort, after which the party is gone.
+fn take_abort(
+    party: Party,
+    alloc: Global,
+    request: Pdu,
+    setting: Setting,
+    tables: &Tables,
+) -> Result<Outcome, (Party, NoMemory)>
+    requires { IsAbort request }
+    ensures { IsTaken tables.now party setting.moment (messages.Pdu request) result }
+{
+    drop(request);
+    Ok(outcomes::end_party(alloc, party, Vec::new(alloc)))
 }

@@ -1,20 +1,25 @@
-ghost use Rattle.std.specs.Prelude.{◌≡◌, IfErr, IsTrue};
-ghost use Rattle.vf_regime.specs.declared.stage.Stage.TheVariants as stages;
-ghost use Rattle.vf_regime.specs.Refusal.{is_built};
-ghost use Rattle.vf_regime.specs.Represents.{IsAssociated, IsSelected, IsStep};
+ghost use Rattle.std.specs.Prelude.{◌≡◌, IfErr, List, ℕ, Option};
+ghost use Rattle.vf_base.specs.declared.contents.Contents.{Contents as FileContents};
+ghost use Rattle.vf_fields.specs.declared.controls.ContentControls.{ContentControls as Controls};
+ghost use Rattle.vf_elements.specs.declared.message.Message.TheVariants as messages;
+ghost use Rattle.vf_pdu.specs.declared.pdu.Pdu.TheVariants as pdus;
+ghost use Rattle.vf_regime.specs.Represents.{IsAssociated, IsOpen, IsSelected, IsStep};
 
 use crate::step::one_said;
-use crate::{Associated, Changes, Said, Step, StepError, Tables};
+use crate::{Associated, Changes, Open, Said, Step, StepError, Tables};
 use std::alloc::Global;
-use vf_base::{Moment, Name};
+use vf_base::{Actions, Moment, Name};
 use vf_pdu::Pdu;
+use vf_tables::{Opened, open_file};
 
-/// A party with a selected file.
+/// A party with a selected file that isn't open.
 #[derive(Drop)]
 pub struct Selected {
     pub(crate) associated: Associated,
     /// The name of the file.
     pub(crate) file: Name,
+    /// The actions that were requested.
+    pub(crate) requested: Actions,
 }
 
 impl Selected {
@@ -29,13 +34,13 @@ impl Selected {
         _sync: bool,
         tables: &Tables,
     ) -> Result<Step<Associated>, (Selected, StepError)>
-        requires asked { request ≡ Pdu.DeselectRequest }
-        requires built { IsTrue (is_built stages.Selected request) }
-        ensures consequence { IsStep IsSelected IsAssociated tables.now self request moment result }
+        requires { request ≡ Pdu.DeselectRequest }
+        ensures consequence { IsStep IsSelected IsAssociated tables.now self moment (messages.Pdu request) (λ diagnostic. pdus.DeselectResponse (Some diagnostic)) result }
         ensures kept { IfErr result (λ back. back.0 ≡ self) }
         // No diagnostic refuses it.
         ensures memory { IfErr result (λ back. back.1 ≡ StepError.NoMemory) }
     {
+        drop(request);
         let Ok(said) = one_said(alloc, Said::Pdu(Pdu::DeselectResponse { diagnostic: None })) else {
             return Err((self, StepError::NoMemory));
         };
@@ -44,5 +49,59 @@ impl Selected {
             said,
             changes: Changes::new(alloc),
         })
+    }
+
+    /// Takes an OpenRequest that no abort refuses; refused with 11 where the file is gone, 13 where the mode isn't
+    /// within the requested actions, and 18 where it isn't within those of the constraint set. The state is given back
+    /// as it was with the diagnostic, or without memory.
+    pub fn open_file(
+        self,
+        alloc: Global,
+        request: Pdu,
+        moment: Moment,
+        _serial: u32,
+        _token: bool,
+        _sync: bool,
+        tables: &Tables,
+    ) -> Result<Step<Open>, (Selected, StepError)>
+        requires { (mode : ℕ) × (contents : Option FileContents) × (controls : Option Controls) × (activity : Option ℕ) × (request ≡ Pdu.OpenRequest mode contents controls activity) }
+        ensures consequence { IsStep IsSelected IsOpen tables.now self moment (messages.Pdu request) (λ diagnostic. pdus.OpenResponse (Some diagnostic) None) result }
+        ensures kept { IfErr result (λ back. back.0 ≡ self) }
+    {
+        let Pdu::OpenRequest {
+            mode,
+            contents: _contents,
+            controls: _controls,
+            activity: _activity,
+        } = request
+        else {
+            unreachable!()
+        };
+        let Ok(answer) = open_file(alloc, &tables.files, &self.file, self.requested, mode) else {
+            return Err((self, StepError::NoMemory));
+        };
+        match answer {
+            Opened::Refused(diagnostic) => Err((self, StepError::Refused(diagnostic))),
+            Opened::Contents(contents) => {
+                let response = Pdu::OpenResponse {
+                    diagnostic: None,
+                    contents: Some(contents),
+                };
+                let Ok(said) = one_said(alloc, Said::Pdu(response)) else {
+                    return Err((self, StepError::NoMemory));
+                };
+                let state = Open {
+                    selected: self,
+                    mode,
+                    position: 0,
+                    done: 0,
+                };
+                Ok(Step {
+                    state,
+                    said,
+                    changes: Changes::new(alloc),
+                })
+            }
+        }
     }
 }

@@ -1,5 +1,4 @@
 ghost use Rattle.std.specs.Prelude.{◌≡◌, [], ◌∷◌, IfOk};
-ghost use Rattle.vf_regime.specs.Refusal.{diagnostic};
 
 use crate::{Changes, Said};
 use std::alloc::Global;
@@ -28,15 +27,4 @@ pub(crate) fn one_said(alloc: Global, said: Said) -> Result<Vec<Said>, NoMemory>
     let mut list = Vec::new(alloc);
     list.push(said)?;
     Ok(list)
-}
-
-/// The refusal with this diagnostic.
-pub(crate) fn refusal(number: u16) -> StepError
-    ensures { result ≡ StepError.Refused (diagnostic number) }
-{
-    StepError::Refused(Diagnostic {
-        number,
-        first: 0,
-        second: 0,
-    })
 }

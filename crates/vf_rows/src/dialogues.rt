@@ -26,7 +26,7 @@ fn lines_in_and_out(rt: HostRuntime) -> Result<(), NoMemory> {
         // Any spelling of a request; a value that is no request; octets that no value begins with, at the octet that
         // shows it; a message that isn't whole is nothing.
         ("A0808001\n0F0000\n", "A10381010F\n", 0),
-        ("A00380010F\nB400\n", "A10381010F\nA504800200C7\n", 7),
+        ("A00380010F\nB400\n", "A10381010F\nA503800166\n", 7),
         (
             "A00380010F\nA60380FF61\n",
             "A10381010F\nA506800165810103\n",
@@ -35,29 +35,56 @@ fn lines_in_and_out(rt: HostRuntime) -> Result<(), NoMemory> {
         ("A080\n", "", 0),
         ("A0\n", "", 0),
         ("A00380010F\nA60380\n", "A10381010F\n", 0),
-        // Messages that are none of those built so far.
-        ("A000\n", "A504800200C7\n", 7),
+        // Values of the grammar that are no message: of a form, out of range, in another order, twice, absent, of a tag
+        // that no message has.
+        ("A0048002000F\n", "A503800165\n", 7),
+        ("A00680010F830100\n", "A506800165810103\n", 7),
+        ("A00683010180010F\n", "A506800165810101\n", 7),
+        ("A00680010F80010F\n", "A506800165810101\n", 7),
+        ("A000\n", "A503800165\n", 7),
+        ("A00380010F\nAA00\n", "A10381010F\nA506800165810101\n", 7),
+        ("9F2900\n", "A503800165\n", 7),
+        ("BF2900\n", "A503800165\n", 7),
+        (
+            "A00380010F\n240404000200\n",
+            "A10381010F\nA506800165810101\n",
+            7,
+        ),
+        // Messages, and fields with other values than their defaults, that aren't built so far.
         ("A003800107\n", "A504800200C7\n", 7),
-        ("A0048002000F\n", "A504800200C7\n", 7),
+        ("A00680010F830102\n", "A504800200C7\n", 7),
+        ("A00380010F\n160161\n", "A10381010F\nA504800200C7\n", 7),
+        ("A00380010F\nAC00\n", "A10381010F\nA504800200C7\n", 7),
+        // A default that is spelled out is none.
+        ("A00680010F830101\nA200\n", "A10381010F\nA300\n", 0),
         (
             "A00380010F\nA606800161810100\n",
-            "A10381010F\nA504800200C7\n",
-            7,
+            "A10381010F\nA705A00380010B\n",
+            0,
         ),
         (
             "A00380010F\nAA0F810161A20A800528C27B0503810119\n",
-            "A10381010F\nA504800200C7\n",
-            7,
+            "A10381010F\nAB00\n",
+            0,
         ),
-        // Requests that their stage doesn't take.
-        ("A200\n", "A504800200C7\n", 7),
-        ("A00380010F\nA00380010F\n", "A10381010F\nA504800200C7\n", 7),
-        ("A00380010F\nA800\n", "A10381010F\nA504800200C7\n", 7),
+        // Messages that their stage doesn't take.
+        ("A200\n", "A503800166\n", 7),
+        ("A400\n", "A503800166\n", 7),
+        ("A00380010F\nA00380010F\n", "A10381010F\nA503800166\n", 7),
+        ("A00380010F\nA300\n", "A10381010F\nA503800166\n", 7),
+        ("A00380010F\nA800\n", "A10381010F\nA503800166\n", 7),
         (
             "A00380010F\nAA0C810161A207800528C27B0503\nA200\n",
-            "A10381010F\nAB00\nA504800200C7\n",
+            "A10381010F\nAB00\nA503800166\n",
             7,
         ),
+        // An abort that is heard has no answer, and the party is gone.
+        (
+            "A00380010F\nA400\nA200\nx\n",
+            "A10381010F\nbad line 4\n",
+            11,
+        ),
+        ("A00380010F\nA503800165\nA200\n", "A10381010F\n", 0),
         // Bad lines, and what was answered before them.
         ("A00380010F\na2\n", "A10381010F\nbad line 2\n", 11),
         ("A00380010F\nA2 00\n", "A10381010F\nbad line 2\n", 11),
@@ -65,7 +92,7 @@ fn lines_in_and_out(rt: HostRuntime) -> Result<(), NoMemory> {
         ("A00380010F\nA200F\n", "A10381010F\nbad line 2\n", 11),
         ("A00380010F\nA200", "A10381010F\nbad line 2\n", 11),
         // After an abort nothing is read; after a terminate lines are looked at for their form alone.
-        ("A00380010F\nB400\na2\n", "A10381010F\nA504800200C7\n", 7),
+        ("A00380010F\nB400\na2\n", "A10381010F\nA503800166\n", 7),
         (
             "A00380010F\nA200A00380010F\nB400\n",
             "A10381010F\nA300\n",

@@ -36,7 +36,7 @@ fn a_write_that_fails(rt: HostRuntime) -> Result<(), NoMemory> {
         (
             "dialogue",
             "A00380010F\nB400\n",
-            "A10381010F\nA504800200C7\n",
+            "A10381010F\nA503800166\n",
             7,
         ),
         (

@@ -5,6 +5,8 @@
 #[cfg(test)]
 mod call;
 #[cfg(test)]
+mod contents;
+#[cfg(test)]
 mod dialogues;
 #[cfg(test)]
 mod faults;

@@ -1,8 +1,7 @@
-use Rattle.std.proofs.Common.{◌≡◌, ◌+◌, ◌<◌, ◌≤◌, ◌++◌, List, ℕ, Ok, drop, length, ap, subst, ◌∙◌, append_assoc, arith, refl}
+use Rattle.std.proofs.Common.{◌≡◌, ◌+◌, ◌<◌, ◌≤◌, ◌++◌, List, ℕ, Ok, drop, length, ap, sym, subst, ◌∙◌, append_assoc, arith, refl}
 use Rattle.vf_ber.specs.Reader.{verdict}
-use Rattle.vf_pdu.specs.declared.pdu.Pdu.{Pdu}
-use Rattle.vf_regime.specs.declared.message.Message.TheVariants as messages
-use Rattle.vf_regime.specs.declared.message.Said.TheVariants as answers
+use Rattle.vf_elements.specs.declared.message.Message.{Message}
+use Rattle.vf_elements.specs.declared.message.Said.TheVariants as answers
 use Rattle.vf_regime.specs.declared.party.Party.{Party}
 use Rattle.vf_regime.specs.Represents.{with_tables}
 use Rattle.vf_regime.specs.Transition.{transition}
@@ -11,8 +10,10 @@ use Rattle.vf_cli.specs.declared.conversation.After.TheVariants as after
 use Rattle.vf_cli.specs.declared.message.Front.{Front}
 use Rattle.vf_cli.specs.declared.message.Front.TheVariants as front
 use Rattle.vf_cli.specs.Conversation.{Advances, IsFront, IsRest, Makes}
-use Rattle.vf_cli.specs.Dialogue.{reply}
-use Rattle.vf_cli.proofs.TakenLemmas.{takes_fault, takes_request}
+use Rattle.vf_cli.specs.Dialogue.{outside, reply}
+use Rattle.vf_regime.specs.Sayable.{CanServe}
+use Rattle.vf_regime.specs.State.{State}
+use Rattle.vf_cli.proofs.TakenLemmas.{takes_fault, takes_message, with_tables-same}
 use Rattle.vf_cli.proofs.conversation.take_messages.Goals as goal
 
 -- what stands in front of the octets from a place on
@@ -21,9 +22,9 @@ found_at : (octets rest : List ℕ) (at : ℕ) (found is : Front) → rest ≡ d
 found_at octets rest at found is behind same front =
     subst (λ l. IsFront (verdict l) (Ok is)) behind (subst (λ (f : Front). IsFront (verdict rest) (Ok f)) same front)
 
-within_rest : (rest octets : List ℕ) (at n : ℕ) (pdu : Pdu) (found : Front) → length rest + at ≡ length octets → found ≡ front.Request pdu n
+within_rest : (rest octets : List ℕ) (at n : ℕ) (message : Message) (found : Front) → length rest + at ≡ length octets → found ≡ front.Heard message n
     → Advances rest (Ok found) → (0 < n) × (at + n ≤ length octets)
-within_rest rest octets at n pdu found sum same advances =
+within_rest rest octets at n message found sum same advances =
     let fits = subst (λ (f : Front). Advances rest (Ok f)) same advances in
     let above : 0 < n = fits.0 in
     let below : n ≤ length rest = fits.1 in
@@ -38,33 +39,34 @@ pub returns-in-Fault-clause-took : goal.returns-in-Fault-clause-took
 returns-in-Fault-clause-took c = λ state holds.
     let goes = c.loop-party.invariant.goes state holds in
     let old : List ℕ = c.args.replies.now.items in
-    let abort = reply (answers.Abort c.in-Fault.number c.in-Fault.place) in
-    let found = found_at c.args.octets.now c.split_at.result.1.now c.loop-party.at c.in_ok-front_of.field-0 (front.Fault c.in-Fault.number c.in-Fault.place) c.split_at.ensures.back c.in-Fault.is c.in_ok-front_of.ensures.front in (
+    let abort = reply (answers.Abort outside c.in-Fault.place) in
+    let found = found_at c.args.octets.now c.split_at.result.1.now c.loop-party.at c.in_ok-front_of.field-0 (front.Fault c.in-Fault.place) c.split_at.ensures.back c.in-Fault.is c.in_ok-front_of.ensures.front in (
       goes.1 ++ abort,
       c.in_ok-append_abort-in-Fault.ensures ∙ ap (λ l. l ++ abort) goes.3 ∙ append_assoc old goes.1 abort,
-      takes_fault state goes.0 c.loop-party.party c.loop-party.tables c.args.octets.now goes.1 old c.loop-party.at goes.2 goes.4 c.in-Fault.number c.in-Fault.place found,
+      takes_fault state goes.0 c.loop-party.party c.loop-party.tables c.args.octets.now goes.1 old c.loop-party.at goes.2 goes.4 c.in-Fault.place found,
     )
 
-pub take_request-requires : goal.take_request-requires
-take_request-requires c =
+pub take_message-requires : goal.take_message-requires
+take_message-requires c =
     let goes = c.loop-party.invariant.goes c.requires.0 c.requires.1 in
-    ((goes.2).0, (goes.2).3)
+    let tables = c.loop-party.tables in
+    (goes.0, (goes.2).0, (goes.2).3, subst (λ (s : State). CanServe s (goes.2).0) (sym (with_tables-same tables goes.0 (goes.2).4)) (goes.2).5)
 
 pub loop-party-preserved : goal.loop-party-preserved
 loop-party-preserved c =
-    let fits = within_rest c.split_at.result.1.now c.args.octets.now c.loop-party.at c.in-Request.length c.in-Request.pdu c.in_ok-front_of.field-0
-    c.split_at.ensures.back_len c.in-Request.is c.in_ok-front_of.ensures.advances in
-    let found = found_at c.args.octets.now c.split_at.result.1.now c.loop-party.at c.in_ok-front_of.field-0 (front.Request c.in-Request.pdu c.in-Request.length)
-    c.split_at.ensures.back c.in-Request.is c.in_ok-front_of.ensures.front in
+    let fits = within_rest c.split_at.result.1.now c.args.octets.now c.loop-party.at c.in-Heard.length c.in-Heard.message c.in_ok-front_of.field-0
+    c.split_at.ensures.back_len c.in-Heard.is c.in_ok-front_of.ensures.advances in
+    let found = found_at c.args.octets.now c.split_at.result.1.now c.loop-party.at c.in_ok-front_of.field-0 (front.Heard c.in-Heard.message c.in-Heard.length)
+    c.split_at.ensures.back c.in-Heard.is c.in_ok-front_of.ensures.front in
     record {
       within = fits.1;
       goes = λ first holds.
           let goes = c.loop-party.invariant.goes first holds in
-          let consequence = transition (with_tables c.loop-party.tables goes.0) (goes.2).0 0 (messages.Pdu c.in-Request.pdu) in
-          let makes = subst (λ (rest : After). Makes consequence c.loop-party.replies.items c.take_request.new.replies.items c.loop-party.tables c.take_request.new.tables rest)
-          c.in-Goes.is (c.in_ok-ended-in-Request.ensures goes.0 (goes.2).0 (goes.2).3) in
-          let appended = takes_request first goes.0 c.loop-party.party c.loop-party.tables c.args.octets.now goes.1 c.args.replies.now.items c.loop-party.at goes.2 goes.4
-          c.in-Request.pdu c.in-Request.length c.take_request.new.replies.items c.loop-party.replies.items c.take_request.new.tables (after.Goes c.in-Goes.next) goes.3 found makes in
+          let consequence = transition (with_tables c.loop-party.tables goes.0) (goes.2).0 0 c.in-Heard.message in
+          let makes = subst (λ (rest : After). Makes consequence c.loop-party.replies.items c.take_message.new.replies.items c.loop-party.tables c.take_message.new.tables rest)
+          c.in-Goes.is (c.in_ok-ended-in-Heard.ensures goes.0 (goes.2).0 (goes.2).3) in
+          let appended = takes_message first goes.0 c.loop-party.party c.loop-party.tables c.args.octets.now goes.1 c.args.replies.now.items c.loop-party.at goes.2 goes.4
+          c.in-Heard.message c.in-Heard.length c.take_message.new.replies.items c.loop-party.replies.items c.take_message.new.tables (after.Goes c.in-Goes.next) goes.3 found makes in
           ((appended.2).0, appended.0, (appended.2).1, appended.1, (appended.2).2);
     }
 
@@ -76,16 +78,16 @@ rest_unless after.Aborted rest gone = tt
 
 pub returns-in_default : goal.returns-in_default
 returns-in_default c =
-    let fits = within_rest c.split_at.result.1.now c.args.octets.now c.loop-party.at c.in-Request.length c.in-Request.pdu c.in_ok-front_of.field-0
-    c.split_at.ensures.back_len c.in-Request.is c.in_ok-front_of.ensures.advances in
-    let found = found_at c.args.octets.now c.split_at.result.1.now c.loop-party.at c.in_ok-front_of.field-0 (front.Request c.in-Request.pdu c.in-Request.length)
-    c.split_at.ensures.back c.in-Request.is c.in_ok-front_of.ensures.front in
+    let fits = within_rest c.split_at.result.1.now c.args.octets.now c.loop-party.at c.in-Heard.length c.in-Heard.message c.in_ok-front_of.field-0
+    c.split_at.ensures.back_len c.in-Heard.is c.in_ok-front_of.ensures.advances in
+    let found = found_at c.args.octets.now c.split_at.result.1.now c.loop-party.at c.in_ok-front_of.field-0 (front.Heard c.in-Heard.message c.in-Heard.length)
+    c.split_at.ensures.back c.in-Heard.is c.in_ok-front_of.ensures.front in
     record {
       within = fits.1;
-      rest = rest_unless c.in_ok-ended-in-Request.ended _ c.in_default.not-Goes;
+      rest = rest_unless c.in_ok-ended-in-Heard.ended _ c.in_default.not-Goes;
       took = λ first holds.
           let goes = c.loop-party.invariant.goes first holds in
-          takes_request first goes.0 c.loop-party.party c.loop-party.tables c.args.octets.now goes.1 c.args.replies.now.items c.loop-party.at goes.2 goes.4
-          c.in-Request.pdu c.in-Request.length c.take_request.new.replies.items c.loop-party.replies.items c.take_request.new.tables c.in_ok-ended-in-Request.ended goes.3 found
-          (c.in_ok-ended-in-Request.ensures goes.0 (goes.2).0 (goes.2).3);
+          takes_message first goes.0 c.loop-party.party c.loop-party.tables c.args.octets.now goes.1 c.args.replies.now.items c.loop-party.at goes.2 goes.4
+          c.in-Heard.message c.in-Heard.length c.take_message.new.replies.items c.loop-party.replies.items c.take_message.new.tables c.in_ok-ended-in-Heard.ended goes.3 found
+          (c.in_ok-ended-in-Heard.ensures goes.0 (goes.2).0 (goes.2).3);
     }

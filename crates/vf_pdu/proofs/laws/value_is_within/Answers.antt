@@ -1,4 +1,4 @@
-use Rattle.vf_pdu.proofs.Sizes.{within}
+use Rattle.vf_pdu.proofs.Within.{within}
 use Rattle.vf_pdu.proofs.laws.value_is_within.Goals as goal
 
 pub returns : goal.returns

@@ -9,7 +9,7 @@ use Rattle.vf_cli.proofs.conversation.Conversation.new.Goals as goal
 
 pub returns-clause-stands : goal.returns-clause-stands
 returns-clause-stands c = (
-  (arrived link, refl, refl, c.idle.ensures, sym c.new.ensures),
+  (arrived link, refl, refl, c.idle.ensures, sym c.new.ensures, record { files = tt; history = tt }),
   subst (λ (l : List ℕ). IsQuiet opened l) (sym c.new-2.ensures.items) (quiet_short opened [] verdict_none),
   subst (λ (l : List ℕ). HasTaken c.new-3.result l) (sym c.new-2.ensures.items) c.new-3.ensures,
 )

@@ -1,7 +1,7 @@
 use Rattle.std.proofs.Common.{◌≡◌, ◌++◌, List, ℕ, [], Option, None, drop, ap, sym, subst, ◌∙◌, append-nil}
 use Rattle.std.specs.Prelude.{not}
 use Rattle.vf_regime.specs.declared.party.Party.{Party}
-use Rattle.vf_regime.specs.declared.tables.Tables.{Tables}
+use Rattle.vf_tables.specs.declared.tables.Tables.{Tables}
 use Rattle.vf_ber.specs.Reader.{verdict}
 use Rattle.vf_ber.specs.Verdict.{Short}
 use Rattle.vf_regime.specs.State.{State}

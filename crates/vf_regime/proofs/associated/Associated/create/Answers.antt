@@ -1,47 +1,67 @@
-use Rattle.std.proofs.Common.{Bool, Option, None, Some, Err, ap, sym, subst, ◌∙◌}
-use Rattle.std.specs.Prelude.{if◌then◌else◌}
-use Rattle.vf_pdu.specs.declared.pdu.Pdu.TheVariants.{CreateRequest}
-use Rattle.vf_regime.specs.declared.message.Message.TheVariants as messages
+use Rattle.std.proofs.Common.{◌≡◌, ℕ, List, Option, Some, None, [], ◌∷◌, ap, sym, ◌∙◌}
+use Rattle.vf_attr.specs.declared.stamp.Stamp.{Stamp}
+use Rattle.vf_base.specs.declared.diagnostic.Diagnostic.{Diagnostic}
+use Rattle.vf_elements.specs.declared.message.Message.TheVariants as messages
+use Rattle.vf_elements.specs.declared.message.Said.TheVariants as answers
+use Rattle.vf_pdu.specs.declared.pdu.Pdu.{Pdu}
+use Rattle.vf_pdu.specs.declared.pdu.Pdu.TheVariants.{CreateRequest, CreateResponse}
+use Rattle.vf_tables.specs.Rows.{Nothing, created}
+use Rattle.vf_tables.specs.declared.changes.Change.TheVariants.{PutFile}
+use Rattle.vf_tables.specs.declared.creation.Created.TheVariants as creations
+use Rattle.vf_tables.specs.declared.creation.NewFile.{NewFile}
 use Rattle.vf_regime.specs.declared.selected.Selected.{Selected}
 use Rattle.vf_regime.specs.declared.step.Step.{Step}
-use Rattle.vf_regime.specs.declared.step.StepError.{StepError}
-use Rattle.vf_regime.specs.Refusal.{Refusal, DiagnosticOf, diagnostic, first_row, is_built, name_exists, rows}
-use Rattle.vf_regime.specs.Represents.{IsAssociated, IsSelected, MeetsStep, with_tables}
-use Rattle.vf_regime.specs.Transition.{concludes, effects, entry_of, response, transition, with_entry}
-use Rattle.vf_regime.proofs.Decided.{concluded_step, refused_step, stage_associated}
+use Rattle.vf_regime.specs.Represents.{IsAssociated, IsSelected, selection_of, with_tables}
+use Rattle.vf_regime.specs.Transition.{performed}
+use Rattle.vf_regime.proofs.Performed.{create_performed}
+use Rattle.vf_regime.proofs.Steps.{good_step, refused_step}
 use Rattle.vf_regime.proofs.associated.Associated.create.Goals as goal
 
--- the row of a create, by whether the file stands
-row : Bool → Option Refusal
-row stands = if stands then Some (DiagnosticOf (diagnostic name_exists)) else None
+response : Diagnostic → Pdu
+response diagnostic = CreateResponse (Some diagnostic)
 
-pub returns-then-contains-clause-consequence : goal.returns-then-contains-clause-consequence
-unfolding row
-returns-then-contains-clause-consequence c = λ state party associated.
-    let request = c.args.request in
-    let filestore = with_tables c.args.tables.now state in
-    subst (λ (error : StepError). MeetsStep IsAssociated IsSelected (transition filestore party c.args.moment (messages.Pdu request)) c.args.self request (Err (c.args.self, error)))
-    (sym c.refusal.ensures)
-    (refused_step IsAssociated IsSelected filestore party c.args.moment request c.args.self (diagnostic name_exists)
-    (ap (λ stage. is_built stage request) (stage_associated party.history _ associated.1 associated.2) ∙ c.requires.built)
-    (ap (λ r. first_row (rows filestore.files r)) c.in-CreateRequest.is ∙ ap row (sym c.contains.ensures ∙ c.if-contains.true))
-    associated)
+pub returns-in-Refused-clause-consequence : goal.returns-in-Refused-clause-consequence
+unfolding response
+returns-in-Refused-clause-consequence c =
+    let asked = c.in-CreateRequest in
+    let request = CreateRequest asked._over asked.name asked.contents asked.permitted asked.terms asked.requested asked._controls asked.password in
+    let tables = c.args.tables.now in
+    let wanted : NewFile = record { name = asked.name; contents = asked.contents; permitted = asked.permitted; terms = asked.terms } in
+    let stamp : Stamp = record { moment = c.args.moment; identity = c.args.self.identity } in
+    let answer = creations.Refused c.in-Refused.diagnostic in
+    let same = λ (who : List ℕ) (given : Option (List ℕ)). created tables.files c.args.self.units (record { moment = c.args.moment; identity = who }) given asked.requested wanted in
+    let decides : created tables.files c.args.self.units stamp asked.password asked.requested wanted ≡ answer =
+    (λ i. same (sym c.in-Ok.ensures i) (sym c.as_ref.ensures.value i)) ∙ sym c.in-Ok-create.ensures ∙ c.in-Refused.is in
+    refused_step IsAssociated IsSelected tables c.args.self c.args.moment (messages.Pdu c.args.request) (messages.Pdu request) response c.args.self c.in-Refused.diagnostic
+    (λ state party represents.
+    ap (λ r. performed (with_tables tables state) party c.args.moment (messages.Pdu r)) asked.is
+    ∙ create_performed tables state party c.args.moment c.args.self represents asked._over asked.name asked.contents asked.permitted asked.terms asked.requested asked._controls asked.password answer decides)
 
 pub returns-clause-consequence : goal.returns-clause-consequence
-unfolding row
-returns-clause-consequence c = λ state party associated.
-    let request = c.args.request in
-    let filestore = with_tables c.args.tables.now state in
-    let asked = c.in-CreateRequest.is in
-    let name = c.in-CreateRequest.name in
-    let made = c.in-Ok.made in
-    let selected : Selected = record { associated = c.args.self; file = made.name } in
-    let step : Step Selected = record { state = selected; said = made.said; changes = made.changes } in
-    concluded_step IsAssociated IsSelected filestore party c.args.moment request c.args.self step
-    (ap (λ stage. is_built stage request) (stage_associated party.history _ associated.1 associated.2) ∙ c.requires.built)
-    (ap (λ r. first_row (rows filestore.files r)) asked ∙ ap row (sym c.contains.ensures ∙ c.if-contains.false))
-    (c.in-Ok.ensures.said ∙ ap (response None) (sym asked))
-    (c.in-Ok.ensures.changes ∙ ap effects (sym asked))
-    (with_entry (entry_of filestore c.args.moment (CreateRequest name c.in-CreateRequest.contents)) party)
-    (ap (λ r. concludes filestore c.args.moment r party) asked)
-    (associated.0, associated.1, ap Some (sym c.in-Ok.ensures.name))
+unfolding response
+returns-clause-consequence c =
+    let asked = c.in-CreateRequest in
+    let request = CreateRequest asked._over asked.name asked.contents asked.permitted asked.terms asked.requested asked._controls asked.password in
+    let tables = c.args.tables.now in
+    let wanted : NewFile = record { name = asked.name; contents = asked.contents; permitted = asked.permitted; terms = asked.terms } in
+    let stamp : Stamp = record { moment = c.args.moment; identity = c.args.self.identity } in
+    let file = c.in-Made.made in
+    let answer = creations.Made file in
+    let same = λ (who : List ℕ) (given : Option (List ℕ)). created tables.files c.args.self.units (record { moment = c.args.moment; identity = who }) given asked.requested wanted in
+    let decides : created tables.files c.args.self.units stamp asked.password asked.requested wanted ≡ answer =
+    (λ i. same (sym c.in-Ok.ensures i) (sym c.as_ref.ensures.value i)) ∙ sym c.in-Ok-create.ensures ∙ c.in-Made.is in
+    let state : Selected = record { associated = c.args.self; file = c.in-Ok-copy.file; requested = asked.requested } in
+    let step : Step Selected = record { state = state; said = c.in-Ok-put_file.put.said; changes = c.in-Ok-put_file.put.changes } in
+    good_step IsAssociated IsSelected tables c.args.self c.args.moment (messages.Pdu c.args.request) (messages.Pdu request) response
+    step (answers.Pdu (CreateResponse None) ∷ []) (PutFile file ∷ []) Nothing
+    (λ state party represents.
+    ap (λ r. performed (with_tables tables state) party c.args.moment (messages.Pdu r)) asked.is
+    ∙ create_performed tables state party c.args.moment c.args.self represents asked._over asked.name asked.contents asked.permitted asked.terms asked.requested asked._controls asked.password answer decides)
+    c.in-Ok-put_file.ensures.said c.in-Ok-put_file.ensures.changes
+    (λ ordinal link history represents. record {
+      linked = represents.linked;
+      associated = represents.stands;
+      stands = ap (λ name. Some (selection_of (record { associated = c.args.self; file = name; requested = asked.requested }))) (sym c.in-Ok-copy.ensures);
+      opened = represents.opened;
+      moved = represents.moved;
+    })

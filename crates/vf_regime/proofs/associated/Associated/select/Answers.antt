@@ -1,46 +1,58 @@
-use Rattle.std.proofs.Common.{Bool, not, Option, None, Some, Err, refl, ap, sym, subst, ◌∙◌}
-use Rattle.std.specs.Prelude.{if◌then◌else◌}
-use Rattle.vf_pdu.specs.declared.pdu.Pdu.TheVariants.{SelectRequest}
-use Rattle.vf_regime.specs.declared.message.Message.TheVariants as messages
+use Rattle.std.proofs.Common.{◌≡◌, Some, None, Err, [], ◌∷◌, ap, refl, sym, subst, ◌∙◌}
+use Rattle.vf_base.specs.declared.diagnostic.Diagnostic.{Diagnostic}
+use Rattle.vf_elements.specs.declared.message.Message.TheVariants as messages
+use Rattle.vf_elements.specs.declared.message.Said.TheVariants as answers
+use Rattle.vf_pdu.specs.declared.pdu.Pdu.{Pdu}
+use Rattle.vf_pdu.specs.declared.pdu.Pdu.TheVariants.{SelectRequest, SelectResponse}
+use Rattle.vf_tables.specs.Diagnostics.{plain}
+use Rattle.vf_tables.specs.Files.{file_named}
+use Rattle.vf_tables.specs.Rows.{Nothing, select_row}
 use Rattle.vf_regime.specs.declared.selected.Selected.{Selected}
 use Rattle.vf_regime.specs.declared.step.Step.{Step}
-use Rattle.vf_regime.specs.declared.step.StepError.{StepError}
-use Rattle.vf_regime.specs.Refusal.{Refusal, DiagnosticOf, diagnostic, first_row, is_built, name_unknown, rows}
-use Rattle.vf_regime.specs.Represents.{IsAssociated, IsSelected, MeetsStep, with_tables}
-use Rattle.vf_regime.specs.Transition.{concludes, effects, entry_of, response, transition, with_entry}
-use Rattle.vf_regime.proofs.Decided.{concluded_step, refused_step, stage_associated}
+use Rattle.vf_regime.specs.declared.step.StepError.TheVariants as errors
+use Rattle.vf_regime.specs.Represents.{IsAssociated, IsSelected, IsStep, with_tables}
+use Rattle.vf_regime.specs.Transition.{performed}
+use Rattle.vf_regime.proofs.Performed.{select_performed}
+use Rattle.vf_regime.proofs.Steps.{good_step, refused_step}
 use Rattle.vf_regime.proofs.associated.Associated.select.Goals as goal
 
--- the row of a select, by whether the file stands
-row : Bool → Option Refusal
-row stands = if not stands then Some (DiagnosticOf (diagnostic name_unknown)) else None
+response : Diagnostic → Pdu
+response diagnostic = SelectResponse (Some diagnostic)
 
-pub returns-then-not-contains-clause-consequence : goal.returns-then-not-contains-clause-consequence
-unfolding row
-returns-then-not-contains-clause-consequence c = λ state party associated.
-    let request = c.args.request in
-    let filestore = with_tables c.args.tables.now state in
-    subst (λ (error : StepError). MeetsStep IsAssociated IsSelected (transition filestore party c.args.moment (messages.Pdu request)) c.args.self request (Err (c.args.self, error)))
-    (sym c.refusal.ensures)
-    (refused_step IsAssociated IsSelected filestore party c.args.moment request c.args.self (diagnostic name_unknown)
-    (ap (λ stage. is_built stage request) (stage_associated party.history _ associated.1 associated.2) ∙ c.requires.built)
-    (ap (λ r. first_row (rows filestore.files r)) c.in-SelectRequest.is ∙ ap row (sym c.contains.ensures ∙ c.if-not-contains.true))
-    associated)
+pub returns-in-Some-clause-consequence : goal.returns-in-Some-clause-consequence
+unfolding response
+returns-in-Some-clause-consequence c =
+    let asked = c.in-SelectRequest in
+    let request = SelectRequest asked.name asked.requested asked._controls asked.password in
+    let tables = c.args.tables.now in
+    let number = c.in-Some.number in
+    let decides : select_row (file_named asked.name tables.files) c.args.self.identity asked.password asked.requested ≡ Some number = cc in
+    subst (λ (d : Diagnostic). IsStep {New = Selected} IsAssociated IsSelected tables c.args.self c.args.moment (messages.Pdu c.args.request) response (Err (c.args.self, errors.Refused d)))
+    (sym c.plain.ensures)
+    (refused_step IsAssociated IsSelected tables c.args.self c.args.moment (messages.Pdu c.args.request) (messages.Pdu request) response c.args.self (plain number)
+    (λ state party represents.
+    ap (λ r. performed (with_tables tables state) party c.args.moment (messages.Pdu r)) asked.is
+    ∙ select_performed tables state party c.args.moment c.args.self represents asked.name asked.requested asked._controls asked.password (Some number) decides))
 
 pub returns-clause-consequence : goal.returns-clause-consequence
-unfolding row
-returns-clause-consequence c = λ state party associated.
-    let request = c.args.request in
-    let filestore = with_tables c.args.tables.now state in
-    let asked = c.in-SelectRequest.is in
-    let name = c.in-SelectRequest.name in
-    let selected : Selected = record { associated = c.args.self; file = name } in
-    let step : Step Selected = record { state = selected; said = c.in-Ok.said; changes = c.new.result } in
-    concluded_step IsAssociated IsSelected filestore party c.args.moment request c.args.self step
-    (ap (λ stage. is_built stage request) (stage_associated party.history _ associated.1 associated.2) ∙ c.requires.built)
-    (ap (λ r. first_row (rows filestore.files r)) asked ∙ ap row (sym c.contains.ensures ∙ c.if-not-contains.false))
-    (c.in-Ok.ensures ∙ ap (response None) (sym asked))
-    (c.new.ensures ∙ ap effects (sym asked))
-    (with_entry (entry_of filestore c.args.moment (SelectRequest name)) party)
-    (ap (λ r. concludes filestore c.args.moment r party) asked)
-    (associated.0, associated.1, refl)
+unfolding response
+returns-clause-consequence c =
+    let asked = c.in-SelectRequest in
+    let request = SelectRequest asked.name asked.requested asked._controls asked.password in
+    let tables = c.args.tables.now in
+    let decides : select_row (file_named asked.name tables.files) c.args.self.identity asked.password asked.requested ≡ None = cc in
+    let state : Selected = record { associated = c.args.self; file = asked.name; requested = asked.requested } in
+    let step : Step Selected = record { state = state; said = c.in-Ok.said; changes = c.new.result } in
+    good_step IsAssociated IsSelected tables c.args.self c.args.moment (messages.Pdu c.args.request) (messages.Pdu request) response
+    step (answers.Pdu (SelectResponse None) ∷ []) [] Nothing
+    (λ state party represents.
+    ap (λ r. performed (with_tables tables state) party c.args.moment (messages.Pdu r)) asked.is
+    ∙ select_performed tables state party c.args.moment c.args.self represents asked.name asked.requested asked._controls asked.password None decides)
+    c.in-Ok.ensures c.new.ensures
+    (λ ordinal link history represents. record {
+      linked = represents.linked;
+      associated = represents.stands;
+      stands = refl;
+      opened = represents.opened;
+      moved = represents.moved;
+    })

@@ -1,24 +1,28 @@
-use Rattle.std.proofs.Common.{None, refl, ap, sym, ◌∙◌}
-use Rattle.vf_pdu.specs.declared.pdu.Pdu.TheVariants.{DeselectRequest}
+use Rattle.std.proofs.Common.{Some, None, [], ◌∷◌, ap, refl}
+use Rattle.vf_base.specs.declared.diagnostic.Diagnostic.{Diagnostic}
+use Rattle.vf_elements.specs.declared.message.Message.TheVariants as messages
+use Rattle.vf_elements.specs.declared.message.Said.TheVariants as answers
+use Rattle.vf_pdu.specs.declared.pdu.Pdu.TheVariants.{DeselectRequest, DeselectResponse}
+use Rattle.vf_tables.specs.Rows.{Nothing}
 use Rattle.vf_regime.specs.declared.associated.Associated.{Associated}
 use Rattle.vf_regime.specs.declared.step.Step.{Step}
-use Rattle.vf_regime.specs.Refusal.{first_row, is_built, rows}
 use Rattle.vf_regime.specs.Represents.{IsAssociated, IsSelected, with_tables}
-use Rattle.vf_regime.specs.Transition.{concludes, effects, entry_of, response, with_entry}
-use Rattle.vf_regime.proofs.Decided.{concluded_step, stage_selected}
+use Rattle.vf_regime.specs.Transition.{performed}
+use Rattle.vf_regime.proofs.Steps.{good_step}
 use Rattle.vf_regime.proofs.selected.Selected.deselect.Goals as goal
 
 pub returns-clause-consequence : goal.returns-clause-consequence
-returns-clause-consequence c = λ state party selected.
-    let request = c.args.request in
-    let filestore = with_tables c.args.tables.now state in
-    let asked = c.requires.asked in
+returns-clause-consequence c =
+    let tables = c.args.tables.now in
     let step : Step Associated = record { state = c.args.self.associated; said = c.in-Ok.said; changes = c.new.result } in
-    concluded_step IsSelected IsAssociated filestore party c.args.moment request c.args.self step
-    (ap (λ stage. is_built stage request) (stage_selected party.history _ selected.2) ∙ c.requires.built)
-    (ap (λ r. first_row (rows filestore.files r)) asked)
-    (c.in-Ok.ensures ∙ ap (response None) (sym asked))
-    (c.new.ensures ∙ ap effects (sym asked))
-    (with_entry (entry_of filestore c.args.moment DeselectRequest) party)
-    (ap (λ r. concludes filestore c.args.moment r party) asked)
-    (selected.0, selected.1, refl)
+    good_step IsSelected IsAssociated tables c.args.self c.args.moment (messages.Pdu c.args.request) (messages.Pdu DeselectRequest)
+    (λ (diagnostic : Diagnostic). DeselectResponse (Some diagnostic)) step (answers.Pdu (DeselectResponse None) ∷ []) [] Nothing
+    (λ state party represents. ap (λ r. performed (with_tables tables state) party c.args.moment (messages.Pdu r)) c.requires)
+    c.in-Ok.ensures c.new.ensures
+    (λ ordinal link history represents. record {
+      linked = represents.linked;
+      stands = represents.associated;
+      selected = refl;
+      opened = represents.opened;
+      moved = represents.moved;
+    })

@@ -1,5 +1,0 @@
-use Rattle.vf_pdu_whole.proofs.OneMeaning.{has_no_fault}
-use Rattle.vf_pdu_whole.proofs.laws.meaning_has_no_fault.Goals as goal
-
-pub returns : goal.returns
-returns c = has_no_fault

@@ -1,5 +1,0 @@
-use Rattle.vf_pdu_whole.proofs.OneMeaning.{is_one}
-use Rattle.vf_pdu_whole.proofs.laws.meaning_is_one.Goals as goal
-
-pub returns : goal.returns
-returns c = is_one

@@ -1,5 +1,0 @@
-use Rattle.vf_pdu_whole.proofs.Within.{within}
-use Rattle.vf_pdu_whole.proofs.laws.value_is_within.Goals as goal
-
-pub returns : goal.returns
-returns c = within

@@ -1,5 +1,0 @@
-use Rattle.vf_pdu_whole.proofs.Written.{is_read_again}
-use Rattle.vf_pdu_whole.proofs.laws.written_is_read_again.Goals as goal
-
-pub returns : goal.returns
-returns c = is_read_again

@@ -1,9 +1,0 @@
--- How long the values of PDUs are.
-use Rattle.vf_ber.specs.Limits.{IsTooLarge}
-use Rattle.vf_pdu_whole.specs.PduMeaning.{IsInRange}
-use Rattle.vf_pdu_whole.specs.PduValue.{value}
-use Rattle.vf_pdu_whole.specs.declared.pdu.Pdu.{Pdu}
-
--- the value of a PDU is within the limits of values
-abbrev pub PduIsWithin : Type 0
-PduIsWithin = (pdu : Pdu) → IsInRange pdu → IsTooLarge (value pdu) → ⊥

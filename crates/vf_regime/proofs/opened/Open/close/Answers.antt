@@ -1,0 +1,28 @@
+use Rattle.std.proofs.Common.{Some, None, [], ◌∷◌, ap, refl}
+use Rattle.vf_base.specs.declared.diagnostic.Diagnostic.{Diagnostic}
+use Rattle.vf_elements.specs.declared.message.Message.TheVariants as messages
+use Rattle.vf_elements.specs.declared.message.Said.TheVariants as answers
+use Rattle.vf_pdu.specs.declared.pdu.Pdu.TheVariants.{CloseRequest, CloseResponse}
+use Rattle.vf_tables.specs.Rows.{Nothing}
+use Rattle.vf_regime.specs.declared.selected.Selected.{Selected}
+use Rattle.vf_regime.specs.declared.step.Step.{Step}
+use Rattle.vf_regime.specs.Represents.{IsOpen, IsSelected, with_tables}
+use Rattle.vf_regime.specs.Transition.{performed}
+use Rattle.vf_regime.proofs.Steps.{good_step}
+use Rattle.vf_regime.proofs.opened.Open.close.Goals as goal
+
+pub returns-clause-consequence : goal.returns-clause-consequence
+returns-clause-consequence c =
+    let tables = c.args.tables.now in
+    let step : Step Selected = record { state = c.args.self.selected; said = c.in-Ok.said; changes = c.new.result } in
+    good_step IsOpen IsSelected tables c.args.self c.args.moment (messages.Pdu c.args.request) (messages.Pdu CloseRequest)
+    (λ (diagnostic : Diagnostic). CloseResponse (Some diagnostic)) step (answers.Pdu (CloseResponse None) ∷ []) [] Nothing
+    (λ state party represents. ap (λ r. performed (with_tables tables state) party c.args.moment (messages.Pdu r)) c.requires)
+    c.in-Ok.ensures c.new.ensures
+    (λ ordinal link history represents. record {
+      linked = represents.opened.linked;
+      associated = represents.opened.associated;
+      stands = represents.opened.stands;
+      opened = refl;
+      moved = represents.moved;
+    })
