@@ -262,7 +262,7 @@ fn values(alloc: Global, octets: &[u8], again: bool) -> Result<Vec<u8>, Fault> {
     if again {
         return written(alloc, &primitive, &contexts)?.ok_or(Fault::Line);
     }
-    match primitive {
+    match &primitive {
         Primitive::Data { values } => total(alloc, values.len()),
         _ => Err(Fault::Line),
     }
