@@ -26,3 +26,6 @@ pub use vf_attr::{File, Stamp};
 pub use vf_elements::{Message, Said, Stage};
 pub use vf_tables::{Change, Changes, Files, Tables};
 pub use write::Write;
+
+#[cfg(test)]
+mod tests;
