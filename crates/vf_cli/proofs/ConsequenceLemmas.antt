@@ -8,26 +8,24 @@ use Rattle.vf_fields.proofs.Plain.{some_is}
 use Rattle.vf_elements.specs.Stages.{takes}
 use Rattle.vf_elements.specs.declared.message.Message.{Message}
 use Rattle.vf_elements.specs.declared.message.Message.TheVariants as messages
-use Rattle.vf_elements.specs.declared.message.Said.{Said}
 use Rattle.vf_elements.specs.declared.message.Said.TheVariants as answers
 use Rattle.vf_elements.specs.declared.stage.Stage.TheVariants as stages
 use Rattle.vf_pdu.specs.PduRows.{row_of}
 use Rattle.vf_pdu.specs.declared.pdu.Pdu.{Pdu}
-use Rattle.vf_pdu.specs.declared.pdu.Pdu.TheVariants.{InitializeRequest, InitializeResponse, TerminateRequest, SelectRequest, DeselectRequest, CreateRequest, OpenRequest, CloseRequest, ReadRequest, WriteRequest, DataEnd, TransferEndRequest}
+use Rattle.vf_pdu.specs.declared.pdu.Pdu.TheVariants.{InitializeRequest, TerminateRequest, SelectRequest, DeselectRequest, CreateRequest, OpenRequest, CloseRequest, ReadRequest, WriteRequest, DataEnd, TransferEndRequest}
 use Rattle.vf_regime.specs.Built.{is_built}
-use Rattle.vf_regime.specs.History.{agreed, association, data_end, done, mode, position, selection, stage, survivors, transfer}
+use Rattle.vf_regime.specs.History.{association, done, mode, position, selection, stage, survivors}
 use Rattle.vf_base.specs.declared.diagnostic.Diagnostic.{Diagnostic}
 use Rattle.vf_regime.specs.Represents.{IsNext, Represents, stage_of, stage_of_movement, stage_of_write}
 use Rattle.vf_regime.specs.declared.moving.Movement.{Movement}
 use Rattle.vf_regime.specs.declared.moving.Movement.TheVariants as movements
 use Rattle.vf_regime.specs.Sayable.{IsSayable}
 use Rattle.vf_regime.specs.State.{State, StandingParty}
-use Rattle.vf_regime.specs.Transition.{Consequence, aborts, concludes, created_by, ended_by, ending_in, file_in, identity_in, joined, leaves, limit, mode_in, not_built, opened_by, performed, read_by, refuses, requested, requested_in, selected_by, stamp_of, taken, transition, units_in, unless_aborted, wrong_state}
+use Rattle.vf_regime.specs.Transition.{Consequence, aborts, created_by, file_in, identity_in, limit, mode_in, not_built, opened_by, performed, read_by, requested, requested_in, selected_by, stamp_of, transition, units_in, unless_aborted, wrong_state}
 use Rattle.vf_regime.specs.declared.party.Party.{Party}
 use Rattle.vf_regime.specs.declared.party.Party.TheVariants as parties
 use Rattle.vf_tables.specs.Files.{file_named}
 use Rattle.vf_tables.specs.Rows.{Given, Nothing, Refused, Showed, created, opened, read_given, select_row}
-use Rattle.vf_tables.specs.declared.changes.Change.{Change}
 use Rattle.vf_tables.specs.declared.creation.Created.{Created}
 use Rattle.vf_tables.specs.declared.creation.Created.TheVariants as creations
 use Rattle.vf_tables.specs.declared.opening.Opened.{Opened}

@@ -7,7 +7,6 @@ use Rattle.vf_ber.specs.Tree.{Tree}
 use Rattle.vf_ber.specs.Verdict.{Verdict, Short, Bad, Deep, Long, Read}
 use Rattle.vf_elements.specs.Messages.{message_in, place_of}
 use Rattle.vf_fields.specs.Fault.{Fault}
-use Rattle.vf_elements.specs.declared.message.Said.{Said}
 use Rattle.vf_regime.specs.declared.party.Party.{Party}
 use Rattle.vf_tables.specs.declared.tables.Tables.{Tables}
 use Rattle.vf_regime.specs.Files.{after_changes}

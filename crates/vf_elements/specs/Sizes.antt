@@ -1,7 +1,7 @@
 -- How long the values of data elements are.
-use Rattle.std.specs.Prelude.{ℕ, ◌≤◌, List, length}
+use Rattle.std.specs.Prelude.{◌≤◌, List, length}
 use Rattle.vf_base.specs.declared.element.Element.{Element}
-use Rattle.vf_base.specs.declared.element.Element.TheVariants.{Descriptor, Enter, Exit, Text, Binary}
+use Rattle.vf_base.specs.declared.element.Element.TheVariants.{Text, Binary}
 use Rattle.vf_ber.specs.Limits.{IsTooLarge}
 use Rattle.vf_elements.specs.ElementValue.{IsWritable, value}
 

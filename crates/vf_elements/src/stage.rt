@@ -2,7 +2,7 @@ ghost use Rattle.std.specs.Prelude.{◌≡◌};
 ghost use Rattle.vf_elements.specs.Stages.{takes as takes_by_table};
 
 use crate::Message;
-use crate::kind::{Kind, is_listed, number_of};
+use crate::kind::{Kind, is_listed};
 
 /// The innermost regime in which a party is (ISO 8571-4), and how far a transfer in it has come (profile).
 #[derive(Clone, Copy, Debug, PartialEq, Eq)]
@@ -33,7 +33,7 @@ impl Stage {
         ensures { result ≡ takes_by_table self.now message.now }
     {
         match message {
-            Message::Pdu(pdu) => is_listed(*self, Kind::Pdu(number_of(pdu))),
+            Message::Pdu(pdu) => is_listed(*self, Kind::Pdu(pdu.number())),
             Message::Element(_) => is_listed(*self, Kind::Element),
             Message::Check => is_listed(*self, Kind::Check),
             Message::Acknowledge { .. } => is_listed(*self, Kind::Acknowledgement),

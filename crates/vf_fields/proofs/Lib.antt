@@ -1,4 +1,3 @@
-pub mod Back
 pub mod Behind
 pub mod Complete
 pub mod Faulty

@@ -1,6 +1,6 @@
 -- What is written of a row has what was written.
 use Rattle.std.proofs.Common.{◌≡◌, ℕ, ◌+◌, ◌<◌, ◌≤◌, Bool, true, false, cond, refl, ap, sym, inl, inr, arith, rules}
-use Rattle.std.specs.Prelude.{ℤ, pos, negsuc, FitsSigned, Option, Some, None, ◌&&◌, nat_le, IsTrue}
+use Rattle.std.specs.Prelude.{ℤ, pos, negsuc, FitsSigned, Option, Some, None, nat_le, IsTrue}
 use Rattle.std.specs.Option.{option_map}
 use Rattle.std.specs.Int.{w64}
 use Rattle.std.proofs.lemmas.Bool.{leb-true, ltb-true, lt-ltb}
@@ -9,7 +9,7 @@ use Rattle.std.proofs.lemmas.Int.{ints}
 use Rattle.vf_base.specs.Oid.{is_oid}
 use Rattle.vf_ber.specs.Contents.{boolean_octets}
 use Rattle.vf_ber.specs.Primitive.{boolean_at}
-use Rattle.vf_ber.specs.Tree.{Tag, Tree, plain, built, Trees, none, more, root}
+use Rattle.vf_ber.specs.Tree.{Tag, plain, more, root}
 use Rattle.vf_ber.proofs.Integers.{integer-read}
 use Rattle.vf_ber.proofs.Oids.{oid-read}
 use Rattle.vf_fields.specs.Content.{Content, Number, Truth, Octets, Arcs, Fields, Listed, Slots, nil, present, absent, Items, nothing, item}

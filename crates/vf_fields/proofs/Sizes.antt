@@ -14,7 +14,7 @@ use Rattle.vf_ber.specs.Contents.{is_redundant, shortened, integer_octets, arc_o
 use Rattle.vf_fields.specs.Content.{Content, Number, Truth, Octets, Arcs, Fields, Listed, Slots, nil, present, absent, Items, nothing, item}
 use Rattle.vf_fields.specs.Forms.{has_date_form, is_control, is_date, is_digit, is_moment, within}
 use Rattle.vf_fields.specs.Meaning.{context, universal, count, each_within, fits, all_fit}
-use Rattle.vf_fields.specs.Rows.{Simple, Integer, Boolean, Text, String, Controls, Oid, Date, Need, required, optional, default, Form, one, sequence, list, Row, end, field}
+use Rattle.vf_fields.specs.Rows.{Simple, Integer, Boolean, Text, String, Controls, Oid, Date, required, optional, default, Form, one, sequence, list, Row, end, field}
 use Rattle.vf_fields.specs.Writing.{contents_octets, fields, is_default, spelled, spelled_items}
 use Rattle.vf_fields.proofs.Plain.{both_true}
 

@@ -1,10 +1,8 @@
 -- The tags of each row rise, and each default is in range.
-use Rattle.std.proofs.Common.{◌≡◌, ℕ, zero, suc, ◌+◌, Bool, true, List, [], ◌∷◌, refl, get_or}
+use Rattle.std.proofs.Common.{ℕ, ◌+◌, Bool, true, List, [], ◌∷◌, get_or}
 use Rattle.std.specs.Prelude.{◌&&◌, nat_le, nat_lt}
-use Rattle.std.specs.List.{list_all}
 use Rattle.vf_fields.specs.Meaning.{fits}
 use Rattle.vf_fields.specs.Rows.{Range, Any, FromTo, Fadu, Simple, Integer, Boolean, Text, String, Controls, Oid, Date, Need, required, optional, default, Form, one, sequence, list, Row, end, field}
-use Rattle.vf_fields.proofs.Plain.{both_true}
 
 abbrev pub is_usual : Form → Need → Bool
 is_usual form required = true

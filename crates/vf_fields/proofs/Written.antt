@@ -1,8 +1,8 @@
 -- Fields that are put one behind another are the fields of their row.
-use Rattle.std.proofs.Common.{◌≡◌, ℕ, Bool, true, false, cond, List, [], ◌∷◌, ◌++◌, map, refl, ap, sym, ◌∙◌}
+use Rattle.std.proofs.Common.{◌≡◌, Bool, true, false, cond, List, [], ◌∷◌, ◌++◌, map, refl, ap, sym, ◌∙◌}
 use Rattle.std.specs.Prelude.{Some, None}
 use Rattle.vf_ber.specs.Tree.{Tree, built, Trees, none, more, joined}
-use Rattle.vf_fields.specs.Content.{Slots, Items, item, items_of, Slot, slots}
+use Rattle.vf_fields.specs.Content.{Slots, item, items_of, Slot, slots}
 use Rattle.vf_fields.specs.Meaning.{context, universal}
 use Rattle.vf_fields.specs.Rows.{Row, end, field}
 use Rattle.vf_fields.specs.Writing.{◌▸◌, appended, fields, is_default, spelled, spelled_items}

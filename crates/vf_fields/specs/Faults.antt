@@ -1,9 +1,9 @@
 -- The fault of a value that means no PDU (profile): the first one from its first part on, and the lowest required
 -- field that is absent where no part has one. Of one part the form goes before the range.
 use Rattle.std.specs.Prelude.{ℕ, ◌+◌, Bool, true, false, ◌&&◌, ◌||◌, nat_eq, nat_le, Option, None, Some, if◌then◌else◌}
-use Rattle.vf_ber.specs.Tree.{Tree, plain, built, Trees, none, more, root}
+use Rattle.vf_ber.specs.Tree.{Tree, Trees, none, more, root}
 use Rattle.vf_fields.specs.Content.{Content}
-use Rattle.vf_fields.specs.Fault.{Fault, Unknown, Field, Range, Missing}
+use Rattle.vf_fields.specs.Fault.{Fault, Field, Range, Missing}
 use Rattle.vf_fields.specs.Meaning.{fits}
 use Rattle.vf_fields.specs.Reading.{shape, is_field}
 use Rattle.vf_fields.specs.Rows.{Need, required, optional, default, Form, Row, end, field}

@@ -1,5 +1,5 @@
 -- Which PDU a value means (ISO 8571-4; the fields are this profile's).
-use Rattle.std.specs.Prelude.{◌≡◌, ℕ, ◌+◌, Bool, true, false, ◌&&◌, ◌⊎◌, nat_le, None, Some, IsTrue}
+use Rattle.std.specs.Prelude.{◌≡◌, ℕ, ◌+◌, Bool, true, false, ◌&&◌, ◌⊎◌, nat_le, None, Some}
 use Rattle.vf_ber.specs.Tree.{Tag, Tree, built, Trees, none, more, root}
 use Rattle.vf_fields.specs.Content.{Content, Fields, Listed, Slots, nil, present, absent, Items, nothing, item, Slot, slot, slots}
 use Rattle.vf_fields.specs.Forms.{shape_of, within}

@@ -1,10 +1,7 @@
 -- What the calls answer.
-use Rattle.std.specs.Prelude.{◌≡◌, ℕ, Option, Some, Result, Ok, Err}
-use Rattle.vf_ber.specs.Tree.{Trees}
+use Rattle.std.specs.Prelude.{◌≡◌, Option, Some, Result, Ok, Err}
 use Rattle.vf_ber.specs.Views.{tag_of}
 use Rattle.vf_fields.specs.Fault.{Fault, Unknown, Field, Range, Missing}
-use Rattle.vf_fields.specs.Reading.{reading}
-use Rattle.vf_fields.specs.Rows.{Row}
 use Rattle.vf_fields.specs.declared.errors.PduError.{PduError}
 use Rattle.vf_fields.specs.declared.errors.PduError.TheVariants as errors
 

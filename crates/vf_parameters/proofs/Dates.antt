@@ -1,15 +1,15 @@
 -- The texts of moments are the dates.
-use Rattle.std.proofs.Common.{◌≡◌, ℕ, zero, suc, ◌+◌, ◌-◌, ◌*◌, ◌/◌, ◌%◌, ◌<◌, ◌≤◌, Bool, true, false, List, [], ◌∷◌, ◌++◌, length, take, drop, refl, ap, sym, subst, ◌∙◌, arith, rules}
+use Rattle.std.proofs.Common.{◌≡◌, ℕ, suc, ◌+◌, ◌-◌, ◌*◌, ◌/◌, ◌%◌, ◌<◌, ◌≤◌, Bool, true, List, [], ◌∷◌, ◌++◌, length, take, drop, refl, ap, sym, subst, ◌∙◌, arith, rules}
 use Rattle.std.specs.Prelude.{◌&&◌, IsTrue, nat_eq, nat_le, nat_lt}
 use Rattle.std.specs.List.{flat_map, list_all}
 use Rattle.std.proofs.lemmas.Bool.Decides.{nat_tests}
 use Rattle.std.proofs.lemmas.Bool.{eqb-true, leb-true, ltb-true, le-leb, lt-ltb}
 use Rattle.vf_base.specs.Calendar.{Civil, civil_date, month_length, month_of, year_length, year_of}
 use Rattle.vf_base.specs.Moment.{date_text, moment_text, time_text, two_digits}
-use Rattle.vf_fields.specs.Forms.{has_date_form, is_date, is_day, is_digit, is_moment, number_in, two_at, year_in}
+use Rattle.vf_fields.specs.Forms.{has_date_form, is_date, is_day, is_digit, is_moment, two_at, year_in}
 use Rattle.vf_fields.proofs.Plain.{both_true}
 use Rattle.vf_parameters.specs.Laws.{DatesAreMoments, MomentsAreDates}
-use Rattle.vf_parameters.proofs.Years.{IsMonth, IsYear, all_years, month_at, month_in, months, months_before, twelve, year_at, year_in as year_found, years, years_before}
+use Rattle.vf_parameters.proofs.Years.{all_years, month_at, month_in, months, months_before, twelve, year_at, year_in as year_found, years, years_before}
 
 -- ---- dates of days
 

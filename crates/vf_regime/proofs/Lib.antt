@@ -1,5 +1,4 @@
 pub mod After
-pub mod Left
 pub mod Limits
 pub mod Performed
 pub mod Stages

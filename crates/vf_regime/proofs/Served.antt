@@ -1,5 +1,5 @@
 -- What a transition says has a value, and the files and the history after it are such that the next one's has.
-use Rattle.std.proofs.Common.{◌≡◌, ℕ, ◌≤◌, Bool, true, false, not, unwrap_or, List, [], ◌∷◌, ◌++◌, length, map, refl, ap, sym, subst, ◌∙◌, arith}
+use Rattle.std.proofs.Common.{◌≡◌, ℕ, ◌≤◌, Bool, true, false, not, unwrap_or, List, [], ◌∷◌, ◌++◌, map, refl, ap, sym, subst, ◌∙◌, arith}
 use Rattle.std.specs.Prelude.{◌&&◌, nat_eq, nat_le, min, is_none, Option, None, Some, IfSome, IsTrue, Result, Ok, Err, if◌then◌else◌}
 use Rattle.std.specs.List.{AllByRecursion}
 use Rattle.std.specs.Option.{option_map, option_or}
@@ -43,7 +43,7 @@ use Rattle.vf_pdu.specs.declared.pdu.Pdu.TheVariants.{InitializeRequest, Initial
 use Rattle.vf_tables.specs.Diagnostics.{plain}
 use Rattle.vf_tables.specs.Effects.{after_write, fitting, is_within_file, octets_row, only_unit, performed as write_performed, put_tree, put_unless, read_changes, read_ending, replacing, tree_after, version_row, write_ending}
 use Rattle.vf_tables.specs.Files.{after_changes, file_named, with_file}
-use Rattle.vf_tables.specs.Rows.{Given, Nothing, Refused, Showed, absent_row, access_row, action_row, count_row, created, created_unless, given_unless, includes, made, made_unless, mode_row, modes, opened, opened_unless, read_given, read_of, refusal_of, replace_row, select_row, showing, tree_number, typed, unit_row, write_given, write_in, write_row}
+use Rattle.vf_tables.specs.Rows.{Given, Nothing, Refused, Showed, absent_row, access_row, action_row, count_row, created, created_unless, given_unless, includes, made, made_unless, modes, opened, opened_unless, read_given, read_of, refusal_of, replace_row, select_row, showing, tree_number, typed, unit_row, write_given, write_in, write_row}
 use Rattle.vf_tables.specs.declared.changes.Change.{Change}
 use Rattle.vf_tables.specs.declared.changes.Change.TheVariants.{PutFile}
 use Rattle.vf_tables.specs.declared.creation.Created.{Created}
@@ -57,10 +57,10 @@ use Rattle.vf_tree.specs.Contexts.{shown}
 use Rattle.vf_tree.specs.FileTree.{DataUnit, FileTree, new_file}
 use Rattle.vf_tree.specs.declared.errors.TreeError.{TreeError}
 use Rattle.vf_regime.specs.Built.{is_built}
-use Rattle.vf_regime.specs.History.{Association, History, Move, Reads, Writes, Transfer, agreed, association, data_end, done, mode, position, selection, stage, survivors, transfer, transfers}
+use Rattle.vf_regime.specs.History.{History, Move, Reads, Writes, Transfer, agreed, association, data_end, done, mode, position, selection, stage, survivors, transfer, transfers}
 use Rattle.vf_regime.specs.Sayable.{CanServe, GoesOnServing, IsConcluded, IsGiven, IsSayable, IsServable, IsTold, NextCanServe, SaidIsSayable}
 use Rattle.vf_regime.specs.State.{State, StandingParty}
-use Rattle.vf_regime.specs.Transition.{Consequence, abort_where, aborts, after_transition, concludes, created_by, ended_by, ending_by, ending_in, file_in, given_by, identity_in, is_spent, joined, leaves, limit, mode_in, not_built, numbers_spent, opened_by, passes_survivors, performed, read_by, read_said, refuses, requested, requested_in, selected_by, stamp_of, taken, too_long, transition, units_in, unless_aborted, with_message, wrong_state}
+use Rattle.vf_regime.specs.Transition.{Consequence, abort_where, aborts, after_transition, concludes, created_by, ended_by, ending_by, ending_in, file_in, given_by, identity_in, is_spent, joined, leaves, limit, mode_in, not_built, numbers_spent, opened_by, passes_survivors, performed, read_by, refuses, requested, requested_in, selected_by, stamp_of, taken, too_long, transition, units_in, unless_aborted, wrong_state}
 use Rattle.vf_regime.proofs.Strings.{AreStrings, AreUnits, IsShown, ShowsGood, shown_good, units_good}
 
 abbrev AreServable : List File → Type 0

@@ -2,7 +2,6 @@ pub mod Built
 pub mod Files
 pub mod History
 pub mod Represents
-pub mod Rows
 pub mod Sayable
 pub mod State
 pub mod Transfers

@@ -5,7 +5,7 @@ use Rattle.std.specs.List.{AllByRecursion}
 use Rattle.vf_attr.specs.declared.file.File.{File}
 use Rattle.vf_base.specs.declared.diagnostic.Diagnostic.{Diagnostic}
 use Rattle.vf_base.specs.declared.element.Element.{Element}
-use Rattle.vf_base.specs.declared.element.Element.TheVariants.{Descriptor, Enter, Exit, Text, Binary}
+use Rattle.vf_base.specs.declared.element.Element.TheVariants.{Text, Binary}
 use Rattle.vf_doctype.specs.DocumentTypes.{doc_type}
 use Rattle.vf_doctype.specs.declared.doc_type.DocType.{DocType}
 use Rattle.vf_elements.specs.ElementValue.{IsWritable}
@@ -20,9 +20,9 @@ use Rattle.vf_parameters.specs.Parameters.{diagnostic as diagnostic_form}
 use Rattle.vf_pdu.specs.PduMeaning.{IsInRange}
 use Rattle.vf_pdu.specs.declared.pdu.Pdu.TheVariants.{ProviderAbort}
 use Rattle.vf_tables.specs.Rows.{Given, Nothing, Refused, Showed}
-use Rattle.vf_regime.specs.History.{Entry, History}
+use Rattle.vf_regime.specs.History.{Entry}
 use Rattle.vf_regime.specs.State.{State, StandingParty}
-use Rattle.vf_regime.specs.Transition.{Consequence, after_transition, transition}
+use Rattle.vf_regime.specs.Transition.{after_transition, transition}
 
 abbrev pub IsSayable : Said → Type 0
 IsSayable (answers.Pdu pdu) = IsInRange pdu

@@ -13,8 +13,8 @@ use Rattle.vf_base.specs.declared.spdu_kind.SpduKind.TheVariants as kinds
 use Rattle.vf_spdu.specs.Fields.{no_fields}
 use Rattle.vf_spdu.specs.Numbers.{digits, digit_count, six_digits, zeros_in_front}
 use Rattle.vf_session.specs.Rooms.{connect_size, token_size, data_length, room}
-use Rattle.vf_session.specs.Saying.{fits, has_room, spdus, units_fields, reason_fields, abort_fields, serial_fields, resync_code, token_item}
-use Rattle.vf_spdu.specs.Spelling.{spelled, spelled_if, second_data, spelled_parameters, reasoned}
+use Rattle.vf_session.specs.Saying.{fits, has_room, units_fields, reason_fields, abort_fields, resync_code, token_item}
+use Rattle.vf_spdu.specs.Spelling.{spelled, spelled_if, second_data, spelled_parameters}
 
 -- ---- one parameter
 

@@ -1,5 +1,5 @@
 -- What `take` and `say` promise for every trace that the session represents.
-use Rattle.std.proofs.Common.{◌≡◌, ℕ, ◌≤◌, Bool, true, None, List, [], ◌∷◌, ◌++◌, Result, Ok, Err, refl, ap, sym, subst, ◌∙◌}
+use Rattle.std.proofs.Common.{◌≡◌, true, None, List, [], ◌∷◌, ◌++◌, Ok, Err, ap, sym, subst, ◌∙◌}
 use Rattle.vf_session.specs.declared.errors.SessionError.{SessionError}
 use Rattle.vf_session.specs.declared.errors.SessionError.TheVariants as errors
 use Rattle.vf_session.specs.declared.hearing.Hearing.{Hearing}

@@ -1,5 +1,5 @@
 -- What a session keeps follows the trace: each unit changes the filters as it changes the counters.
-use Rattle.std.proofs.Common.{◌≡◌, ℕ, zero, suc, ◌+◌, ◌-◌, ◌≤◌, ◌<◌, Bool, true, false, cond, nat_le, min, ◌||◌, if◌then◌else◌, List, [], ◌∷◌, length, Option, Some, None, unwrap_or, refl, ap, sym, subst, ◌∙◌, arith, inl, inr, ◌⊎◌}
+use Rattle.std.proofs.Common.{◌≡◌, ℕ, zero, suc, ◌+◌, ◌-◌, ◌≤◌, ◌<◌, Bool, true, false, cond, nat_le, min, ◌||◌, if◌then◌else◌, List, [], ◌∷◌, Option, Some, None, unwrap_or, refl, ap, sym, ◌∙◌, arith, inl, inr, ◌⊎◌}
 use Rattle.std.proofs.lemmas.Bool.{cases_lt}
 use Rattle.std.proofs.lemmas.Bool.Decides.{nat_tests}
 use Rattle.std.specs.List.{filter, fold}
@@ -10,9 +10,9 @@ use Rattle.vf_session.specs.declared.units.ResyncKind.{ResyncKind}
 use Rattle.vf_session.specs.declared.units.SessionSay.{SessionSay}
 use Rattle.vf_session.specs.declared.units.SessionSay.TheVariants as say
 use Rattle.vf_session.specs.declared.units.TokenSide.{TokenSide}
-use Rattle.vf_session.specs.Advances.{Grows, advanced, kept_after}
+use Rattle.vf_session.specs.Advances.{Grows, kept_after}
 use Rattle.vf_session.specs.Represents.{Kept, Represents, numbers_up, newest_resync}
-use Rattle.vf_session.specs.Trace.{Entry, Trace, standing, acknowledged_by, acknowledgements, checks, since, unacknowledged, next, token, resync, settled, is_resync, resync_by, is_from, with_heard, with_said, other}
+use Rattle.vf_session.specs.Trace.{Trace, standing, acknowledged_by, acknowledgements, checks, since, unacknowledged, next, token, resync, settled, is_resync, resync_by, is_from, with_heard, other}
 
 -- ---- numbers of checks
 

@@ -3,7 +3,6 @@
 use Rattle.std.specs.Prelude.{ℕ, ◌%◌, ◌/◌, Bool, true, false, ◌&&◌, ◌||◌, nat_eq, nat_lt, nat_le, List, Option, None, Some, unwrap_or, if◌then◌else◌}
 use Rattle.vf_base.specs.declared.spdu_kind.SpduKind.{SpduKind}
 use Rattle.vf_base.specs.declared.spdu_kind.SpduKind.TheVariants.{CN, AC, RF, FN, DN, AB, AA, DT, GT, MIP, MIA, RS, RA}
-use Rattle.vf_session.specs.declared.errors.SessionError.{SessionError}
 use Rattle.vf_session.specs.declared.errors.SessionError.TheVariants.{State, Serial, Token as TokenFault}
 use Rattle.vf_session.specs.declared.hearing.Hearing.{Hearing}
 use Rattle.vf_session.specs.declared.hearing.Hearing.TheVariants.{Nothing, Tells, Faulty}
@@ -15,7 +14,6 @@ use Rattle.vf_spdu.specs.declared.spdu.SpduFields.{SpduFields}
 use Rattle.vf_session.specs.declared.standing.Standing.{Standing}
 use Rattle.vf_session.specs.declared.units.ResyncKind.{ResyncKind}
 use Rattle.vf_session.specs.declared.units.ResyncKind.TheVariants.{Restart, Abandon}
-use Rattle.vf_session.specs.declared.units.SessionSay.{SessionSay}
 use Rattle.vf_session.specs.declared.units.SessionSay.TheVariants as say
 use Rattle.vf_session.specs.declared.units.TokenSide.{TokenSide}
 use Rattle.vf_session.specs.declared.units.TokenSide.TheVariants.{Initiator, Responder}

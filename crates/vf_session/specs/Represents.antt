@@ -10,8 +10,7 @@ use Rattle.vf_session.specs.declared.standing.Standing.{Standing}
 use Rattle.vf_session.specs.declared.units.SessionSay.{SessionSay}
 use Rattle.vf_session.specs.declared.units.TokenSide.{TokenSide}
 use Rattle.vf_session.specs.Hearing.{hears}
-use Rattle.vf_session.specs.Saying.{may}
-use Rattle.vf_session.specs.Trace.{Trace, phase, proposed, agreed, first, next, oldest, token, resync, standing, resync_by, settled, since, acknowledgements, unacknowledged, acknowledged_by, with_heard, with_said}
+use Rattle.vf_session.specs.Trace.{Trace, phase, proposed, agreed, first, next, oldest, token, resync, standing, resync_by, settled, since, acknowledgements, unacknowledged, acknowledged_by, with_heard}
 
 -- What a session keeps: which end it is, whether it proposes sync, where the connection stands, and who has the token
 -- where an RS that waits turns out to have lost.

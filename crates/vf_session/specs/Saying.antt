@@ -2,7 +2,6 @@
 use Rattle.std.specs.Prelude.{ℕ, Bool, true, false, ◌&&◌, nat_eq, nat_lt, nat_le, max, List, [], ◌∷◌, length, Option, None, Some, is_none, if◌then◌else◌}
 use Rattle.std.specs.List.{list_all}
 use Rattle.std.specs.Option.{option_map}
-use Rattle.vf_base.specs.declared.spdu_kind.SpduKind.{SpduKind}
 use Rattle.vf_base.specs.declared.spdu_kind.SpduKind.TheVariants.{CN, AC, RF, FN, DN, AB, DT, GT, MIP, MIA, RS, RA}
 use Rattle.vf_session.specs.declared.resync.Resync.{Resync}
 use Rattle.vf_spdu.specs.declared.spdu.Spdu.{Spdu}

@@ -1,12 +1,12 @@
 -- A length indicator, a value and what follows are found again, however the length is spelled.
-use Rattle.std.proofs.Common.{◌≡◌, ℕ, zero, suc, ◌+◌, ◌*◌, ◌/◌, ◌%◌, ◌≤◌, ◌<◌, Bool, true, false, cond, nat_eq, nat_le, nat_lt, List, [], ◌∷◌, ◌++◌, length, take, drop, get_or, Option, Some, None, Result, Ok, Err, refl, ap, sym, subst, ◌∙◌, arith, inl, inr, ◌⊎◌, append_assoc}
+use Rattle.std.proofs.Common.{◌≡◌, ℕ, ◌+◌, ◌*◌, ◌/◌, ◌%◌, ◌≤◌, ◌<◌, true, false, cond, nat_lt, List, [], ◌∷◌, ◌++◌, length, take, drop, get_or, Some, refl, ap, sym, subst, ◌∙◌, arith, inl, inr, ◌⊎◌}
 use Rattle.std.proofs.Math.Seq.{take-append_seam, drop-append_seam, drop-append-add}
 use Rattle.std.proofs.lemmas.Bool.{cases_lt}
 use Rattle.std.proofs.lemmas.Bool.Decides.{nat_tests}
 use Rattle.std.proofs.lemmas.List.{length-append}
 use Rattle.vf_spdu.specs.Grammar.{IsLength}
 use Rattle.vf_spdu.specs.Numbers.{length_at, length_octets}
-use Rattle.vf_spdu.specs.Parts.{Front, short, whole, front, front_by, Part, Opening, parts_in, parts_by, parts_behind}
+use Rattle.vf_spdu.specs.Parts.{whole, front, front_by, Opening, parts_by, parts_behind}
 use Rattle.vf_spdu.proofs.PartLemmas.{parts-front}
 
 -- ---- a length

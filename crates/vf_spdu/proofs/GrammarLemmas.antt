@@ -1,20 +1,19 @@
 -- Parameters that are read are spelled so, and those that are spelled so are read.
-use Rattle.std.proofs.Common.{◌≡◌, ℕ, zero, suc, ◌+◌, ◌*◌, ◌≤◌, ◌<◌, Bool, true, false, cond, nat_eq, nat_lt, ◌&&◌, List, [], ◌∷◌, ◌++◌, length, take, drop, get_or, Option, Some, None, unwrap_or, Result, Ok, Err, refl, ap, sym, subst, ◌∙◌, arith, inl, inr, ◌⊎◌, append_assoc}
+use Rattle.std.proofs.Common.{◌≡◌, ℕ, zero, suc, ◌+◌, ◌*◌, ◌≤◌, ◌<◌, Bool, true, false, cond, nat_lt, List, [], ◌∷◌, ◌++◌, length, take, drop, get_or, Option, Some, None, unwrap_or, Ok, refl, ap, sym, subst, ◌∙◌, arith, inl, inr, append_assoc}
 use Rattle.std.proofs.Math.Seq.{drop-append_seam, drop-append-add}
 use Rattle.std.proofs.lemmas.Bool.Decides.{nat_tests}
 use Rattle.std.proofs.lemmas.List.{length-append, take-append-drop, length-take-le}
 use Rattle.std.specs.List.{AllByRecursion, flat_map}
 use Rattle.vf_base.specs.declared.spdu_kind.SpduKind.{SpduKind}
-use Rattle.vf_spdu.specs.declared.errors.SpduError.{SpduError}
 use Rattle.vf_spdu.specs.declared.errors.SpduError.TheVariants.{Value}
 use Rattle.vf_spdu.specs.declared.spdu.Spdu.{Spdu}
 use Rattle.vf_spdu.specs.declared.table.Row.{Row}
-use Rattle.vf_spdu.specs.Fields.{◌>>=◌, with_value, taken_by, taken, taking}
-use Rattle.vf_spdu.specs.Grammar.{IsLength, IsUnit, AreJoined, AreOctets, Parameter, SpellsParameter, Element, single, group, SpellsElement, StandsIn, Filled, filled_with, filled_by, filled_in, filled, IsOfForm}
+use Rattle.vf_spdu.specs.Fields.{with_value, taken_by, taken, taking}
+use Rattle.vf_spdu.specs.Grammar.{IsLength, AreJoined, AreOctets, Parameter, SpellsParameter, Element, single, group, SpellsElement, StandsIn, Filled, filled_with, filled_by, filled_in, filled, IsOfForm}
 use Rattle.vf_spdu.specs.Numbers.{length_at}
-use Rattle.vf_spdu.specs.Parts.{Front, short, whole, front, front_by, Part, parameter, Opening, parts_in, parts_by, parts_behind, inner, outer}
+use Rattle.vf_spdu.specs.Parts.{Front, short, whole, front, front_by, parameter, Opening, parts_in, parts_by, parts_behind, inner, outer}
 use Rattle.vf_spdu.specs.Table.{row_at, fits, opens}
-use Rattle.vf_spdu.proofs.AfterLemmas.{stepped, after, after-append, kind-after, value-steps}
+use Rattle.vf_spdu.proofs.AfterLemmas.{after, after-append, kind-after, value-steps}
 use Rattle.vf_spdu.proofs.FrontLemmas.{indicates}
 use Rattle.vf_spdu.proofs.ParameterLemmas.{TakesTo, takes-none, takes-unit}
 use Rattle.vf_spdu.proofs.PartLemmas.{bind_ok, taking-append, front-shorter}

@@ -1,15 +1,15 @@
 -- A TSDU is read as SPDUs exactly where it holds them.
-use Rattle.std.proofs.Common.{◌≡◌, ℕ, zero, suc, ◌+◌, ◌≤◌, ◌<◌, Bool, true, false, cond, nat_eq, List, [], ◌∷◌, ◌++◌, length, Option, Some, None, Result, Ok, Err, refl, ap, sym, subst, ◌∙◌, arith, append_assoc, get_or, Fits, w8}
+use Rattle.std.proofs.Common.{◌≡◌, ℕ, suc, ◌+◌, ◌<◌, Bool, true, false, cond, nat_eq, List, [], ◌∷◌, ◌++◌, length, Option, Some, None, Result, Ok, Err, refl, ap, sym, subst, ◌∙◌, arith, append_assoc, get_or, Fits, w8}
 use Rattle.std.proofs.lemmas.Bool.Decides.{nat_tests}
 use Rattle.std.proofs.lemmas.List.{append-nil}
-use Rattle.std.specs.List.{AllByRecursion, flat_map}
+use Rattle.std.specs.List.{AllByRecursion}
 use Rattle.vf_base.specs.declared.spdu_kind.SpduKind.{SpduKind}
 use Rattle.vf_base.specs.declared.spdu_kind.SpduKind.TheVariants.{CN, AC, RF, FN, DN, AB, AA, DT, GT, MIP, MIA, RS, RA}
 use Rattle.vf_spdu.specs.declared.errors.SpduError.{SpduError}
 use Rattle.vf_spdu.specs.declared.spdu.Spdu.{Spdu}
 use Rattle.vf_spdu.specs.declared.spdu.SpduFields.{SpduFields}
-use Rattle.vf_spdu.specs.Fields.{◌>>=◌, Fails, bare, with_octets, taking, complete}
-use Rattle.vf_spdu.specs.Grammar.{IsLength, IsUnit, AreJoined, AreOctets, Element, SpellsElement, StandsIn, Filled, filled_in, filled, IsOfForm, IsThere, fields_of, data_of, HasData, Spells, goes_behind, Holds}
+use Rattle.vf_spdu.specs.Fields.{Fails, bare, with_octets, taking, complete}
+use Rattle.vf_spdu.specs.Grammar.{IsLength, AreJoined, AreOctets, Element, SpellsElement, StandsIn, Filled, filled_in, filled, IsOfForm, IsThere, fields_of, data_of, HasData, Spells, goes_behind, Holds}
 use Rattle.vf_spdu.specs.Kinds.{code_of, first_kind, second_kind}
 use Rattle.vf_spdu.specs.Parts.{Front, short, whole, front, parts, outer}
 use Rattle.vf_spdu.specs.Reading.{Behind, assembled, behind, is_dt, is_gt, one, one_by, nothing_behind, second, second_by, follows, first_by, reading}

@@ -1,5 +1,5 @@
 -- Whatever is read has serial numbers of six digits.
-use Rattle.std.proofs.Common.{◌≡◌, ℕ, zero, suc, ◌+◌, ◌*◌, ◌-◌, ◌≤◌, ◌<◌, Bool, true, false, cond, nat_eq, nat_le, ◌&&◌, List, [], ◌∷◌, length, get_or, Option, Some, None, Result, Ok, Err, refl, ap, sym, subst, ◌∙◌, arith}
+use Rattle.std.proofs.Common.{◌≡◌, ℕ, ◌+◌, ◌-◌, ◌≤◌, Bool, true, false, cond, nat_eq, nat_le, ◌&&◌, List, [], ◌∷◌, length, get_or, Option, Some, None, Result, Ok, Err, refl, subst, arith}
 use Rattle.std.proofs.lemmas.Bool.Decides.{nat_tests}
 use Rattle.std.specs.List.{list_all, AllByRecursion}
 use Rattle.vf_base.specs.declared.spdu_kind.SpduKind.{SpduKind}
@@ -10,7 +10,7 @@ use Rattle.vf_spdu.specs.declared.spdu.SpduFields.{SpduFields}
 use Rattle.vf_spdu.specs.declared.table.Form.{Form}
 use Rattle.vf_spdu.specs.declared.table.Form.TheVariants.{Fixed, Either, Octet, Pair, Digits, Reasoned, AtMost, UserData}
 use Rattle.vf_spdu.specs.declared.table.Row.{Row}
-use Rattle.vf_spdu.specs.Fields.{◌>>=◌, IsReadable, is_serial, with_octet, with_number, with_value, taken_by, taken, taking, missing, complete, complete_by, bare, no_fields, with_octets}
+use Rattle.vf_spdu.specs.Fields.{◌>>=◌, IsReadable, is_serial, with_octet, with_number, with_value, taken_by, taken, taking, missing, complete, complete_by, bare, with_octets}
 use Rattle.vf_spdu.specs.Kinds.{first_kind, second_kind}
 use Rattle.vf_spdu.specs.Numbers.{number, last_serial}
 use Rattle.vf_spdu.specs.Parts.{Part, parameter, cut, Front, short, whole, front, parts}

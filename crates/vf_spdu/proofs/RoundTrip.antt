@@ -1,5 +1,5 @@
 -- Whoever reads what was written reads what it was.
-use Rattle.std.proofs.Common.{◌≡◌, ℕ, zero, suc, ◌+◌, ◌≤◌, ◌<◌, Bool, true, false, cond, nat_eq, nat_le, nat_lt, List, [], ◌∷◌, ◌++◌, length, Option, Some, None, Result, Ok, Err, refl, ap, sym, subst, ◌∙◌, arith, inl, inr, ◌⊎◌, append_assoc}
+use Rattle.std.proofs.Common.{◌≡◌, ℕ, zero, suc, ◌+◌, ◌≤◌, Bool, true, false, cond, nat_eq, nat_le, nat_lt, List, [], ◌∷◌, ◌++◌, length, Option, Some, None, Result, Ok, Err, refl, ap, sym, subst, ◌∙◌, arith, inl, inr, append_assoc}
 use Rattle.std.proofs.lemmas.Bool.{cases_lt}
 use Rattle.std.proofs.lemmas.Bool.Decides.{nat_tests}
 use Rattle.std.proofs.lemmas.List.{append-nil}
@@ -8,14 +8,13 @@ use Rattle.vf_base.specs.declared.spdu_kind.SpduKind.TheVariants.{CN, AC, RF, FN
 use Rattle.vf_spdu.specs.declared.errors.SpduError.{SpduError}
 use Rattle.vf_spdu.specs.declared.spdu.Spdu.{Spdu}
 use Rattle.vf_spdu.specs.declared.spdu.SpduFields.{SpduFields}
-use Rattle.vf_spdu.specs.declared.table.Form.{Form}
 use Rattle.vf_spdu.specs.declared.table.Form.TheVariants.{AtMost, Either, UserData, Digits}
-use Rattle.vf_spdu.specs.Fields.{◌>>=◌, no_fields, bare, with_octets, taking, complete}
-use Rattle.vf_spdu.specs.Kinds.{code_of, first_kind, second_kind}
+use Rattle.vf_spdu.specs.Fields.{◌>>=◌, no_fields, bare, taking, complete}
+use Rattle.vf_spdu.specs.Kinds.{code_of, first_kind}
 use Rattle.vf_spdu.specs.Numbers.{number, digits, last_serial, length_octets}
-use Rattle.vf_spdu.specs.Parts.{Front, front, Opening, inner, outer}
-use Rattle.vf_spdu.specs.Reading.{Behind, assembled, behind, is_dt, is_gt, one, one_by, nothing_behind, second, second_by, follows, first_by, reading}
-use Rattle.vf_spdu.specs.Spelling.{spelled, spelled_if, first_data, second_data, spelled_parameters, octets_behind, spelling, IsWritten, HasFields, HasUnits, HasSerial, HasReason, HasAbort, HasToken, IsSide, HasResync, HasResynced, ReadsAlone, ReadsBehind}
+use Rattle.vf_spdu.specs.Parts.{front, Opening, inner, outer}
+use Rattle.vf_spdu.specs.Reading.{Behind, assembled, behind, is_gt, one, one_by, nothing_behind, second, second_by, first_by}
+use Rattle.vf_spdu.specs.Spelling.{spelled, spelled_if, first_data, second_data, spelled_parameters, octets_behind, spelling, IsWritten, HasFields, HasUnits, HasSerial, HasReason, HasAbort, HasToken, IsSide, ReadsAlone, ReadsBehind}
 use Rattle.vf_spdu.specs.Table.{fits, optional}
 use Rattle.vf_spdu.proofs.DigitLemmas.{digits-fit, digits-spell}
 use Rattle.vf_spdu.proofs.FrontLemmas.{front-unit, length-written}

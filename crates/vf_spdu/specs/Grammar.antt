@@ -1,9 +1,9 @@
 -- Which octets are the SPDUs of a TSDU (ISO 8327, 6.3.7 and 8.2): each is an identifier, a length indicator and its
 -- parameters, joined, and behind those of a DT stands its data. What the parameters mean goes by the table.
-use Rattle.std.specs.Prelude.{ℕ, ◌+◌, ◌*◌, ◌<◌, ◌≡◌, ◌⊎◌, Bool, true, false, nat_eq, IsTrue, List, [], ◌∷◌, ◌++◌, length, slice_index, Option, Some, None, unwrap_or, if◌then◌else◌}
+use Rattle.std.specs.Prelude.{ℕ, ◌+◌, ◌*◌, ◌<◌, ◌≡◌, ◌⊎◌, Bool, true, false, nat_eq, List, [], ◌∷◌, ◌++◌, length, slice_index, Option, Some, None, unwrap_or, if◌then◌else◌}
 use Rattle.std.specs.List.{AllByRecursion, list_any, filter_map, flat_map, last_or}
 use Rattle.vf_base.specs.declared.spdu_kind.SpduKind.{SpduKind}
-use Rattle.vf_base.specs.declared.spdu_kind.SpduKind.TheVariants.{CN, AC, RF, FN, DN, AB, AA, DT, GT, MIP, MIA, RS, RA}
+use Rattle.vf_base.specs.declared.spdu_kind.SpduKind.TheVariants.{DT, GT, MIP, MIA, RS, RA}
 use Rattle.vf_spdu.specs.declared.spdu.Spdu.{Spdu}
 use Rattle.vf_spdu.specs.declared.spdu.SpduFields.{SpduFields}
 use Rattle.vf_spdu.specs.declared.table.Row.{Row}

@@ -4,7 +4,7 @@
 --
 -- What an absent one means: 16, no token passes; 23, the number 1 in CN and that of CN in AC; 26, the token stays
 -- where it is; 193 and 194, no user data; nothing is lost with 17, 19 and 22.
-use Rattle.std.specs.Prelude.{ℕ, ◌≤◌, Bool, true, false, ◌&&◌, ◌||◌, nat_eq, nat_le, List, [], ◌∷◌, length, slice_index, find, Option}
+use Rattle.std.specs.Prelude.{ℕ, Bool, true, false, ◌&&◌, ◌||◌, nat_eq, nat_le, List, [], ◌∷◌, length, slice_index, find, Option}
 use Rattle.std.specs.List.{list_all, list_any}
 use Rattle.vf_base.specs.declared.spdu_kind.SpduKind.{SpduKind}
 use Rattle.vf_base.specs.declared.spdu_kind.SpduKind.TheVariants.{CN, AC, RF, FN, DN, AB, AA, DT, GT, MIP, MIA, RS, RA}

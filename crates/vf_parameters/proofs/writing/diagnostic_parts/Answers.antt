@@ -1,7 +1,7 @@
 use Rattle.std.proofs.Common.{◌≡◌, ℕ, ℤ, ap, ◌∙◌, rules}
 use Rattle.std.specs.Prelude.{Some}
 use Rattle.vf_ber.specs.Tree.{Trees, none}
-use Rattle.vf_fields.specs.Content.{Number, Slot}
+use Rattle.vf_fields.specs.Content.{Number}
 use Rattle.vf_fields.specs.Rows.{Any, Integer, int, one, or, required}
 use Rattle.vf_fields.specs.Slots.{num}
 use Rattle.vf_fields.specs.Writing.{◌▸◌, part_of}

@@ -1,7 +1,5 @@
 use Rattle.std.proofs.Common.{cond, ap, sym, ◌∙◌}
 use Rattle.std.specs.Prelude.{None, Some}
-use Rattle.vf_ber.specs.Tree.{built}
-use Rattle.vf_fields.specs.Content.{items_of}
 use Rattle.vf_fields.specs.Meaning.{context}
 use Rattle.vf_fields.specs.Writing.{◌▸◌, spelled}
 use Rattle.vf_parameters.specs.ParameterSlots.{term_slots, terms_content}

@@ -1,4 +1,4 @@
-use Rattle.std.proofs.Common.{◌≡◌, nat_le, sym, ap, ◌∙◌}
+use Rattle.std.proofs.Common.{nat_le, sym, ap, ◌∙◌}
 use Rattle.vf_session.specs.Rooms.{data_length}
 use Rattle.vf_session.proofs.RoomLemmas.{fits-is}
 use Rattle.vf_session.proofs.saying.fits.Goals as goal

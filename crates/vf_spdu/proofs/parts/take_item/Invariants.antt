@@ -1,5 +1,5 @@
 use Rattle.std.proofs.Common.{length}
-use Rattle.vf_spdu.specs.Parts.{inner, outer}
+use Rattle.vf_spdu.specs.Parts.{inner}
 use Rattle.vf_spdu.proofs.PartLemmas.{Left}
 use Rattle.vf_spdu.proofs.parts.take_item.Given as goal
 
