@@ -1,11 +1,1 @@
-mod Apdus
-mod Ends
-mod InTurn
-mod Landings
 mod Lists
-mod Numbers
-mod Readings
-mod SegmentTurns
-mod Stopping
-mod Turns
-mod Walks

@@ -7,17 +7,17 @@ use Rattle.vf_upper.specs.declared.contexts.ContextEntry.{ContextEntry}
 use Rattle.vf_upper.specs.declared.contexts.Offer.{Offer}
 use Rattle.vf_upper.specs.declared.errors.UpperError.{UpperError}
 use Rattle.vf_upper.specs.declared.errors.UpperError.TheVariants as errors
-use Rattle.vf_upper.specs.declared.labels.NameLabel.{NameLabel}
-use Rattle.vf_upper.specs.declared.labels.NameLabel.TheVariants.{Abstract, Transfer, Application}
-use Rattle.vf_upper.specs.declared.labels.NumberLabel.{NumberLabel}
-use Rattle.vf_upper.specs.declared.labels.NumberLabel.TheVariants.{Proposal, Outcome, AcseContext, PciContext, AnyContext}
+use Rattle.vf_userdata.specs.declared.labels.NameLabel.{NameLabel}
+use Rattle.vf_userdata.specs.declared.labels.NameLabel.TheVariants.{Abstract, Transfer, Application}
+use Rattle.vf_userdata.specs.declared.labels.NumberLabel.{NumberLabel}
+use Rattle.vf_userdata.specs.declared.labels.NumberLabel.TheVariants.{Proposal, Outcome, AcseContext, PciContext, AnyContext}
 use Rattle.vf_upper.specs.declared.primitive.Primitive.{Primitive}
 use Rattle.vf_upper.specs.declared.primitive.Primitive.TheVariants as primitives
 use Rattle.vf_upper.specs.CarriedCode.{Carried}
-use Rattle.vf_upper.specs.Forms.{are_arcs}
-use Rattle.vf_upper.specs.Marks.{Mark, number, name, value, Found}
-use Rattle.vf_upper.specs.Syntaxes as syntaxes
-use Rattle.vf_upper.specs.Types.{cargo_of}
+use Rattle.vf_userdata.specs.Forms.{are_arcs}
+use Rattle.vf_userdata.specs.Marks.{Mark, number, name, value, Found}
+use Rattle.vf_userdata.specs.Syntaxes as syntaxes
+use Rattle.vf_userdata.specs.Types.{cargo_of, found_in}
 
 -- ---- what was found
 
@@ -172,11 +172,6 @@ may_lack kind = false
 abbrev pub is_bare : SpduKind → List ℕ → Bool
 is_bare kind [] = may_lack kind
 is_bare kind (octet ∷ octets) = false
-
--- all that is found in user data; an SPDU that has none is a fault
-abbrev pub found_in : Option (List ℕ → List Mark → Found) → List ℕ → Found
-found_in None octets = Err 0
-found_in (Some cargo) octets = cargo octets []
 
 -- the primitive that the user data of an SPDU of this kind are, or why they aren't any
 abbrev pub reading : SpduKind → List ContextEntry → List ℕ → Result Primitive UpperError

@@ -2,20 +2,16 @@
 ghost use Rattle.std.specs.Prelude.{◌≡◌, IfOk, Ok, map, false};
 ghost use Rattle.std.specs.Option.{option_copied};
 ghost use Rattle.vf_upper.specs.Conclusions.{Answers, having, is_associated, IsTaken, standing_of};
-ghost use Rattle.vf_upper.specs.Forms.{are_arcs};
-ghost use Rattle.vf_upper.specs.MarkViews.{mark_of, marks_of};
+ghost use Rattle.vf_userdata.specs.MarkViews.{mark_of, marks_of};
 ghost use Rattle.vf_upper.specs.Primitives.{concluded as conclusion, is_abstract as abstract_test, is_application as application_test, is_context as context_test, is_outcome as outcome_test, is_proposal as proposal_test, is_suited as suited_test, is_transfer as transfer_test, offers_ber as ber_offered, offers_of as offers_in, refusal as first_refusal, refused as refused_by, results_of as results_in, syntax_of, values_of as values_in};
-ghost use Rattle.vf_upper.specs.Syntaxes.{ftam};
 
-use crate::labels::{NameLabel, NumberLabel};
-use crate::leaf::is_ber;
-use crate::marks::{Mark, Marks};
-use crate::standing::{accepted_syntax, answered_syntax, is_acse, is_pci, offered_syntax};
+use crate::standing::{accepted_syntax, answered_syntax, offered_syntax};
 use crate::{
     CarriedValue, CarriedValues, ContextEntry, Offer, Offers, Primitive, Results, UpperError,
 };
 use std::alloc::Global;
 use vf_base::{NoMemory, Oid, SpduKind};
+use vf_userdata::{Mark, Marks, NameLabel, NumberLabel, is_acse, is_ber, is_ftam, is_pci};
 
 /// The contexts in which values stand.
 #[derive(Clone, Copy)]
@@ -97,12 +93,6 @@ fn is_application(label: NameLabel) -> bool
         NameLabel::Abstract => false,
         NameLabel::Transfer => false,
     }
-}
-
-fn is_ftam(oid: &Oid) -> bool
-    ensures { result ≡ are_arcs oid.now ftam }
-{
-    oid.arcs() == [1, 0, 8571, 1, 1].as_slice()
 }
 
 /// Whether BER is among the transfer syntaxes that come next.

@@ -2,29 +2,17 @@
 #![tactic(auto)]
 
 mod acse;
-mod cargo;
 mod conclusion;
 mod contexts;
 mod errors;
-mod fields;
-mod form;
-mod held;
 mod holding;
-mod labels;
-mod leaf;
-mod marks;
-mod parts;
 mod placed;
 mod presentation;
 mod primitive;
 mod reading;
 mod results;
-mod segments;
 mod standing;
-mod table;
-mod text;
 mod values;
-mod walk;
 mod writing;
 
 pub use contexts::{ContextEntry, Contexts, Offer, Offers};

@@ -6,13 +6,13 @@ ghost use Rattle.vf_upper.specs.Conclusions.{standing_of};
 ghost use Rattle.vf_upper.specs.Written.{accepted, has_pdu as pdu_test, is_placed as placed_test, IsWritable, suits_in as suits_test};
 
 use crate::conclusion::{Standing, is_suited, syntax_in};
-use crate::labels::NumberLabel;
 use crate::standing::acse_id;
 use crate::writing::value_of;
 use crate::{CarriedValue, CarriedValues, ContextEntry, Contexts, Offer, Offers, Primitive};
 use std::alloc::Global;
 use vf_base::NoMemory;
 use vf_ber::WriteError;
+use vf_userdata::NumberLabel;
 
 fn suits_in(standing: Standing<'_>, label: NumberLabel, id: i64) -> bool
     ensures { result ≡ suits_test (standing_of standing.entry) label id }

@@ -1,17 +1,13 @@
 //! Reading of user data.
-ghost use Rattle.std.specs.Prelude.{◌≡◌, []};
+ghost use Rattle.std.specs.Prelude.{◌≡◌};
 ghost use Rattle.vf_upper.specs.Conclusions.{Answers};
-ghost use Rattle.vf_upper.specs.MarkViews.{Gives, marks_of};
-ghost use Rattle.vf_upper.specs.Primitives.{found_in, is_bare as bare, may_lack as may_be_absent, reading};
-ghost use Rattle.vf_upper.specs.Types.{cargo_of};
+ghost use Rattle.vf_upper.specs.Primitives.{is_bare as bare, may_lack as may_be_absent, reading};
 
 use crate::conclusion::concluded;
-use crate::marks::{Marks, Stop};
-use crate::table::user_data;
-use crate::walk::typed;
 use crate::{Contexts, Primitive, UpperError};
 use std::alloc::Global;
 use vf_base::SpduKind;
+use vf_userdata::{Marks, Stop, find};
 
 /// A refusal or an abort may have no user data.
 fn is_bare(carrier: SpduKind, octets: &[u8]) -> bool
@@ -38,17 +34,6 @@ fn may_lack(carrier: SpduKind) -> bool
         SpduKind::RS => false,
         SpduKind::RA => false,
     }
-}
-
-/// Finds what user data say.
-fn find(alloc: Global, carrier: SpduKind, octets: &[u8], found: &mut Marks) -> Result<(), Stop>
-    requires { marks_of found.old ≡ [] }
-    ensures { Gives result (marks_of found.new) (found_in (cargo_of carrier) octets.now) }
-{
-    let Some(field) = user_data(carrier) else {
-        return Err(Stop::At(0));
-    };
-    typed(alloc, carrier, field, octets, found)
 }
 
 /// The primitive that the user data of an SPDU are, with its values and their contexts (ISO 8823, 8.2; ISO 8650-1, 9;

@@ -1,37 +1,12 @@
 //! The contexts in which values stand, and their abstract syntaxes.
 ghost use Rattle.std.specs.Prelude.{◌≡◌, List, ◌∷◌, map, true};
 ghost use Rattle.std.specs.Option.{option_copied};
-ghost use Rattle.vf_upper.specs.Forms.{are_arcs};
 ghost use Rattle.vf_upper.specs.Primitives.{answered, offered, stands, syntax_of};
-ghost use Rattle.vf_upper.specs.Syntaxes.{acse, is_ours as ours_test, pci};
 ghost use Rattle.vf_upper.specs.Written.{acse_id as acse_context};
 
 use crate::{ContextEntry, Offer};
 use vf_base::Oid;
-
-pub(crate) fn is_acse(oid: &Oid) -> bool
-    ensures { result ≡ are_arcs oid.now acse }
-{
-    oid.arcs() == [2, 2, 1, 0, 1].as_slice()
-}
-
-pub(crate) fn is_pci(oid: &Oid) -> bool
-    ensures { result ≡ are_arcs oid.now pci }
-{
-    oid.arcs() == [1, 0, 8571, 2, 1].as_slice()
-}
-
-/// An abstract syntax that a called end accepts.
-fn is_ours(oid: &Oid) -> bool
-    ensures { result ≡ ours_test oid.now }
-{
-    let arcs = oid.arcs();
-    arcs == [2, 2, 1, 0, 1].as_slice()
-        || arcs == [1, 0, 8571, 2, 1].as_slice()
-        || arcs == [1, 0, 8571, 2, 2].as_slice()
-        || arcs == [1, 0, 8571, 2, 3].as_slice()
-        || arcs == [1, 0, 8571, 2, 4].as_slice()
-}
+use vf_userdata::{is_acse, is_ours};
 
 /// The abstract syntax of an accepted context.
 pub(crate) fn accepted_syntax(contexts: &[ContextEntry], id: i64) -> Option<&Oid>

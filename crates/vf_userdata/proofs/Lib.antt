@@ -1,0 +1,10 @@
+mod Apdus
+mod Ends
+mod InTurn
+mod Landings
+mod Numbers
+mod Readings
+mod SegmentTurns
+mod Stopping
+mod Turns
+mod Walks

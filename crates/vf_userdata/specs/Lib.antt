@@ -1,0 +1,13 @@
+pub mod CargoViews
+pub mod Forms
+pub mod HeldViews
+pub mod MarkViews
+pub mod Marks
+pub mod Parts
+pub mod Rows
+pub mod SegmentViews
+pub mod Syntaxes
+pub mod Texts
+pub mod Types
+pub mod Views
+pub mod WalkViews

@@ -1,0 +1,106 @@
+//! Octets that are read as values. Places are offsets in them.
+ghost use Rattle.std.specs.Prelude.{◌≡◌, ◌+◌, ◌<◌, ◌≤◌, ◌^◌, IfOk, length};
+ghost use Rattle.vf_ber.specs.Reader.{verdict};
+ghost use Rattle.vf_userdata.specs.MarkViews.{Gives, marks_of};
+ghost use Rattle.vf_userdata.specs.CargoViews.{front_of, IsNext, IsValueIn};
+ghost use Rattle.vf_userdata.specs.Texts.{front as front_by, one as one_value, some as some_values};
+
+use crate::marks::{Mark, Marks, Stop};
+use std::alloc::Global;
+use vf_base::NoMemory;
+use vf_ber::{BerError, Value};
+
+/// The first octets that are seen, whether they are a whole value, and the place of the fault, if there is one.
+#[derive(Clone, Copy)]
+pub(crate) struct Front {
+    pub len: usize,
+    pub whole: bool,
+    pub fault: Option<u32>,
+}
+
+/// The value that the octets begin with, and how many of them it takes; or the place of the fault.
+pub(crate) fn value_in(alloc: Global, octets: &[u8]) -> Result<(Value, usize), Stop>
+    ensures { IsValueIn octets.now result }
+{
+    match vf_ber::read(alloc, octets) {
+        Ok((value, n)) => Ok((value, n)),
+        Err(BerError::Short) => Err(Stop::At(octets.len() as u32)),
+        Err(BerError::Bad { at }) => Err(Stop::At(at)),
+        Err(BerError::Deep { at }) => Err(Stop::At(at)),
+        Err(BerError::Long { at }) => Err(Stop::At(at)),
+        Err(BerError::NoMemory) => Err(Stop::NoMemory),
+    }
+}
+
+/// What is seen of octets that are to be one value.
+pub(crate) fn seen(alloc: Global, octets: &[u8]) -> Result<Front, NoMemory>
+    ensures front { IfOk result (λ front. front_of octets.now front ≡ front_by octets.now (verdict octets.now)) }
+    ensures within { IfOk result (λ front. front.len ≤ length octets.now) }
+    ensures small { IfOk result (λ front. front.len ≤ 1048576) }
+{
+    match value_in(alloc, octets) {
+        Ok((_value, n)) => Ok(Front {
+            len: n,
+            whole: true,
+            fault: if n == octets.len() {
+                None
+            } else {
+                Some(n as u32)
+            },
+        }),
+        Err(Stop::At(at)) => Ok(Front {
+            len: at as usize,
+            whole: false,
+            fault: Some(at),
+        }),
+        Err(Stop::NoMemory) => Err(NoMemory),
+    }
+}
+
+/// One value, whatever it is.
+pub(crate) fn one(alloc: Global, octets: &[u8], found: &mut Marks) -> Result<(), Stop>
+    requires { length octets.now < 2 ^ 32 }
+    ensures { Gives result (marks_of found.new) (one_value octets.now (marks_of found.old)) }
+{
+    let n = next_value(alloc, 0, octets, found)?;
+    if n < octets.len() {
+        return Err(Stop::At(n as u32));
+    }
+    Ok(())
+}
+
+/// One value or more.
+pub(crate) fn some(alloc: Global, octets: &[u8], found: &mut Marks) -> Result<(), Stop>
+    requires { length octets.now < 2 ^ 32 }
+    ensures { Gives result (marks_of found.new) (some_values octets.now (marks_of found.old)) }
+{
+    let mut at = 0;
+    let mut rest = octets;
+    let mut more = true;
+    while more {
+        let n = next_value(alloc, at, rest, found)?;
+        let (_, others) = rest.split_at(n);
+        at += n;
+        rest = others;
+        more = !rest.is_empty();
+    }
+    Ok(())
+}
+
+/// Reads the value that the octets from this place on begin with, and says how many of them it takes.
+fn next_value(alloc: Global, at: usize, octets: &[u8], found: &mut Marks) -> Result<usize, Stop>
+    requires { at + length octets.now < 2 ^ 32 }
+    ensures next { IsNext at octets.now (marks_of found.old) result (marks_of found.new) }
+    ensures within { IfOk result (λ n. n ≤ length octets.now) }
+    ensures small { IfOk result (λ n. n ≤ 1048576) }
+    ensures some { IfOk result (λ n. 1 ≤ n) }
+{
+    match value_in(alloc, octets) {
+        Ok((value, n)) => {
+            found.push(Mark::Value { value })?;
+            Ok(n)
+        }
+        Err(Stop::At(place)) => Err(Stop::At(at as u32 + place)),
+        Err(Stop::NoMemory) => Err(Stop::NoMemory),
+    }
+}
