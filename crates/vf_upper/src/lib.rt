@@ -23,3 +23,6 @@ pub use reading::read;
 pub use results::Results;
 pub use values::{CarriedValue, CarriedValues};
 pub use writing::write;
+
+#[cfg(test)]
+mod tests;

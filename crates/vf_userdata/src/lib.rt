@@ -21,3 +21,6 @@ pub use finding::find;
 pub use labels::{NameLabel, NumberLabel};
 pub use marks::{Mark, Marks, Stop};
 pub use syntaxes::{is_acse, is_ber, is_ftam, is_ours, is_pci};
+
+#[cfg(test)]
+mod tests;

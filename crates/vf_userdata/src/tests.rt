@@ -1,0 +1,144 @@
+use crate::{
+    Mark, Marks, NameLabel, NumberLabel, Stop, find, is_acse, is_ber, is_ftam, is_ours, is_pci,
+};
+use std::alloc::Global;
+use std::test::Fail;
+use vf_base::{Oid, SpduKind};
+
+/// What one of the things that are found is: its label by a letter, and its number, 0 where it is none.
+fn told(mark: &Mark) -> (u8, i64) {
+    match mark {
+        Mark::Number { label, n } => match label {
+            NumberLabel::Fixed => (b'f', *n),
+            NumberLabel::Proposal => (b'p', *n),
+            NumberLabel::Outcome => (b'o', *n),
+            NumberLabel::AcseContext => (b'a', *n),
+            NumberLabel::PciContext => (b'c', *n),
+            NumberLabel::AnyContext => (b'n', *n),
+        },
+        Mark::Name { label, .. } => match label {
+            NameLabel::Stated => (b'S', 0),
+            NameLabel::Abstract => (b'A', 0),
+            NameLabel::Transfer => (b'T', 0),
+            NameLabel::Application => (b'N', 0),
+        },
+        Mark::Value { .. } => (b'v', 0),
+    }
+}
+
+/// Whether these things are found in user data, in this order.
+fn finds(alloc: Global, carrier: SpduKind, octets: &[u8], things: &[(u8, i64)]) -> bool {
+    let mut found = Marks::new(alloc);
+    if find(alloc, carrier, octets, &mut found).is_err() || found.items.len() != things.len() {
+        return false;
+    }
+    for (mark, thing) in found.items.iter().zip(things) {
+        if told(mark) != *thing {
+            return false;
+        }
+    }
+    true
+}
+
+#[test]
+fn things_are_found_in_order(rt: HostRuntime) {
+    let request = &[
+        0x31, 0x4e, 0xa0, 0x03, 0x80, 0x01, 0x01, 0xa2, 0x47, 0xa4, 0x23, 0x30, 0x0f, 0x02, 0x01,
+        0x01, 0x06, 0x04, 0x52, 0x01, 0x00, 0x01, 0x30, 0x04, 0x06, 0x02, 0x51, 0x01, 0x30, 0x10,
+        0x02, 0x01, 0x03, 0x06, 0x05, 0x28, 0xc2, 0x7b, 0x02, 0x01, 0x30, 0x04, 0x06, 0x02, 0x51,
+        0x01, 0x61, 0x20, 0x30, 0x1e, 0x02, 0x01, 0x01, 0xa0, 0x19, 0x60, 0x17, 0xa1, 0x07, 0x06,
+        0x05, 0x28, 0xc2, 0x7b, 0x01, 0x01, 0xbe, 0x0c, 0x28, 0x0a, 0x02, 0x01, 0x03, 0xa0, 0x05,
+        0xa4, 0x03, 0x80, 0x01, 0x61,
+    ];
+    let things = [
+        (b'f', 1),
+        (b'p', 1),
+        (b'A', 0),
+        (b'T', 0),
+        (b'p', 3),
+        (b'A', 0),
+        (b'T', 0),
+        (b'a', 1),
+        (b'N', 0),
+        (b'c', 3),
+        (b'v', 0),
+    ];
+    assert!(rt; finds(rt.alloc(), SpduKind::CN, request, things.as_slice()));
+    let data = &[
+        0x61, 0x0c, 0x30, 0x0a, 0x02, 0x01, 0x03, 0xa0, 0x05, 0xa4, 0x03, 0x80, 0x01, 0x61,
+    ];
+    assert!(rt;
+        finds(
+            rt.alloc(),
+            SpduKind::DT,
+            data,
+            [(b'n', 3), (b'v', 0)].as_slice()
+        )
+    );
+}
+
+/// User data with a fault, and its place.
+const FAULTS: [(SpduKind, &[u8], u32); 5] = [
+    (SpduKind::DT, &[], 0),
+    (SpduKind::DT, &[0x61, 0x03, 0x30, 0x01, 0x00], 3),
+    (
+        SpduKind::DT,
+        &[
+            0x61, 0x0c, 0x30, 0x0a, 0x02, 0x01, 0x03, 0xa0, 0x05, 0xa4, 0x03, 0x80, 0x01,
+        ],
+        13,
+    ),
+    (
+        SpduKind::FN,
+        &[
+            0x61, 0x17, 0x30, 0x15, 0x02, 0x01, 0x01, 0xa0, 0x10, 0x63, 0x0e, 0xbe, 0x0c, 0x28,
+            0x0a, 0x02, 0x01, 0x03, 0xa0, 0x05, 0xa4, 0x03, 0x80, 0x01, 0x61,
+        ],
+        9,
+    ),
+    (SpduKind::GT, &[0x61, 0x00], 0),
+];
+
+#[test]
+fn faults_have_their_places(rt: HostRuntime) {
+    for (carrier, octets, place) in FAULTS {
+        let mut found = Marks::new(rt.alloc());
+        let stop = find(rt.alloc(), carrier, octets, &mut found);
+        assert!(rt; matches!(stop, Err(stop) if stop == Stop::At(place)));
+    }
+}
+
+/// Whether exactly the tests with a 1 hold of an object identifier: ACSE, PCI, FTAM, BER, ours.
+fn has_tests(alloc: Global, arcs: &[u32], digits: &[u8]) -> bool {
+    let Ok(oid) = Oid::of(alloc, arcs) else {
+        return false;
+    };
+    let tests = [
+        is_acse(&oid),
+        is_pci(&oid),
+        is_ftam(&oid),
+        is_ber(&oid),
+        is_ours(&oid),
+    ];
+    for (test, digit) in tests.iter().zip(digits) {
+        if *test != (*digit == b'1') {
+            return false;
+        }
+    }
+    true
+}
+
+#[test]
+fn object_identifiers_are_told_apart(rt: HostRuntime) {
+    let rows: [(&[u32], &[u8]); 6] = [
+        (&[2, 2, 1, 0, 1], b"10001"),
+        (&[1, 0, 8571, 2, 1], b"01001"),
+        (&[1, 0, 8571, 1, 1], b"00100"),
+        (&[2, 1, 1], b"00010"),
+        (&[1, 0, 8571, 2, 4], b"00001"),
+        (&[1, 0, 8571, 2, 5], b"00000"),
+    ];
+    for (arcs, digits) in rows {
+        assert!(rt; has_tests(rt.alloc(), arcs, digits));
+    }
+}
