@@ -1,12 +1,10 @@
-ghost use Rattle.vf_upper.specs.Written.{IsWritable};
-
 use crate::{
     CarriedValue, CarriedValues, ContextEntry, Contexts, Primitive, Results, UpperError,
     is_writable, read, write,
 };
 use std::alloc::Global;
 use std::test::Fail;
-use vf_base::{NoMemory, Oid, SpduKind};
+use vf_base::{Oid, SpduKind};
 use vf_ber::{Tag, Value};
 
 /// A context of this identifier and syntax.
@@ -24,22 +22,22 @@ fn contexts_of(alloc: Global) -> Contexts {
     made
 }
 
-/// The user data that are written for what these octets are read as, where they can be.
+/// Whether what these octets are read as can be written; it is written into `out`.
 fn again(
     alloc: Global,
     carrier: SpduKind,
     contexts: &Contexts,
     octets: &[u8],
-) -> Result<Option<Vec<u8>>, UpperError> {
-    let read = read(alloc, carrier, contexts, octets)?;
-    let primitive = read.copy(alloc)?;
-    drop(read);
+    out: &mut Vec<u8>,
+) -> Result<bool, UpperError> {
+    out.clear();
+    let found = read(alloc, carrier, contexts, octets)?;
+    let primitive = found.copy(alloc)?;
     if !is_writable(alloc, &primitive, contexts)? {
-        return Ok(None);
+        return Ok(false);
     }
-    let mut out = Vec::new(alloc);
-    write(alloc, &primitive, contexts, &mut out)?;
-    Ok(Some(out))
+    write(alloc, &primitive, contexts, out)?;
+    Ok(true)
 }
 
 /// User data of each SPDU, as they are written: a Select in context 3, and for P-DATA a Select and a string.
@@ -109,12 +107,19 @@ const WRITTEN: [(SpduKind, &[u8]); 7] = [
 ];
 
 #[test]
-fn what_is_written_is_read_again(rt: HostRuntime) {
+fn what_is_written_is_read_again(rt: HostRuntime) -> Result<(), Fail> {
     let contexts = contexts_of(rt.alloc());
+    let mut out = Vec::new(rt.alloc());
     for (carrier, octets) in WRITTEN {
-        let found = again(rt.alloc(), carrier, &contexts, octets);
-        assert!(rt; matches!(found, Ok(Some(out)) if out.as_slice() == octets));
+        assert!(rt;
+            matches!(
+                again(rt.alloc(), carrier, &contexts, octets, &mut out),
+                Ok(true)
+            )
+        );
+        assert_eq!(rt; out.as_slice(), octets);
     }
+    Ok(())
 }
 
 /// User data that are refused, and why.
@@ -166,9 +171,15 @@ fn what_is_refused_has_its_reason(rt: HostRuntime) {
 #[test]
 fn a_refusal_or_an_abort_may_have_no_user_data(rt: HostRuntime) {
     let contexts = Contexts::new(rt.alloc());
+    let mut out = Vec::new(rt.alloc());
     for carrier in [SpduKind::RF, SpduKind::AB] {
-        let found = again(rt.alloc(), carrier, &contexts, &[]);
-        assert!(rt; matches!(found, Ok(Some(out)) if out.is_empty()));
+        assert!(rt;
+            matches!(
+                again(rt.alloc(), carrier, &contexts, &[], &mut out),
+                Ok(true)
+            )
+        );
+        assert!(rt; out.is_empty());
     }
 }
 
