@@ -1,0 +1,240 @@
+-- The spellings of trees are read as their parts, one by one, and whole.
+use Rattle.std.proofs.Common.{◌≡◌, ℕ, zero, suc, ◌+◌, ◌-◌, ◌<◌, ◌≤◌, Bool, true, false, List, [], ◌∷◌, ◌++◌, length, drop, refl, ap, sym, subst, ◌∙◌, append_assoc, arith, length-append, inl, inr}
+use Rattle.std.specs.Prelude.{◌&&◌, nat_eq, nat_le, nat_lt, Option, Some}
+use Rattle.std.specs.List.{All}
+use Rattle.std.specs.Option.{option_and_then}
+use Rattle.std.proofs.lemmas.Bool.{and_parts, cases_lt, cond-true, cond-false, leb-true, le-leb, le-ltb, lt-ltb, ne_eqb}
+use Rattle.std.proofs.lemmas.List.{append-nil, drop_at, take_at}
+use Rattle.std.proofs.lemmas.List.Elements.{All-cons, All-head, All-nil, All-tail}
+use Rattle.vf_ber.proofs.Canonical.{length_is}
+use Rattle.vf_ber.proofs.Names.{bit-first, class-first, identifier-short, low-first}
+use Rattle.vf_ber.proofs.Plain.{verdict_found}
+use Rattle.vf_ber.proofs.Verdicts.{read_again}
+use Rattle.vf_ber.specs.Limits.{IsTooLarge}
+use Rattle.vf_ber.specs.Reader.{verdict}
+use Rattle.vf_ber.specs.Spelling.{first_octet, header, length_octets, spell, spells}
+use Rattle.vf_ber.specs.Spellings.{IsLength, number_in}
+use Rattle.vf_ber.specs.Tags.{AreTrees, IsTag, IsTree}
+use Rattle.vf_ber.specs.Tree.{built, depth_in, plain, root, Tag, Tree}
+use Rattle.vf_ber.specs.Verdict.{Read}
+use Rattle.vf_upper.specs.Written.{holding, trees}
+use Rattle.vf_userdata.specs.Forms.{has_tag, Tags}
+use Rattle.vf_userdata.specs.Parts.{behind_length, class_of, ends, Header, header_at, is_constructed, long_form, next, number_of, Part, part_with, Parts, parts_by, parts_in, parts_of, Piece, piece_of, place_in, Taken, taken, taken_at, taken_by, Text}
+
+-- ---- trees and their parts
+
+-- Its first octet tells its tag: the number is at most 30.
+abbrev pub IsLow : Tree → Type 0
+IsLow tree = IsTag (root tree) × ((root tree).number ≤ 30)
+
+-- the same of a tag, as a test
+abbrev pub is_low : Tag → Bool
+is_low tag = nat_le tag.class 3 && nat_le tag.number 30 && nat_le 1 (tag.class + tag.number)
+
+abbrev pub first_of : Tree → ℕ
+first_of (plain tag octets) = first_octet false tag.class tag.number
+first_of (built tag parts) = first_octet true tag.class tag.number
+
+abbrev pub is_built : Tree → Bool
+is_built (plain tag octets) = false
+is_built (built tag parts) = true
+
+abbrev pub contents_of : Tree → List ℕ
+contents_of (plain tag octets) = octets
+contents_of (built tag parts) = spells parts
+
+-- a part that is a tree's, whole
+pub record IsPart (tree : Tree) (part : Part) : Type 0 where
+  pub first : part.first ≡ first_of tree
+  pub octets : part.contents.octets ≡ contents_of tree
+  pub whole : part.contents.whole ≡ true
+
+-- parts that are those of trees in turn, with nothing behind
+abbrev pub AreParts : List Tree → Parts → Type 0
+AreParts [] (ends place) = Unit {0}
+AreParts [] (next part parts) = ⊥
+AreParts (tree ∷ others) (ends place) = ⊥
+AreParts (tree ∷ others) (next part parts) = IsPart tree part × AreParts others parts
+
+-- by the test, which computes for the tags of a type
+pub low-by : (tree : Tree) → is_low (root tree) ≡ true → IsLow tree
+low-by tree e =
+    let class = (root tree).class in
+    let number = (root tree).number in
+    let some = and_parts (nat_le class 3 && nat_le number 30) (nat_le 1 (class + number)) e in
+    let few = and_parts (nat_le class 3) (nat_le number 30) some.0 in
+    let low : number ≤ 30 = leb-true number 30 few.1 in
+    (record { class_within = leb-true class 3 few.0; number_within = omega arith; some_value = leb-true 1 (class + number) some.1 }, low)
+
+-- ---- first octets
+
+class-of : (tree : Tree) → IsLow tree → class_of (first_of tree) ≡ (root tree).class
+class-of (plain tag octets) low = let few = low.1 in class-first false tag.class tag.number (omega arith)
+class-of (built tag parts) low = let few = low.1 in class-first true tag.class tag.number (omega arith)
+
+number-of : (tree : Tree) → IsLow tree → number_of (first_of tree) ≡ (root tree).number
+number-of (plain tag octets) low = let few = low.1 in low-first false tag.class tag.number (omega arith)
+number-of (built tag parts) low = let few = low.1 in low-first true tag.class tag.number (omega arith)
+
+some-first : (tree : Tree) → IsLow tree → nat_eq (first_of tree) 0 ≡ false
+some-first (plain tag octets) low = let some = low.0.some_value in ne_eqb (first_octet false tag.class tag.number) 0 (λ e. omega arith)
+some-first (built tag parts) low = ne_eqb (first_octet true tag.class tag.number) 0 (λ e. omega arith)
+
+-- a field's tags are asked of the first octet
+pub tagged : (tags : Tags) (tree : Tree) → IsLow tree
+    → has_tag tags (first_of tree) ≡ (nat_eq (root tree).class tags.class && nat_le tags.from (root tree).number && nat_le (root tree).number tags.to)
+tagged tags tree low = rw (class-of tree low, number-of tree low) refl
+
+pub constructed-first : (tree : Tree) → IsLow tree → is_constructed (first_of tree) ≡ is_built tree
+constructed-first (plain tag octets) low = let few = low.1 in bit-first false tag.class tag.number (omega arith)
+constructed-first (built tag parts) low = let few = low.1 in bit-first true tag.class tag.number (omega arith)
+
+-- ---- parts of spellings
+
+-- the contents are the last octets of a spelling
+contents-fewer : (tree : Tree) → length (contents_of tree) ≤ length (spell tree)
+contents-fewer (plain tag octets) = omega (arith, length-append (header false tag (length octets)) octets)
+contents-fewer (built tag parts) = omega (arith, length-append (header true tag (length (spells parts))) (spells parts))
+
+-- the first octet, a length, and the contents
+spell-low : (tree : Tree) → IsLow tree → spell tree ≡ first_of tree ∷ (length_octets (length (contents_of tree)) ++ contents_of tree)
+spell-low (plain tag octets) low =
+    let few = low.1 in
+    ap (λ i. (i ++ length_octets (length octets)) ++ octets) (identifier-short false tag.class tag.number (omega arith))
+spell-low (built tag parts) low =
+    let few = low.1 in
+    ap (λ i. (i ++ length_octets (length (spells parts))) ++ spells parts) (identifier-short true tag.class tag.number (omega arith))
+
+spelled-some : (tree : Tree) → IsLow tree → 0 < length (spell tree)
+spelled-some tree low = rw (spell-low tree low) (omega arith)
+
+-- a length, and what stands behind it
+abbrev counted : ℕ → List ℕ → Option Header
+counted n rest = Some (record { count = Some n; rest = rest })
+
+long-found : (digits rest : List ℕ) → 1 ≤ length digits → length digits ≤ 8 → behind_length ((128 + length digits) ∷ (digits ++ rest)) ≡ counted (number_in 0 digits) rest
+long-found digits rest some few =
+    let first = 128 + length digits in
+    let n : length digits ≡ first - 128 = omega arith in
+    let all = digits ++ rest in
+    cond-false (nat_lt first 128) _ _ (le-ltb first 128 (omega arith))
+    ∙ cond-false (nat_eq first 128) _ _ (ne_eqb first 128 (λ e. omega arith))
+    ∙ cond-true (nat_le first 136) _ _ (le-leb first 136 (omega arith))
+    ∙ ap (λ k. long_form k all) (sym n)
+    ∙ cond-true (nat_le (length digits) (length all)) _ _ (le-leb (length digits) (length all) (omega (arith, length-append digits rest)))
+    ∙ ap (λ o. counted (number_in 0 o) (drop (length digits) all)) (take_at digits rest (length digits) refl)
+    ∙ ap (counted (number_in 0 digits)) (drop_at digits rest (length digits) refl)
+
+length-found : (octets rest : List ℕ) (n : ℕ) → IsLength octets n → behind_length (octets ++ rest) ≡ counted n rest
+length-found octets rest n (inl (is, lt)) =
+    ap (λ o. behind_length (o ++ rest)) is ∙ cond-true (nat_lt n 128) _ _ (lt-ltb n 128 lt)
+length-found octets rest n (inr long) =
+    ap (λ o. behind_length (o ++ rest)) long.spelled ∙ long-found long.digits rest long.some long.few ∙ ap (λ k. counted k rest) long.number
+
+header-spelled : (tree : Tree) (rest : List ℕ) → IsLow tree → length (contents_of tree) ≤ 1048576
+    → header_at (first_of tree ∷ ((length_octets (length (contents_of tree)) ++ contents_of tree) ++ rest)) ≡ counted (length (contents_of tree)) (contents_of tree ++ rest)
+header-spelled tree rest low few =
+    let n = length (contents_of tree) in
+    let number : number_of (first_of tree) < 31 = omega (arith, number-of tree low, low.1) in
+    ap (option_and_then behind_length) (cond-true (nat_lt (number_of (first_of tree)) 31) _ _ (lt-ltb (number_of (first_of tree)) 31 number))
+    ∙ ap behind_length (append_assoc (length_octets n) (contents_of tree) rest)
+    ∙ length-found (length_octets n) (contents_of tree ++ rest) n (length_is n few)
+
+abbrev whole_piece : List ℕ → List ℕ → Piece
+whole_piece contents rest = record { octets = contents; whole = true; rest = rest }
+
+piece-found : (contents rest : List ℕ) → piece_of (Some (length contents)) (contents ++ rest) ≡ whole_piece contents rest
+piece-found contents rest =
+    let n = length contents in
+    let all = contents ++ rest in
+    ap (λ o. record { octets = o; whole = nat_le n (length all); rest = drop n all }) (take_at contents rest n refl)
+    ∙ ap (λ b. record { octets = contents; whole = b; rest = drop n all }) (le-leb n (length all) (omega (arith, length-append contents rest)))
+    ∙ ap (whole_piece contents) (drop_at contents rest n refl)
+
+abbrev text_of : List ℕ → ℕ → Text
+text_of octets at = record { octets = octets; at = at; whole = true }
+
+-- what is taken of a text that begins with the spelling of a tree
+abbrev spelled : Tree → List ℕ → ℕ → Taken
+spelled tree rest at = part_with (text_of (spell tree ++ rest) at) (first_of tree) (length (contents_of tree ++ rest)) (whole_piece (contents_of tree) rest)
+
+taken-spelled : (tree : Tree) (rest : List ℕ) (at : ℕ) → IsLow tree → length (contents_of tree) ≤ 1048576
+    → taken (text_of (spell tree ++ rest) at) ≡ Some (spelled tree rest at)
+unfolding taken
+taken-spelled tree rest at low few =
+    let text = text_of (spell tree ++ rest) at in
+    let first = first_of tree in
+    ap (λ o. taken_at text (o ++ rest)) (spell-low tree low)
+    ∙ cond-false (nat_eq first 0) _ _ (some-first tree low)
+    ∙ ap (λ h. Some (taken_by text first h)) (header-spelled tree rest low few)
+    ∙ ap (λ p. Some (part_with text first (length (contents_of tree ++ rest)) p)) (piece-found (contents_of tree) rest)
+
+is-part : (tree : Tree) (rest : List ℕ) (at : ℕ) → IsPart tree (spelled tree rest at).part
+is-part tree rest at = record { first = refl; octets = refl; whole = refl }
+
+-- as many turns as there are octets are enough
+parts-in : (ts : List Tree) (turns at : ℕ) → All IsLow ts → length (spells (trees ts)) ≤ 1048576 → length (spells (trees ts)) ≤ turns
+    → AreParts ts (parts_in turns (text_of (spells (trees ts)) at))
+unfolding parts_in taken
+parts-in [] zero at low few enough = tt
+parts-in [] (suc turns) at low few enough = tt
+parts-in (tree ∷ ts) zero at low few enough = absurd (omega (arith, length-append (spell tree) (spells (trees ts)), spelled-some tree (All-head IsLow tree ts low)))
+parts-in (tree ∷ ts) (suc turns) at low few enough =
+    let rest = spells (trees ts) in
+    let here = All-head IsLow tree ts low in
+    let both = length-append (spell tree) rest in
+    let some : 0 < length (spell tree) = spelled-some tree here in
+    let first : length (contents_of tree) ≤ 1048576 = omega (arith, contents-fewer tree) in
+    let text = text_of (spell tree ++ rest) at in
+    let others = parts-in ts turns (place_in text (length rest)) (All-tail IsLow tree ts low) (omega arith) (omega arith) in
+    subst (λ (o : Option Taken). AreParts (tree ∷ ts) (parts_by (parts_in turns) text o)) (sym (taken-spelled tree rest at here first)) (is-part tree rest at, others)
+
+-- what is spelled by trees in turn is read as their parts
+pub parts-are : (ts : List Tree) (at : ℕ) → All IsLow ts → length (spells (trees ts)) ≤ 1048576
+    → AreParts ts (parts_of (record { octets = spells (trees ts); at = at; whole = true }))
+unfolding parts_of
+parts-are ts at low small = parts-in ts (length (spells (trees ts))) at low small (omega arith)
+
+-- the spelling of one tree is read as one part
+pub value-octets : (tree : Tree) (at : ℕ) → IsLow tree → length (spell tree) ≤ 1048576
+    → AreParts (tree ∷ []) (parts_of (record { octets = spell tree; at = at; whole = true }))
+value-octets tree at low small =
+    let alone = append-nil (spell tree) in
+    let parts = parts-are (tree ∷ []) at (All-cons IsLow tree [] low (All-nil IsLow)) (omega (arith, ap length alone)) in
+    subst (λ (o : List ℕ). AreParts (tree ∷ []) (parts_of (text_of o at))) alone parts
+
+-- ---- limits
+
+pub small-spelled : (tree : Tree) → ¬ IsTooLarge tree → length (spell tree) ≤ 1048576
+small-spelled tree small = elim (cases_lt 1048576 (length (spell tree))) [ inl lt ↦ absurd (small (inr lt)) | inr le ↦ le ]
+
+pub small-contents : (tree : Tree) → ¬ IsTooLarge tree → length (contents_of tree) ≤ 1048576
+small-contents tree small = let few = small-spelled tree small in omega (arith, contents-fewer tree)
+
+parts-small : (ts : List Tree) → (32 < depth_in (trees ts) → ⊥) → length (spells (trees ts)) ≤ 1048576 → All (λ tree. ¬ IsTooLarge tree) ts
+parts-small [] shallow few = All-nil (λ tree. ¬ IsTooLarge tree)
+parts-small (tree ∷ ts) shallow few =
+    let n = length-append (spell tree) (spells (trees ts)) in
+    All-cons (λ tree. ¬ IsTooLarge tree) tree ts
+    (λ large. elim large [ inl deep ↦ shallow (omega arith) | inr long ↦ absurd (omega (arith, n, long, few)) ])
+    (parts-small ts (λ lt. shallow (omega arith)) (omega (arith, n, few)))
+
+-- no part of a tree within the limits is too large
+pub small-parts : (tag : Tag) (ts : List Tree) → ¬ IsTooLarge (holding tag ts) → All (λ tree. ¬ IsTooLarge tree) ts
+small-parts tag ts small = parts-small ts (λ lt. small (inl (omega arith))) (small-contents (holding tag ts) small)
+
+pub trees-are : (ts : List Tree) → All IsTree ts → AreTrees (trees ts)
+trees-are [] are = tt
+trees-are (tree ∷ ts) are = (All-head IsTree tree ts are, trees-are ts (All-tail IsTree tree ts are))
+
+-- ---- verdicts
+
+-- a spelling is read as its tree, whatever follows it
+pub verdict-spelled : (tree : Tree) (rest : List ℕ) → IsTree tree → ¬ IsTooLarge tree → verdict (spell tree ++ rest) ≡ Read tree (length (spell tree))
+verdict-spelled tree rest is small =
+    let octets = spell tree ++ rest in
+    (read_again tree rest (verdict octets) is small).1 (verdict_found octets)
+
+pub verdict-alone : (tree : Tree) → IsTree tree → ¬ IsTooLarge tree → verdict (spell tree) ≡ Read tree (length (spell tree))
+verdict-alone tree is small =
+    ap verdict (sym (append-nil (spell tree))) ∙ verdict-spelled tree [] is small
