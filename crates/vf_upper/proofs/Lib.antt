@@ -1,3 +1,6 @@
 mod Lists
+mod Marked
 mod Parts
 mod Readings
+mod TypesRead
+mod WrittenTrees
