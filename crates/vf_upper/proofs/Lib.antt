@@ -1,3 +1,4 @@
+mod Grammar
 mod Lists
 mod Marked
 mod Parts
