@@ -3,5 +3,6 @@ mod Lists
 mod Marked
 mod Parts
 mod Readings
+mod Recovered
 mod TypesRead
 mod WrittenTrees
