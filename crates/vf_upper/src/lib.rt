@@ -6,6 +6,7 @@ mod conclusion;
 mod contexts;
 mod errors;
 mod holding;
+mod laws;
 mod placed;
 mod presentation;
 mod primitive;
@@ -17,6 +18,7 @@ mod writing;
 
 pub use contexts::{ContextEntry, Contexts, Offer, Offers};
 pub use errors::UpperError;
+pub use laws::{resynchronizations_are_read_again, written_is_read_again};
 pub use placed::is_writable;
 pub use primitive::Primitive;
 pub use reading::read;
