@@ -7,7 +7,7 @@ use Rattle.std.proofs.lemmas.Bool.{and_parts, cases_lt, cond-true, cond-false, l
 use Rattle.std.proofs.lemmas.List.{append-nil, drop_at, take_at}
 use Rattle.std.proofs.lemmas.List.Elements.{All-cons, All-head, All-nil, All-tail}
 use Rattle.vf_ber.proofs.Canonical.{length_is}
-use Rattle.vf_ber.proofs.Names.{bit-first, class-first, identifier-short, low-first}
+use Rattle.vf_ber.proofs.Names.{identifier-short, low-first}
 use Rattle.vf_ber.proofs.Plain.{verdict_found}
 use Rattle.vf_ber.proofs.Verdicts.{read_again}
 use Rattle.vf_ber.specs.Limits.{IsTooLarge}
@@ -18,8 +18,7 @@ use Rattle.vf_ber.specs.Tags.{AreTrees, IsTag, IsTree}
 use Rattle.vf_ber.specs.Tree.{built, depth_in, plain, root, Tag, Tree}
 use Rattle.vf_ber.specs.Verdict.{Read}
 use Rattle.vf_upper.specs.Written.{holding, trees}
-use Rattle.vf_userdata.specs.Forms.{has_tag, Tags}
-use Rattle.vf_userdata.specs.Parts.{behind_length, class_of, ends, Header, header_at, is_constructed, long_form, next, number_of, Part, part_with, Parts, parts_by, parts_in, parts_of, Piece, piece_of, place_in, Taken, taken, taken_at, taken_by, Text}
+use Rattle.vf_userdata.specs.Parts.{behind_length, ends, Header, header_at, long_form, next, number_of, Part, part_with, Parts, parts_by, parts_in, parts_of, Piece, piece_of, place_in, Taken, taken, taken_at, taken_by, Text}
 
 -- ---- trees and their parts
 
@@ -34,10 +33,6 @@ is_low tag = nat_le tag.class 3 && nat_le tag.number 30 && nat_le 1 (tag.class +
 abbrev pub first_of : Tree → ℕ
 first_of (plain tag octets) = first_octet false tag.class tag.number
 first_of (built tag parts) = first_octet true tag.class tag.number
-
-abbrev pub is_built : Tree → Bool
-is_built (plain tag octets) = false
-is_built (built tag parts) = true
 
 abbrev pub contents_of : Tree → List ℕ
 contents_of (plain tag octets) = octets
@@ -68,10 +63,6 @@ low-by tree e =
 
 -- ---- first octets
 
-class-of : (tree : Tree) → IsLow tree → class_of (first_of tree) ≡ (root tree).class
-class-of (plain tag octets) low = let few = low.1 in class-first false tag.class tag.number (omega arith)
-class-of (built tag parts) low = let few = low.1 in class-first true tag.class tag.number (omega arith)
-
 number-of : (tree : Tree) → IsLow tree → number_of (first_of tree) ≡ (root tree).number
 number-of (plain tag octets) low = let few = low.1 in low-first false tag.class tag.number (omega arith)
 number-of (built tag parts) low = let few = low.1 in low-first true tag.class tag.number (omega arith)
@@ -79,15 +70,6 @@ number-of (built tag parts) low = let few = low.1 in low-first true tag.class ta
 some-first : (tree : Tree) → IsLow tree → nat_eq (first_of tree) 0 ≡ false
 some-first (plain tag octets) low = let some = low.0.some_value in ne_eqb (first_octet false tag.class tag.number) 0 (λ e. omega arith)
 some-first (built tag parts) low = ne_eqb (first_octet true tag.class tag.number) 0 (λ e. omega arith)
-
--- a field's tags are asked of the first octet
-pub tagged : (tags : Tags) (tree : Tree) → IsLow tree
-    → has_tag tags (first_of tree) ≡ (nat_eq (root tree).class tags.class && nat_le tags.from (root tree).number && nat_le (root tree).number tags.to)
-tagged tags tree low = rw (class-of tree low, number-of tree low) refl
-
-pub constructed-first : (tree : Tree) → IsLow tree → is_constructed (first_of tree) ≡ is_built tree
-constructed-first (plain tag octets) low = let few = low.1 in bit-first false tag.class tag.number (omega arith)
-constructed-first (built tag parts) low = let few = low.1 in bit-first true tag.class tag.number (omega arith)
 
 -- ---- parts of spellings
 
