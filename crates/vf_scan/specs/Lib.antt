@@ -1,4 +1,4 @@
 pub mod Frames
+pub mod Outlook
 pub mod Places
 pub mod Scanned
-pub mod Wanting

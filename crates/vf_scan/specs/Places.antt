@@ -1,9 +1,11 @@
 -- What is known of a place by the values that are open around it.
-use Rattle.std.specs.Prelude.{◌+◌, ◌^◌, ◌<◌, ◌≤◌, List, [], ◌∷◌, length, Option, Some, None}
+use Rattle.std.specs.Prelude.{◌+◌, ◌^◌, ◌<◌, ◌≤◌, List, [], ◌∷◌, length}
 use Rattle.std.specs.Coded.{×_prop, Unit-prop, le_prop}
 use Rattle.vf_ber.specs.Steps.{grown}
 use Rattle.vf_scan.specs.declared.frames.Frame.{Frame}
 use Rattle.vf_scan.specs.declared.frames.Frame.TheVariants.{Definite, Indefinite}
+use Rattle.vf_scan.specs.declared.place.Next.{Next}
+use Rattle.vf_scan.specs.declared.place.Next.TheVariants as nexts
 use Rattle.vf_scan.specs.declared.place.Place.{Place}
 use Rattle.vf_scan.specs.declared.place.Place.TheVariants.{Start, Second, Third, Length, Digits, Contents, End}
 
@@ -22,9 +24,9 @@ IsOpen (Digits constructed front more high) frames = (length frames < 32) × (fr
 IsOpen (Contents left) frames = 0 < left
 IsOpen (End room) frames = Unit {0}
 
-abbrev pub IsOpenAfter : Option Place → List Frame → Type 0
-IsOpenAfter None frames = Unit {0}
-IsOpenAfter (Some place) frames = IsOpen place frames
+abbrev pub IsOpenAfter : Next → List Frame → Type 0
+IsOpenAfter (nexts.At place) frames = IsOpen place frames
+IsOpenAfter (nexts.Ended whole) frames = Unit {0}
 
 IsGoing-prop : (frames : List Frame) → IsProp (IsGoing frames)
 IsGoing-prop [] = Unit-prop

@@ -6,8 +6,10 @@ mod frames;
 mod place;
 mod scan;
 mod step;
+mod whole;
 
 pub use scan::Scan;
+pub use whole::whole_in;
 
 #[cfg(test)]
 mod tests;

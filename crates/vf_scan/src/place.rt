@@ -35,3 +35,12 @@ pub enum Place {
         room: Room,
     },
 }
+
+/// Where an octet leads.
+#[derive(Clone, Copy)]
+pub enum Next {
+    /// The value goes on at a place.
+    At(Place),
+    /// The octet is the last of a whole value, or no value goes on with it.
+    Ended { whole: bool },
+}

@@ -2,8 +2,16 @@
 ghost use Rattle.vf_scan.specs.Places.{IsOpen, IsOpen-prop};
 
 use crate::frames::Frames;
-use crate::place::Place;
+use crate::place::{Next, Place};
 use crate::step::behind;
+
+/// Where a value ends: so many octets of a piece are taken with it.
+#[derive(Clone, Copy)]
+pub(crate) struct End {
+    pub len: usize,
+    /// It is whole; else it is faulty.
+    pub whole: bool,
+}
 
 /// The octets of a value so far, where more are wanting (ISO 8825; limits of this profile): not the octets, but
 /// what they say of those that may follow.
@@ -16,7 +24,7 @@ pub struct Scan {
 
 impl Scan {
     ghost use Rattle.std.specs.Prelude.{◌≡◌, ◌+◌, ◌<◌, ◌≤◌, ◌++◌, [], ℕ, List, IfSome, OnSome, length};
-    ghost use Rattle.vf_scan.specs.Scanned.{HasTaken, IsFed};
+    ghost use Rattle.vf_scan.specs.Scanned.{HasTaken, IsEnded, IsFed};
 
     /// No octets.
     pub fn new() -> Scan
@@ -36,17 +44,31 @@ impl Scan {
         ensures fed { (octets : List ℕ) → HasTaken self.old octets → IsFed octets piece.now result self.new }
         ensures anew { OnSome result (HasTaken self.new []) }
     {
+        let Some(end) = self.end_in(piece) else {
+            return None;
+        };
+        Some(end.len)
+    }
+
+    /// The same, and how the value ends there.
+    pub(crate) fn end_in(&mut self, piece: &[u8]) -> Option<End>
+        ensures within { IfSome result (λ end. (0 < end.len) × (end.len ≤ length piece.now)) }
+        ensures ended { (octets : List ℕ) → HasTaken self.old octets → IsEnded octets piece.now result self.new }
+        ensures anew { OnSome result (HasTaken self.new []) }
+    {
         let mut taken = 0;
         while taken < piece.len() {
             let (_, rest) = piece.split_at(taken);
             let (n, next) = behind(self.place, &mut self.frames, rest);
             taken += n;
-            let Some(place) = next else {
-                self.place = Place::Start;
-                self.frames = Frames::new();
-                return Some(taken);
-            };
-            self.place = place;
+            match next {
+                Next::At(place) => self.place = place,
+                Next::Ended { whole } => {
+                    self.place = Place::Start;
+                    self.frames = Frames::new();
+                    return Some(End { len: taken, whole });
+                }
+            }
         }
         None
     }

@@ -14,6 +14,14 @@ fn plain(alloc: Global, octets: &[u8]) -> Option<usize> {
     None
 }
 
+/// How many octets the value takes that is read.
+fn read_in(alloc: Global, octets: &[u8]) -> Option<usize> {
+    match read(alloc, octets) {
+        Ok((_value, n)) => Some(n),
+        Err(_) => None,
+    }
+}
+
 /// The next number of a sequence that looks random.
 fn next(seed: u32) -> u32 {
     seed.wrapping_mul(1_664_525).wrapping_add(1_013_904_223)
@@ -73,6 +81,7 @@ fn ends_where_a_reading_ends(rt: HostRuntime) -> Result<(), Fail> {
                     changed[at] = octet;
                 }
                 let octets = changed.as_slice();
+                assert_eq!(rt; whole_in(octets), read_in(rt.alloc(), octets), "{octets:?}");
                 let end = plain(rt.alloc(), octets);
                 for most in [1, 3, 40] {
                     assert_eq!(rt; in_pieces(octets, most, at as u32), end, "{octets:?}");

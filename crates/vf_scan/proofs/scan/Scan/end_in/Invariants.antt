@@ -1,6 +1,6 @@
 use Rattle.std.proofs.Common.{◌≤◌, ◌-◌, length}
 use Rattle.vf_scan.proofs.VerdictLemmas.{Fed}
-use Rattle.vf_scan.proofs.scan.Scan.feed.Given as goal
+use Rattle.vf_scan.proofs.scan.Scan.end_in.Given as goal
 
 abbrev pub invariant-loop-taken : goal.invariant-loop-taken
 invariant-loop-taken l = record {
