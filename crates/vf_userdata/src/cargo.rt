@@ -9,6 +9,7 @@ use crate::marks::{Mark, Marks, Stop};
 use std::alloc::Global;
 use vf_base::NoMemory;
 use vf_ber::{BerError, Value};
+use vf_scan::whole_in;
 
 /// The first octets that are seen, whether they are a whole value, and the place of the fault, if there is one.
 #[derive(Clone, Copy)]
@@ -38,8 +39,8 @@ pub(crate) fn seen(alloc: Global, octets: &[u8]) -> Result<Front, NoMemory>
     ensures within { IfOk result (λ front. front.len ≤ length octets.now) }
     ensures small { IfOk result (λ front. front.len ≤ 1048576) }
 {
-    match value_in(alloc, octets) {
-        Ok((_value, n)) => Ok(Front {
+    if let Some(n) = whole_in(octets) {
+        return Ok(Front {
             len: n,
             whole: true,
             fault: if n == octets.len() {
@@ -47,7 +48,10 @@ pub(crate) fn seen(alloc: Global, octets: &[u8]) -> Result<Front, NoMemory>
             } else {
                 Some(n as u32)
             },
-        }),
+        });
+    }
+    match value_in(alloc, octets) {
+        Ok(_) => unreachable!(),
         Err(Stop::At(at)) => Ok(Front {
             len: at as usize,
             whole: false,

@@ -6,13 +6,13 @@ ghost use Rattle.vf_userdata.specs.Parts.{number_of as number_in};
 ghost use Rattle.vf_userdata.specs.Texts.{explicit_in as explicit_octets, held as held_by, is_begun_end as begun_end};
 ghost use Rattle.vf_userdata.specs.Views.{part_of, text_of};
 
-use crate::cargo::value_in;
 use crate::marks::Stop;
 use crate::parts::is_constructed;
 use crate::segments::{gathered, place_among, wrong_among};
 use crate::text::{Part, Text};
 use std::alloc::Global;
 use vf_base::NoMemory;
+use vf_scan::whole_in;
 
 /// What a part holds: octets of its contents, or those that its segments gave.
 #[derive(Drop)]
@@ -39,24 +39,21 @@ pub(crate) fn number_of(first: u8) -> u8
 }
 
 /// Contents of an explicit tag without a begun end of contents.
-fn explicit_in<'a>(alloc: Global, text: Text<'a>) -> Result<&'a [u8], NoMemory>
-    ensures octets { IfOk result (λ octets. octets.now ≡ explicit_octets (text_of text.entry)) }
-    ensures within { IfOk result (λ octets. length octets.now ≤ length text.entry.octets.now) }
+fn explicit_in<'a>(text: Text<'a>) -> &'a [u8]
+    ensures octets { result.now ≡ explicit_octets (text_of text.entry) }
+    ensures within { length result.now ≤ length text.entry.octets.now }
 {
     if text.whole {
-        return Ok(text.octets);
+        return text.octets;
     }
-    match value_in(alloc, text.octets) {
-        Ok((_value, n)) => {
-            let (value, rest) = text.octets.split_at(n);
-            Ok(if is_begun_end(rest) {
-                value
-            } else {
-                text.octets
-            })
-        }
-        Err(Stop::At(_)) => Ok(text.octets),
-        Err(Stop::NoMemory) => Err(NoMemory),
+    let Some(n) = whole_in(text.octets) else {
+        return text.octets;
+    };
+    let (value, rest) = text.octets.split_at(n);
+    if is_begun_end(rest) {
+        value
+    } else {
+        text.octets
     }
 }
 
@@ -80,7 +77,7 @@ pub(crate) fn octets_held<'a>(alloc: Global, part: &Part<'a>) -> Result<Option<H
         if !is_constructed(part.first) {
             return Ok(None);
         }
-        let octets = explicit_in(alloc, part.contents)?;
+        let octets = explicit_in(part.contents);
         return Ok(Some(Held::Contents(octets)));
     }
     if !is_constructed(part.first) {
