@@ -35,9 +35,6 @@ pub landed-whole : (h : Held) (found : Found) (marks : List Mark) → broken_at 
 unfolding found_if
 landed-whole h found marks e good = ap (landed h) good ∙ whole-by h.broken h.end marks e
 
-pub landed-place : (h : Held) (found : Found) (offset place : ℕ) → found ≡ Err offset → place ≡ place_of h offset → landed h found ≡ Err place
-landed-place h found offset place bad same = ap (landed h) bad ∙ ap {B = Found} Err (sym same)
-
 -- ---- which octets are held
 
 abbrev pub option_if : Bool → Option Held → Option Held → Option Held
@@ -54,15 +51,6 @@ held-explicit part h zero e =
     ap (λ b. option_if b (option_if (is_constructed part.first) (Some (explicit_held part.contents)) None)
     (option_if (is_constructed part.first) (Some (segments part.behind part.contents)) (Some (held_in part.contents part.behind)))) (sym zero) ∙ e in
     some-if (is_constructed part.first) (explicit_held part.contents) h same
-
-pub held-segments : (part : Part) (h : Held) → nat_eq (number_of part.first) 0 ≡ false → is_constructed part.first ≡ true → held part ≡ Some h
-    → h ≡ segments part.behind part.contents
-held-segments part h other built e =
-    let same : Some (segments part.behind part.contents) ≡ Some h =
-    ap (λ b. option_if b (Some (segments part.behind part.contents)) (Some (held_in part.contents part.behind))) (sym built)
-    ∙ ap (λ b. option_if b (option_if (is_constructed part.first) (Some (explicit_held part.contents)) None)
-    (option_if (is_constructed part.first) (Some (segments part.behind part.contents)) (Some (held_in part.contents part.behind)))) (sym other) ∙ e in
-    cc
 
 pub held-octets : (part : Part) (h : Held) → nat_eq (number_of part.first) 0 ≡ false → is_constructed part.first ≡ false → held part ≡ Some h
     → h ≡ held_in part.contents part.behind

@@ -1,12 +1,11 @@
 -- Values that octets begin with, by their verdict.
-use Rattle.std.proofs.Common.{◌≡◌, ℕ, ◌+◌, ◌<◌, ◌≤◌, List, [], ◌∷◌, ◌++◌, length, drop, take, true, refl, ap, sym, subst, ◌∙◌, arith, length-append, zero-add, drop-cons}
+use Rattle.std.proofs.Common.{◌≡◌, ℕ, ◌+◌, ◌<◌, ◌≤◌, List, [], ◌∷◌, length, drop, take, refl, ap, sym, subst, ◌∙◌, arith, length-append, zero-add, drop-cons}
 use Rattle.std.specs.Prelude.{Ok, Err}
 use Rattle.std.proofs.lemmas.List.{drop_all, length-take-le}
 use Rattle.vf_ber.specs.declared.errors.BerError.{BerError}
 use Rattle.vf_ber.specs.declared.value.Value.{Value}
 use Rattle.vf_ber.specs.Reader.{verdict}
 use Rattle.vf_ber.specs.Results.{IsAnswer}
-use Rattle.vf_ber.specs.Tree.{Tree}
 use Rattle.vf_ber.specs.Verdict.{IsFirstFault, IsVerdict, Verdict, Read, Short, Bad, Deep, Long}
 use Rattle.vf_ber.specs.Views.{tree_of}
 use Rattle.vf_ber.proofs.OneTree.{spelling_long}
@@ -16,8 +15,8 @@ use Rattle.vf_userdata.specs.declared.marks.Stop.{Stop}
 use Rattle.vf_userdata.specs.declared.marks.Stop.TheVariants.{At, NoMemory}
 use Rattle.vf_userdata.specs.CargoViews.{IsMisread, IsNext, IsSmall, IsValueIn}
 use Rattle.vf_userdata.specs.MarkViews.{Stops}
-use Rattle.vf_userdata.specs.Marks.{Mark, Found, value}
-use Rattle.vf_userdata.specs.Texts.{behind, cut_at, front, nothing, one, then_read}
+use Rattle.vf_userdata.specs.Marks.{Mark, Found}
+use Rattle.vf_userdata.specs.Texts.{nothing, one, then_read}
 
 pub verdict_is : (octets : List ℕ) (v : Verdict) → IsVerdict octets v → verdict octets ≡ v
 verdict_is octets v is = one_verdict octets (verdict octets) v (verdict_found octets) is
@@ -60,41 +59,10 @@ read_long octets at is = (misread octets (Long at) at is refl, fault_small octet
 pub same_error : (octets : List ℕ) (error other : BerError) → error ≡ other → IsAnswer (Err error) octets → IsAnswer (Err other) octets
 same_error octets error other same is = let P : BerError → Type 0 = λ e. IsAnswer (Err e) octets in subst P same is
 
--- ---- what is seen of octets
-
-pub front_read : (octets : List ℕ) (tree : Tree) (n : ℕ) → verdict octets ≡ Read tree n → record { octets = take n octets; whole = true; fault = behind n (length octets) } ≡ front octets (verdict octets)
-front_read octets tree n e = ap (front octets) (sym e)
-
-front_by : (octets : List ℕ) (v : Verdict) (place : ℕ) → IsMisread v (length octets) place → cut_at place octets ≡ front octets v
-front_by octets (Read tree n) place m = absurd m
-front_by octets Short place m = ap (λ p. cut_at p octets) m
-front_by octets (Bad at) place m = ap (λ p. cut_at p octets) m
-front_by octets (Deep at) place m = ap (λ p. cut_at p octets) m
-front_by octets (Long at) place m = ap (λ p. cut_at p octets) m
-
-pub front_misread : (octets : List ℕ) (place : ℕ) → IsMisread (verdict octets) (length octets) place → cut_at place octets ≡ front octets (verdict octets)
-front_misread octets place m = front_by octets (verdict octets) place m
-
 -- ---- values in turn
 
 abbrev pub Others : Type 0
 Others = ℕ → List ℕ → List Mark → Found
-
-pub then_value : (at : ℕ) (octets : List ℕ) (others : Others) (found : List Mark) (tree : Tree) (n : ℕ) → verdict octets ≡ Read tree n
-    → then_read at octets others found (verdict octets) ≡ others (at + n) (drop n octets) (found ++ value tree ∷ [])
-then_value at octets others found tree n e = ap (then_read at octets others found) e
-
-then_by : (at : ℕ) (octets : List ℕ) (others : Others) (found : List Mark) (v : Verdict) (place : ℕ) → IsMisread v (length octets) place
-    → then_read at octets others found v ≡ Err (at + place)
-then_by at octets others found (Read tree n) place m = absurd m
-then_by at octets others found Short place m = ap (λ p. Err (at + p)) (sym m)
-then_by at octets others found (Bad a) place m = ap (λ p. Err (at + p)) (sym m)
-then_by at octets others found (Deep a) place m = ap (λ p. Err (at + p)) (sym m)
-then_by at octets others found (Long a) place m = ap (λ p. Err (at + p)) (sym m)
-
-pub then_misread : (at : ℕ) (octets : List ℕ) (others : Others) (found : List Mark) (place : ℕ) → IsMisread (verdict octets) (length octets) place
-    → then_read at octets others found (verdict octets) ≡ Err (at + place)
-then_misread at octets others found place m = then_by at octets others found (verdict octets) place m
 
 -- ---- one value
 

@@ -128,15 +128,7 @@ pub constructed-good : (read : Parts → List Mark → Found) (part : Part) (fou
 unfolding if_found
 constructed-good read part found e = ap (λ b. if_found b (read (parts_of part.contents) found) (Err part.at)) e
 
-pub constructed-bad : (read : Parts → List Mark → Found) (part : Part) (found : List Mark) → is_constructed part.first ≡ false
-    → constructed read part found ≡ Err part.at
-unfolding if_found
-constructed-bad read part found e = ap (λ b. if_found b (read (parts_of part.contents) found) (Err part.at)) e
-
 -- ---- ranks
-
-abbrev pub IsBelow : ℕ → List Field → Bool → Type 0
-IsBelow bound fields b = b ≡ true → most fields ≤ bound
 
 and_true : (a b : Bool) → (a && b) ≡ true → (a ≡ true) × (b ≡ true)
 and_true true b e = (refl, e)
