@@ -1,4 +1,5 @@
 pub mod CalendarLemmas
 pub mod LinkLemmas
 pub mod ListLemmas
+pub mod SliceLemmas
 pub mod StreamLemmas

@@ -279,6 +279,19 @@ fn events_and_pieces_are_copied(rt: HostRuntime) -> Result<(), Fail> {
 }
 
 #[test]
+fn parts_share_octets(rt: HostRuntime) -> Result<(), Fail> {
+    let alloc = rt.alloc();
+    let octets = Octets::of(alloc, b"abcdef")?;
+    let part = octets.slice(1, 4)?;
+    let inner = part.slice(2, 2)?;
+    assert!(rt; part.as_slice() == b"bcde".as_slice() && part.len() == 4);
+    assert!(rt; inner == Octets::of(alloc, b"de")?);
+    assert!(rt; inner.copy(alloc)?.as_slice() == b"de".as_slice());
+    assert!(rt; part.slice(4, 0)?.is_empty());
+    Ok(())
+}
+
+#[test]
 fn vectors_become_octets_and_lists_vectors(rt: HostRuntime) -> Result<(), Fail> {
     let alloc = rt.alloc();
     let octets = Octets::from_vec(b"abc".to_vec(alloc)?)?;
