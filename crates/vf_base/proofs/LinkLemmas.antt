@@ -7,7 +7,7 @@ use Rattle.std.proofs.lemmas.List.{length-map, map-append, append-nil}
 use Rattle.std.proofs.lemmas.List.Folds.{list_any-append}
 use Rattle.std.proofs.lemmas.List.Sums.{sum_by-cons}
 use Rattle.std.proofs.lemmas.Map.Made.{length-le_from_is_member}
-use Rattle.vf_base.specs.Links.{Story, HandsOut, after_octets, arrives, has_arrived, has_note}
+use Rattle.vf_base.specs.Links.{Story, HandsOut, after_octets, has_arrived, has_note}
 use Rattle.vf_base.specs.Script.{Script, octets_of, story_of, is_arrival, link_of, OnceEach}
 use Rattle.std.proofs.lemmas.Grind.{flat_map-append, take_at_read}
 use mathlib.Core.Path.{fun_ext}
@@ -74,11 +74,6 @@ room_for events notes link number once here new =
     length-le_from_is_member nat_eq_equiv (map link_of all) (arrived events) more.0 (λ other member. sym (any_arrival other events) ∙ more.1 other (any_note other all ∙ member)) in
     let long : length (map link_of all) ≡ length notes + 1 = length-map all link_of ∙ length-append notes ((link, number) ∷ []) in
     omega (arith, count_arrivals events)
-
--- what has arrived stays so
-pub once_more : (events more : List ScriptEvent) (notes : List (ℕ × ℕ)) → OnceEach events notes → OnceEach (events ++ more) notes
-once_more events more notes once =
-    (once.0, λ link noted. list_any-append (arrives link) events more ∙ ap (λ b. b || list_any (arrives link) more) (once.1 link noted))
 
 -- no notes at first
 pub once_none : (events : List ScriptEvent) (notes : List (ℕ × ℕ)) → notes ≡ [] → OnceEach events notes

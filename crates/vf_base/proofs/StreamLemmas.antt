@@ -1,10 +1,6 @@
 -- Reading call by call.
-use Rattle.std.proofs.Common.{◌≡◌, ◌∙◌, ap, sym, refl, ℕ, List, [], ◌++◌, take, append_assoc, Option, None, Some, Ok}
+use Rattle.std.proofs.Common.{◌≡◌, ◌∙◌, ap, sym, ℕ, List, [], ◌++◌, take, append_assoc, Option, None, Some, Ok}
 use Rattle.vf_base.specs.Streams.{Reads, HasRead}
-
-pub read_none : (left : Option (List ℕ)) → HasRead left left []
-read_none None = refl
-read_none (Some octets) = (octets, refl, refl)
 
 ends : (left last : Option (List ℕ)) (into : List ℕ) (count : ℕ) → left ≡ None → Reads left last into (Ok count) → last ≡ None
 ends left last into count none next = rw none at next

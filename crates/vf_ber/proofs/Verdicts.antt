@@ -21,9 +21,6 @@ spells_one octets a b at_a at_b = (one_tree a b octets octets [] [] at_a at_b re
 
 -- ---- one verdict
 
-begins_shallow : (octets : List ℕ) → Begins bounded octets → Begins shallow octets
-begins_shallow octets (rest, tree, (spelled, within)) = (rest, tree, (spelled, within.0))
-
 begins_free : (octets : List ℕ) → Begins shallow octets → Begins free octets
 begins_free octets (rest, tree, (spelled, within)) = (rest, tree, (spelled, tt))
 

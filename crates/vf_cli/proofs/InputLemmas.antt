@@ -4,7 +4,7 @@ use Rattle.std.specs.Prelude.{if◌then◌else◌, Some, None}
 use Rattle.std.proofs.lemmas.Bool.{ne_eqb, lt-leb}
 use Rattle.std.proofs.lemmas.List.Elements.{All-head, All-tail}
 use Rattle.vf_cli.specs.Hex.{octets_of}
-use Rattle.vf_cli.specs.Lines.{line_feed, input_limit, Cut, octet_before, cut, IsInLine, ended, bad_at, piece_before, piece_of, line_before, lines_say, says_from}
+use Rattle.vf_cli.specs.Lines.{line_feed, input_limit, Cut, octet_before, cut, IsInLine, bad_at, piece_before, piece_of, line_before, lines_say, says_from}
 
 head_in_line : (octet : ℕ) (octets : List ℕ) → IsInLine (octet ∷ octets) → octet ≢ line_feed
 head_in_line octet octets in_line = All-head (λ octet. octet ≢ line_feed) octet octets in_line
@@ -70,9 +70,6 @@ pub says_bad : (count number : ℕ) (line rest : List ℕ) → IsInLine line →
 says_bad count number line rest in_line bad =
     says_line count number line rest in_line
     ∙ ap (λ p. line_before p number (says_from (count + length line + 1) (number + 1) rest)) bad
-
-pub says_end : (count number : ℕ) → says_from count number [] ≡ ended
-says_end count number = refl
 
 rest_is_bad : (count number : ℕ) (rest : List ℕ) → 0 < length rest → lines_say count number [] rest ≡ bad_at number
 rest_is_bad count number [] some = absurd (omega arith)

@@ -1,7 +1,5 @@
 -- How the lines of a dialogue make the whole of it.
-use Rattle.std.proofs.Common.{◌≡◌, ◌<◌, ◌⊎◌, ℕ, List, [], ◌++◌, Option, None, Some, refl, ap, sym, subst, ◌∙◌, append_assoc, arith, inl, inr}
-use Rattle.std.proofs.Math.Nat.{eq-or-lt_of_le}
-use Rattle.vf_base.specs.Faults.{HasRisen, NeverFalls}
+use Rattle.std.proofs.Common.{◌≡◌, ℕ, List, [], ◌++◌, Option, None, Some, refl, ap, sym, subst, ◌∙◌, append_assoc}
 use Rattle.vf_regime.specs.State.{State}
 use Rattle.vf_cli.specs.declared.conversation.Conversation.{Conversation}
 use Rattle.vf_cli.specs.Conversation.{IsInterrupted, PrintsAll, PrintsFront, Stands, TakesLine, Told, behind}
@@ -11,15 +9,6 @@ use Rattle.vf_cli.specs.Lines.{Input, says}
 use Rattle.vf_cli.specs.Printed.{Wrote, WroteFront}
 use Rattle.vf_cli.specs.Reader.{Place, will_say}
 use Rattle.vf_cli.proofs.PrintedLemmas.{wrote-front, wrote-wrote, wrote_nothing}
-
--- a count that rose behind one that never fell has risen
-pub has_risen-later : (a b c : ℕ) → NeverFalls a b → HasRisen b c → HasRisen a c
-has_risen-later a b c falls (inl rose) = inl (omega arith)
-has_risen-later a b c falls (inr (still, last)) = by (eq-or-lt_of_le falls)
-  where
-    by : (a ≡ b) ⊎ (a < b) → HasRisen a c
-    by (inl same) = inr (same ∙ still, last)
-    by (inr less) = inl (omega arith)
 
 -- The dialogue of all that the input says, as far as it has come: behind what was written it goes on with what is
 -- still said.

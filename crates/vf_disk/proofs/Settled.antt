@@ -1,15 +1,11 @@
 -- A disk on which nothing was written or cut since the last sync.
-use Rattle.std.proofs.Common.{◌≡◌, ◌∙◌, ℕ, Bool, true, false, not, List, [], ◌∷◌, ◌++◌, refl, sym, ap, subst, true≢false, Some}
+use Rattle.std.proofs.Common.{◌≡◌, ◌∙◌, ℕ, Bool, true, false, not, List, [], ◌∷◌, refl, sym, ap, subst, true≢false, Some}
 use Rattle.std.specs.Prelude.{fold}
-use Rattle.std.proofs.lemmas.List.Sums.{fold-append}
 use Rattle.vf_disk.specs.Disk.{LeavesShown}
 use Rattle.vf_disk.specs.declared.step.Step.{Step}
 use Rattle.vf_disk.specs.declared.step.Step.TheVariants.{Wrote, CutTo, Synced}
-use Rattle.vf_disk.specs.Memory.{HasRoom, IsImage, State, after, is_change, is_settled, settled, state_of}
+use Rattle.vf_disk.specs.Memory.{IsImage, State, after, is_change, is_settled, settled, state_of}
 use Rattle.vf_disk.proofs.Images.{only_shown}
-
-pub is_settled-push : (steps : List Step) (step : Step) → is_settled (steps ++ step ∷ []) ≡ not (is_change step)
-is_settled-push steps step = fold-append (λ (settled : Bool) (step : Step). not (is_change step)) true steps (step ∷ [])
 
 settles : (s : State) (flag : Bool) (steps : List Step) → (flag ≡ true → s ≡ settled s.shown)
     → fold (λ (settled : Bool) (step : Step). not (is_change step)) flag steps ≡ true → fold after s steps ≡ settled (fold after s steps).shown
@@ -25,10 +21,6 @@ pub settled_leaves : (first : List ℕ) (steps : List Step) → is_settled steps
 settled_leaves first steps is image left =
     let only : IsImage (settled (state_of first steps).shown) image = subst (λ (s : State). IsImage s image) (settled_state first steps is) left in
     ap Some (sym (only_shown (state_of first steps).shown image only))
-
--- behind a sync there is none to be kept, so that no room is wanted
-pub room_synced : (steps : List Step) (capacity : ℕ) → HasRoom (steps ++ Synced ∷ []) capacity
-room_synced steps capacity unsettled = absurd (true≢false (sym (is_settled-push steps Synced) ∙ unsettled))
 
 -- a disk that is just made
 pub fresh_leaves : (octets first : List ℕ) (steps : List Step) → first ≡ octets → steps ≡ [] → LeavesShown (Some octets) (IsImage (state_of first steps))

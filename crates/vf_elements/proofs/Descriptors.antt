@@ -1,6 +1,7 @@
 -- What reading a descriptor's fields answers is what its value means, or its fault.
 use Rattle.std.proofs.Common.{◌≡◌, ℕ, Bool, true, List, ap, sym, subst, ◌∙◌, refl, rules, arith}
 use Rattle.std.specs.Prelude.{Option, Result, Ok, Err, IsTrue, IfOk, IfErr, nat_eq}
+use Rattle.std.proofs.lemmas.Bool.{and_parts}
 use Rattle.vf_base.specs.declared.element.Element.{Element}
 use Rattle.vf_base.specs.declared.element.Element.TheVariants.{Descriptor}
 use Rattle.vf_ber.specs.Tree.{Tag, Tree, built, Trees}
@@ -15,7 +16,6 @@ use Rattle.vf_fields.specs.declared.errors.PduError.TheVariants as errors
 use Rattle.vf_fields.proofs.Faulty.{fault_told}
 use Rattle.vf_fields.proofs.FirstFaults.{told}
 use Rattle.vf_fields.proofs.Found.{Kept, reading_kept}
-use Rattle.vf_fields.proofs.Plain.{both_true}
 
 abbrev pub IsSome : Element → Type 0
 IsSome element = (name : Option (List ℕ)) × (filled : Bool) × (element ≡ Descriptor name filled)
@@ -42,7 +42,7 @@ meaning_read tree parts element t r d =
 -- the tag of a descriptor
 tag_is : (tag : Tag) → is_descriptor tag ≡ true → tag ≡ application 0
 tag_is tag d =
-    let both : (nat_eq tag.class 1 ≡ true) × (nat_eq tag.number 0 ≡ true) = both_true (nat_eq tag.class 1) (nat_eq tag.number 0) d in
+    let both : (nat_eq tag.class 1 ≡ true) × (nat_eq tag.number 0 ≡ true) = and_parts (nat_eq tag.class 1) (nat_eq tag.number 0) d in
     let class : tag.class ≡ 1 = grind (arith, both.0) in
     let number : tag.number ≡ 0 = grind (arith, both.1) in
     ap (λ (p : ℕ × ℕ). record { class = p.0; number = p.1 }) (pair_is tag.class tag.number class number)

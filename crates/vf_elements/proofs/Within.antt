@@ -3,11 +3,10 @@ use Rattle.std.proofs.Common.{ℕ, ◌+◌, ◌≤◌, Bool, true, false, List, 
 use Rattle.std.specs.Prelude.{Option, Some, None, IsTrue}
 use Rattle.std.proofs.lemmas.Bool.Decides.{nat_tests}
 use Rattle.vf_base.specs.Name.{is_name}
-use Rattle.vf_base.specs.declared.element.Element.{Element}
 use Rattle.vf_base.specs.declared.element.Element.TheVariants.{Descriptor, Enter, Exit, Text, Binary}
 use Rattle.vf_ber.specs.Limits.{IsTooLarge}
 use Rattle.vf_ber.specs.Spelling.{header, spell, spells}
-use Rattle.vf_ber.specs.Tree.{Tag, Tree, plain, built, none}
+use Rattle.vf_ber.specs.Tree.{Tag, Tree, plain, none}
 use Rattle.vf_elements.specs.ElementValue.{IsNamed, descriptor_parts, filled_part}
 use Rattle.vf_elements.specs.Elements.{application, octet_string}
 use Rattle.vf_elements.specs.Sizes.{ElementIsWithin}

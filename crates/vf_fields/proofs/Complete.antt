@@ -2,12 +2,12 @@
 use Rattle.std.proofs.Common.{◌≡◌, ℕ, ◌+◌, ◌<◌, Bool, true, false, cond, refl, ap, sym, subst, ◌∙◌, inl, inr, arith}
 use Rattle.std.specs.Prelude.{Option, Some, None, ◌&&◌, nat_le}
 use Rattle.std.specs.Option.{option_and_then, option_map}
+use Rattle.std.proofs.lemmas.Bool.{and_parts}
 use Rattle.vf_ber.specs.Tree.{Tag, Tree, built, Trees, none, more, root}
 use Rattle.vf_fields.specs.Content.{Content, Fields, Listed, Slots, nil, present, Items, item, Slot, slot}
 use Rattle.vf_fields.specs.Meaning.{context, Lacks, Each, Has, Holds}
 use Rattle.vf_fields.specs.Reading.{is_field, front, behind, sequence_parts, each_shape, lacking, slot_at, ended, shape, shapes}
 use Rattle.vf_fields.specs.Rows.{Need, required, optional, default, Form, one, sequence, list, Row, end, field}
-use Rattle.vf_fields.proofs.Plain.{both_true}
 use Rattle.vf_fields.proofs.Steps.{step}
 use Rattle.vf_fields.proofs.Tables.{is_form, is_usual, is_table}
 
@@ -20,9 +20,9 @@ pub record Tests (least number : ℕ) (form : Form) (need : Need) (row : Row) : 
 
 pub tests : (least number : ℕ) (form : Form) (need : Need) (row : Row) → is_table least (field number form need row) ≡ true → Tests least number form need row
 tests least number form need row t =
-    let a = both_true (nat_le least number) (is_form form && (is_usual form need && is_table (number + 1) row)) t in
-    let b = both_true (is_form form) (is_usual form need && is_table (number + 1) row) a.1 in
-    let c = both_true (is_usual form need) (is_table (number + 1) row) b.1 in
+    let a = and_parts (nat_le least number) (is_form form && (is_usual form need && is_table (number + 1) row)) t in
+    let b = and_parts (is_form form) (is_usual form need && is_table (number + 1) row) a.1 in
+    let c = and_parts (is_usual form need) (is_table (number + 1) row) b.1 in
     record { low = a.0; inside = b.0; usual = c.0; rest = c.1 }
 
 pub not_field : (n number : ℕ) → number < n → is_field number (context n) ≡ false

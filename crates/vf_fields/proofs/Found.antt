@@ -1,13 +1,14 @@
 -- What is read of a row is what the parts have, and in range.
 use Rattle.std.proofs.Common.{◌≡◌, ℕ, ◌+◌, Bool, true, false, cond, List, [], ◌∷◌, refl, sym, subst, inl, inr}
 use Rattle.std.specs.Prelude.{Option, Some, None, Result, Ok, Err, ◌&&◌, nat_le}
+use Rattle.std.proofs.lemmas.Bool.{and_parts}
 use Rattle.vf_ber.specs.Tree.{Tree, Trees, none, more, root}
 use Rattle.vf_fields.specs.Content.{Content, Slot, slots}
 use Rattle.vf_fields.specs.Fault.{Fault, Range}
 use Rattle.vf_fields.specs.Meaning.{context, Holds, fits, all_fit}
 use Rattle.vf_fields.specs.Reading.{is_field, front, behind, shape, ◌>>=◌, checked, field_at, next_place, absence, end_at, found, filled, completed, reading}
 use Rattle.vf_fields.specs.Rows.{Need, required, optional, default, Form, Row, end, field}
-use Rattle.vf_fields.proofs.Plain.{both_true, context_is}
+use Rattle.vf_fields.proofs.Plain.{context_is}
 use Rattle.vf_fields.proofs.Shapes.{shape_has}
 use Rattle.vf_fields.proofs.Tables.{is_form, is_usual, is_table}
 
@@ -94,9 +95,9 @@ pub found_kept : (row : Row) (least place : ℕ) (parts : Trees) (raw read : Lis
     → found row place parts ≡ Ok raw → completed row raw ≡ Ok read → Kept row parts read
 found_kept end least place parts raw read t e c = let P : List Slot → Type 0 = λ x. Kept end parts x in subst P (ok_is raw read c) (end_kept place parts raw e)
 found_kept (field number form need row) least place parts raw read t e c =
-    let t1 = both_true (nat_le least number) (is_form form && (is_usual form need && is_table (number + 1) row)) t in
-    let t2 = both_true (is_form form) (is_usual form need && is_table (number + 1) row) t1.1 in
-    let t3 = both_true (is_usual form need) (is_table (number + 1) row) t2.1 in
+    let t1 = and_parts (nat_le least number) (is_form form && (is_usual form need && is_table (number + 1) row)) t in
+    let t2 = and_parts (is_form form) (is_usual form need && is_table (number + 1) row) t1.1 in
+    let t3 = and_parts (is_usual form need) (is_table (number + 1) row) t2.1 in
     let a = bind_ok (field_at place number form (absence need) (front number parts))
     (λ first. found row (next_place place (front number parts)) (behind number parts) >>= λ rest. Ok (first ∷ rest)) raw e in
     let b = bind_ok (found row (next_place place (front number parts)) (behind number parts)) (λ (rest : List Slot). let r : Result (List Slot) Fault = Ok (a.0 ∷ rest) in r) raw a.2 in

@@ -2,6 +2,7 @@
 use Rattle.std.proofs.Common.{◌≡◌, ℕ, Bool, true, false, cond, List, [], ◌∷◌, refl, ap, sym, subst, ◌∙◌}
 use Rattle.std.specs.Prelude.{Option, Some, None, Result, Ok, Err, is_some}
 use Rattle.std.specs.Option.{option_and_then, option_map}
+use Rattle.std.proofs.lemmas.Bool.{and_parts}
 use Rattle.vf_ber.specs.Tree.{Tree, Trees, none, more}
 use Rattle.vf_fields.specs.Content.{Content, Fields, Slots, Slot, slot, slots}
 use Rattle.vf_fields.specs.Fault.{Fault, Field, Range}
@@ -12,7 +13,7 @@ use Rattle.vf_fields.specs.Results.{Fails}
 use Rattle.vf_fields.specs.declared.errors.PduError.{PduError}
 use Rattle.vf_fields.proofs.Complete.{holds_shapes}
 use Rattle.vf_fields.proofs.Found.{reading_kept}
-use Rattle.vf_fields.proofs.Plain.{some_is, bind_some, map_some, both_true}
+use Rattle.vf_fields.proofs.Plain.{some_is, bind_some, map_some}
 use Rattle.vf_fields.proofs.Tables.{is_table}
 
 -- a slot's contents are in range
@@ -22,7 +23,7 @@ InRange form (Some content) = fits form content
 
 fits_here : (number : ℕ) (form : Form) (need : Need) (row : Row) (first : Slot) (rest : Slots) → all_fit (field number form need row) (slot first rest) ≡ true
     → (InRange form first ≡ true) × (all_fit row rest ≡ true)
-fits_here number form need row (Some content) rest e = both_true (fits form content) (all_fit row rest) e
+fits_here number form need row (Some content) rest e = and_parts (fits form content) (all_fit row rest) e
 fits_here number form required row None rest e = absurd cc
 fits_here number form optional row None rest e = (refl, e)
 fits_here number form (default content) row None rest e = absurd cc

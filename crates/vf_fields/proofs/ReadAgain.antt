@@ -3,7 +3,7 @@ use Rattle.std.proofs.Common.{◌≡◌, ℕ, ◌+◌, ◌<◌, ◌≤◌, Bool,
 use Rattle.std.specs.Prelude.{ℤ, pos, negsuc, FitsSigned, Option, Some, None, nat_le, IsTrue}
 use Rattle.std.specs.Option.{option_map}
 use Rattle.std.specs.Int.{w64}
-use Rattle.std.proofs.lemmas.Bool.{leb-true, ltb-true, lt-ltb}
+use Rattle.std.proofs.lemmas.Bool.{leb-true, ltb-true, lt-ltb, and_parts}
 use Rattle.std.proofs.lemmas.Bool.Decides.{Decides-int_eq}
 use Rattle.std.proofs.lemmas.Int.{ints}
 use Rattle.vf_base.specs.Oid.{is_oid}
@@ -18,7 +18,6 @@ use Rattle.vf_fields.specs.Meaning.{context, count, Each, Has, Holds, each_withi
 use Rattle.vf_fields.specs.Rows.{Range, Any, FromTo, Fadu, Simple, Integer, Boolean, Text, String, Controls, Oid, Date, Need, required, optional, default, Form, one, sequence, list, Row, end, field}
 use Rattle.vf_fields.specs.Writing.{contents_octets, fields, is_default, is_usual, spelled, spelled_items}
 use Rattle.vf_fields.proofs.Complete.{tests}
-use Rattle.vf_fields.proofs.Plain.{both_true}
 use Rattle.vf_fields.proofs.Tables.{is_form, is_short, is_table}
 
 long_fits : (n : ℤ) → is_long n ≡ true → FitsSigned w64 n
@@ -27,7 +26,7 @@ long_fits (negsuc n) e = let lt : n < 9223372036854775808 = ltb-true n 922337203
 
 from_to_long : (low high : ℕ) (n : ℤ) → high < 9223372036854775808 → is_from_to low high n ≡ true → is_long n ≡ true
 from_to_long low high (pos n) short e =
-    let le : n ≤ high = leb-true n high (both_true (nat_le low n) (nat_le n high) e).1 in
+    let le : n ≤ high = leb-true n high (and_parts (nat_le low n) (nat_le n high) e).1 in
     lt-ltb n 9223372036854775808 (omega arith)
 from_to_long low high (negsuc n) short e = absurd cc
 
@@ -61,7 +60,7 @@ simple_has (Controls number) tag _ t w = absurd cc
 simple_has Oid tag (Arcs arcs) t w = ap (option_map Arcs) (oid-read arcs (true_is (is_oid arcs) w))
 simple_has Oid tag _ t w = absurd cc
 simple_has Date tag (Octets text) t w =
-    ap (λ b. let o : Option Content = cond b (Some (Octets text)) None in o) (both_true (has_date_form text) (is_moment text) w).0
+    ap (λ b. let o : Option Content = cond b (Some (Octets text)) None in o) (and_parts (has_date_form text) (is_moment text) w).0
 simple_has Date tag _ t w = absurd cc
 
 root_is : (form : Form) (tag : Tag) (content : Content) → root (spelled tag form content) ≡ tag
@@ -83,7 +82,7 @@ each_has : (row : Row) → ((inside : Slots) → all_fit row inside ≡ true →
     → (items : Items) → each_within (all_fit row) items ≡ true → Each (Holds row) (spelled_items (fields row) items) items
 each_has row has nothing w = refl
 each_has row has (item first rest) w =
-    let b = both_true (all_fit row first) (each_within (all_fit row) rest) w in
+    let b = and_parts (all_fit row first) (each_within (all_fit row) rest) w in
     (fields row first, first, rest, refl, refl, has first b.0, each_has row has rest b.1)
 
 -- contents that are usual are the default
@@ -118,7 +117,7 @@ mutual
     inside,
     refl,
     refl,
-    each_has row (λ items. fields_hold row 0 items t) inside (both_true (nat_le (count inside) 256) (each_within (all_fit row) inside) w).1,
+    each_has row (λ items. fields_hold row 0 items t) inside (and_parts (nat_le (count inside) 256) (each_within (all_fit row) inside) w).1,
   )
   spelled_has (list row) tag _ t w = absurd cc
 
@@ -129,7 +128,7 @@ mutual
   fields_hold (field number form need row) least nil t w = absurd cc
   fields_hold (field number form need row) least (present content rest) t w =
       let q = tests least number form need row t in
-      let b = both_true (fits form content) (all_fit row rest) w in
+      let b = and_parts (fits form content) (all_fit row rest) w in
       field_has number form need row content rest (is_default need content) refl (spelled_has form (context number) content q.inside b.0) (fields_hold row (number + 1) rest q.rest b.1)
   fields_hold (field number form required row) least (absent rest) t w = absurd cc
   fields_hold (field number form optional row) least (absent rest) t w =

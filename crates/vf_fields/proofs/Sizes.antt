@@ -4,7 +4,7 @@ use Rattle.std.specs.Prelude.{ℤ, ◌&&◌, nat_eq, nat_le}
 use Rattle.std.specs.Int.{w64, to_be_bytes, cast_unsigned}
 use Rattle.std.specs.List.{flat_map, list_all}
 use Rattle.std.proofs.Math.Nat.{mul-le-mul_right}
-use Rattle.std.proofs.lemmas.Bool.{eqb-true, leb-true}
+use Rattle.std.proofs.lemmas.Bool.{eqb-true, leb-true, and_parts}
 use Rattle.std.proofs.lemmas.Bool.Decides.{nat_tests}
 use Rattle.vf_base.specs.Name.{is_name, is_printable}
 use Rattle.vf_base.specs.Oid.{is_oid, is_root, is_arc}
@@ -16,7 +16,6 @@ use Rattle.vf_fields.specs.Forms.{has_date_form, is_control, is_date, is_digit, 
 use Rattle.vf_fields.specs.Meaning.{context, universal, count, each_within, fits, all_fit}
 use Rattle.vf_fields.specs.Rows.{Simple, Integer, Boolean, Text, String, Controls, Oid, Date, required, optional, default, Form, one, sequence, list, Row, end, field}
 use Rattle.vf_fields.specs.Writing.{contents_octets, fields, is_default, spelled, spelled_items}
-use Rattle.vf_fields.proofs.Plain.{both_true}
 
 pub record Fits (tree : Tree) (octets levels : ℕ) : Type 0 where
   pub short : length (spell tree) ≤ octets
@@ -115,25 +114,25 @@ wider : (parts : Trees) (n m d e : ℕ) → FitIn parts m e → FitIn parts (n +
 wider parts n m d e fit = record { short = omega (arith, fit.short); shallow = omega (arith, fit.shallow) }
 
 at_most : (b : Bool) (octets : List ℕ) (n : ℕ) → (nat_le (length octets) n && b) ≡ true → length octets ≤ n
-at_most b octets n e = leb-true (length octets) n (both_true (nat_le (length octets) n) b e).0
+at_most b octets n e = leb-true (length octets) n (and_parts (nat_le (length octets) n) b e).0
 
 exactly : (b : Bool) (octets : List ℕ) (n : ℕ) → (nat_eq (length octets) n && b) ≡ true → length octets ≤ n
-exactly b octets n e = let same : length octets ≡ n = eqb-true (length octets) n (both_true (nat_eq (length octets) n) b e).0 in omega arith
+exactly b octets n e = let same : length octets ≡ n = eqb-true (length octets) n (and_parts (nat_eq (length octets) n) b e).0 in omega arith
 
 name-short : (name : List ℕ) → is_name name ≡ true → length name ≤ 255
 name-short name e =
-    let b = both_true (nat_le 1 (length name) && nat_le (length name) 255) (list_all is_printable name) e in
-    leb-true (length name) 255 (both_true (nat_le 1 (length name)) (nat_le (length name) 255) b.0).1
+    let b = and_parts (nat_le 1 (length name) && nat_le (length name) 255) (list_all is_printable name) e in
+    leb-true (length name) 255 (and_parts (nat_le 1 (length name)) (nat_le (length name) 255) b.0).1
 
 oid-few : (arcs : List ℕ) → is_oid arcs ≡ true → length arcs ≤ 16
 oid-few arcs e =
-    let b = both_true (nat_le (length arcs) 16 && is_root arcs) (list_all is_arc arcs) e in
+    let b = and_parts (nat_le (length arcs) 16 && is_root arcs) (list_all is_arc arcs) e in
     at_most (is_root arcs) arcs 16 b.0
 
 date-short : (text : List ℕ) → is_date text ≡ true → length text ≤ 15
 date-short text e =
-    let b = both_true (has_date_form text) (is_moment text) e in
-    let d = both_true (nat_eq (length text) 15 && list_all is_digit (take 14 text)) (list_all (nat_eq 90) (drop 14 text)) b.0 in
+    let b = and_parts (has_date_form text) (is_moment text) e in
+    let d = and_parts (nat_eq (length text) 15 && list_all is_digit (take 14 text)) (list_all (nat_eq 90) (drop 14 text)) b.0 in
     exactly (list_all is_digit (take 14 text)) text 15 d.0
 
 simple-short : (simple : Simple) (content : Content) → within simple content ≡ true → length (contents_octets content) ≤ most_of simple
@@ -160,7 +159,7 @@ items-fit : (inner : Slots → Trees) (test : Slots → Bool) (n d : ℕ) → ((
     → (items : Items) → each_within test items ≡ true → FitIn (spelled_items inner items) (count items * (n + 7)) (d + 1)
 items-fit inner test n d fit nothing w = none-fits (0 * (n + 7)) (d + 1)
 items-fit inner test n d fit (item first rest) w =
-    let b = both_true (test first) (each_within test rest) w in
+    let b = and_parts (test first) (each_within test rest) w in
     let here = built-fits (universal 16) (inner first) n d (fit first b.0) in
     let others = items-fit inner test n d fit rest b.1 in
     let both = more-fits (built (universal 16) (inner first)) (spelled_items inner rest) (n + 7) (count rest * (n + 7)) (d + 1) (d + 1) here others in
@@ -177,7 +176,7 @@ mutual
   spelled-fits (sequence row) tag (Fields inside) w = built-fits tag (fields row inside) (most_in row) (levels_in row) (fields-fit row inside w)
   spelled-fits (sequence row) tag _ w = absurd cc
   spelled-fits (list row) tag (Listed inside) w =
-      let b = both_true (nat_le (count inside) 256) (each_within (all_fit row) inside) w in
+      let b = and_parts (nat_le (count inside) 256) (each_within (all_fit row) inside) w in
       let few : count inside ≤ 256 = leb-true (count inside) 256 b.0 in
       let all = items-fit (fields row) (all_fit row) (most_in row) (levels_in row) (fields-fit row) inside b.1 in
       let some : count inside * (most_in row + 7) ≤ 256 * (most_in row + 7) = mul-le-mul_right (most_in row + 7) few in
@@ -190,7 +189,7 @@ mutual
   fields-fit end (absent rest) w = absurd cc
   fields-fit (field number form need row) nil w = absurd cc
   fields-fit (field number form need row) (present content rest) w =
-      let b = both_true (fits form content) (all_fit row rest) w in
+      let b = and_parts (fits form content) (all_fit row rest) w in
       field-fits (spelled (context number) form content) (fields row rest) (most form) (most_in row) (levels form) (levels_in row) (is_default need content)
       (spelled-fits form (context number) content b.0) (fields-fit row rest b.1)
   fields-fit (field number form required row) (absent rest) w = absurd cc

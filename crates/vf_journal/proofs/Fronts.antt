@@ -1,6 +1,6 @@
 -- What stands at the front of octets that begin with a gate, told by a block of them.
-use Rattle.std.proofs.Common.{◌≡◌, ◌≢◌, ℕ, suc, ◌+◌, ◌<◌, ◌≤◌, List, [], ◌∷◌, ◌++◌, length, get_or, take, drop, None, Some, refl, sym, ◌∙◌, ap, arith, length-drop, take-append-drop}
-use Rattle.std.proofs.lemmas.List.{take-append-le, drop-append-le, drop-drop}
+use Rattle.std.proofs.Common.{◌≡◌, ◌≢◌, ℕ, suc, ◌+◌, ◌<◌, ◌≤◌, List, [], ◌∷◌, ◌++◌, length, get_or, take, drop, None, Some, refl, sym, ◌∙◌, ap, arith, take-append-drop}
+use Rattle.std.proofs.lemmas.List.{drop-drop}
 use Rattle.std.specs.Prelude.{option_map}
 use Rattle.vf_journal.specs.Layout.{length_named, part}
 use Rattle.vf_journal.specs.Records.{first_record}
@@ -40,9 +40,6 @@ whole (gate ∷ behind) count some is opened long =
     ∙ ap (λ (n : ℕ). Some (take n (drop 4 behind), drop (n + 4) behind)) is
     ∙ ap (λ (n : ℕ). Some (take count (drop 4 behind), drop n (gate ∷ behind))) next
 
-pub record_closed : (octets : List ℕ) (left : ℕ) (all : List ℕ) → BeginsWith octets left all → 5 ≤ length octets → get_or octets 0 0 ≡ 0 → first_record all ≡ None
-record_closed octets left all begins long is = closed all ((alike octets left all begins long).0 ∙ is)
-
 pub record_short : (octets : List ℕ) (left : ℕ) (all : List ℕ) → BeginsWith octets left all → 5 ≤ length octets → left < length_named (drop 1 octets) + 6 → first_record all ≡ None
 record_short octets left all begins long less = short all (omega (arith, (alike octets left all begins long).1, begins.1))
 
@@ -51,13 +48,6 @@ pub record_whole : (octets : List ℕ) (left : ℕ) (all : List ℕ) (count : �
 record_whole octets left all count begins long within is opened enough =
     let same = alike octets left all begins long in
     whole all count (omega (arith, begins.1)) (same.1 ∙ is) (λ zero. opened (sym same.0 ∙ zero)) (omega (arith, begins.1))
-
--- a record that stands in the octets whole
-pub record_within : (octets : List ℕ) (left : ℕ) (all : List ℕ) (count : ℕ) → BeginsWith octets left all → count + 5 ≤ length octets → take count (drop 5 all) ≡ take count (drop 5 octets)
-record_within octets left all count begins long =
-    let rest = drop (length octets) all in
-    ap (λ (l : List ℕ). take count (drop 5 l)) (begins_split octets left all begins)
-    ∙ ap (λ (l : List ℕ). take count l) (drop-append-le 5 octets rest (omega arith)) ∙ take-append-le count (drop 5 octets) rest (omega (arith, length-drop 5 octets))
 
 -- a record that is read by itself
 pub record_read : (image item : List ℕ) (gate count : ℕ) (rest : List ℕ) → first_record (drop gate image) ≡ Some (take count (drop 5 (drop gate image)), rest) → item ≡ part image (gate + 5) count

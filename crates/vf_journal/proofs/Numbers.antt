@@ -1,7 +1,6 @@
 -- Places in eight octets, and lengths in four.
 use Rattle.std.proofs.Common.{◌≡◌, ℕ, ◌<◌, ◌≤◌, ◌^◌, List, ◌++◌, length, take, refl, arith}
 use Rattle.std.specs.Int.{to_be_bytes, w32, w64}
-use Rattle.byteorder.specs.Endian.{big_number}
 use Rattle.byteorder.specs.Numbers.{big_number-reads_back, length-bytes_high_first, big_from-append, big_from-take}
 use Rattle.vf_journal.specs.Layout.{place_octets, place_named, length_octets, length_named}
 
@@ -33,14 +32,6 @@ length_named-append octets rest long = big_from-append 4 octets rest long
 pub place_octets_are : (place : ℕ) → to_be_bytes w64 place ≡ place_octets place
 unfolding place_octets
 place_octets_are place = refl
-
-pub length_named_is : (octets : List ℕ) → big_number 4 octets ≡ length_named octets
-unfolding length_named
-length_named_is octets = refl
-
-pub place_named_is : (octets : List ℕ) → big_number 8 octets ≡ place_named octets
-unfolding place_named
-place_named_is octets = refl
 
 pub length_octets_are : (count : ℕ) → to_be_bytes w32 count ≡ length_octets count
 unfolding length_octets

@@ -23,20 +23,6 @@ pub record Taking (block : List ℕ) (count : ℕ) (area : Area) (old : List (Li
   pub bound : now.end + left ≤ greatest_length + 1
   pub reads : (all : List ℕ) → BeginsWith block count all → (records_in all ≡ taken ++ records_in (drop (octets_of taken) all)) × BeginsWith rest left (drop (octets_of taken) all)
 
-pub taking_none : (block : List ℕ) (count : ℕ) (area : Area) (old : List (List ℕ)) → 0 < length block → length block ≤ count → IsPlaced area → area.end + count ≤ greatest_length + 1 → Taking block count area old block count area old
-taking_none block count area old some within placed bound = record {
-  taken = [];
-  records = sym (append-nil old);
-  counts = refl;
-  rest_is = refl;
-  left_is = omega arith;
-  some = some;
-  within = within;
-  placed = placed;
-  bound = bound;
-  reads = λ all begins. (refl, begins);
-}
-
 with_records_push : (area : Area) (taken : List (List ℕ)) (item : List ℕ) → with_records area (taken ++ item ∷ []) ≡ with_record (with_records area taken) (length item)
 with_records_push area [] item = refl
 with_records_push area (first ∷ taken) item = with_records_push (with_record area (length first)) taken item
@@ -156,10 +142,6 @@ pub with_records_end : (area : Area) (taken : List (List ℕ)) → (with_records
 with_records_end area [] = omega arith
 with_records_end area (item ∷ taken) = omega (arith, with_records_end (with_record area (length item)) taken)
 
-pub with_records_start : (area : Area) (taken : List (List ℕ)) → (with_records area taken).start ≡ area.start
-with_records_start area [] = refl
-with_records_start area (item ∷ taken) = with_records_start (with_record area (length item)) taken
-
 pub with_records_placed : (area : Area) (taken : List (List ℕ)) → IsPlaced area → area.end + octets_of taken ≤ greatest_length → IsPlaced (with_records area taken)
 with_records_placed area [] placed bound = placed
 with_records_placed area (item ∷ taken) placed bound = with_records_placed (with_record area (length item)) taken (placed_more area (length item) placed (omega arith)) (omega arith)
@@ -191,16 +173,6 @@ takes_joined IsAll IsRest old mid new count left area found further more first r
       ∙ ap (λ (l : List (List ℕ)). first.taken ++ l) (second.reads (drop k all) (rests all is))
       ∙ sym (append_assoc first.taken second.taken (if more then records_in (drop (octets_of second.taken) (drop k all)) else []))
       ∙ ap (λ (l : List ℕ). (first.taken ++ second.taken) ++ (if more then records_in l else [])) behind;
-}
-
--- the records of an area before any is taken
-pub area_none : (shown : Option (List ℕ)) (start size : ℕ) (old : List (List ℕ)) → start < size → Takes (StandsFrom shown start) old old (size - start) (area_of start []) (area_of start []) true
-area_none shown start size old within = record {
-  taken = [];
-  records = sym (append-nil old);
-  counts = refl;
-  bound = omega arith;
-  reads = λ all stands. refl;
 }
 
 pub area_end : (IsAll : List ℕ → Type 0) (start count : ℕ) (old new : List (List ℕ)) (found : Area) (more : Bool) → (takes : Takes IsAll old new count (area_of start []) found more) → found.end ≡ start + 1 + octets_of takes.taken

@@ -78,10 +78,6 @@ numbers_bounded hs few = all_mapped (All (λ n. n < 18446744073709551615)) (row 
     one : (action number : ℕ) → how_many hs action number < 18446744073709551615
     one action number = let fewer = count_by-le-length (has action number) hs in omega arith
 
-pub numbers_of-none : (0 ∷ 0 ∷ 0 ∷ 0 ∷ []) ∷ (0 ∷ 0 ∷ 0 ∷ 0 ∷ []) ∷ (0 ∷ 0 ∷ 0 ∷ 0 ∷ []) ∷ (0 ∷ 0 ∷ 0 ∷ 0 ∷ []) ∷ (0 ∷ 0 ∷ 0 ∷ 0 ∷ []) ∷ (0 ∷ 0 ∷ 0 ∷ 0 ∷ []) ∷ (0 ∷ 0 ∷ 0 ∷ 0 ∷ []) ∷ (0 ∷ 0 ∷ 0 ∷ 0 ∷ []) ∷ [] ≡ numbers_of []
-unfolding numbers_of
-numbers_of-none = refl
-
 module _ {holder : Holder} {hs : List Held} {place : ℕ} {h : Held} (stands : StandsAt holder hs place h) where
   -- the numbers once the holder is gone
   pub lowered-numbers_of : lowered h.controls.each (numbers_of hs) ≡ numbers_of (remove hs place)

@@ -3,11 +3,10 @@ use Rattle.std.proofs.Common.{◌≡◌, ℕ, suc, ◌+◌, ◌-◌, ◌*◌, �
 use Rattle.std.specs.Prelude.{◌&&◌, IsTrue, nat_eq, nat_le, nat_lt}
 use Rattle.std.specs.List.{flat_map, list_all}
 use Rattle.std.proofs.lemmas.Bool.Decides.{nat_tests}
-use Rattle.std.proofs.lemmas.Bool.{eqb-true, leb-true, ltb-true, le-leb, lt-ltb}
+use Rattle.std.proofs.lemmas.Bool.{eqb-true, leb-true, ltb-true, le-leb, lt-ltb, and_parts}
 use Rattle.vf_base.specs.Calendar.{Civil, civil_date, month_length, month_of, year_length, year_of}
 use Rattle.vf_base.specs.Moment.{date_text, moment_text, time_text, two_digits}
 use Rattle.vf_fields.specs.Forms.{has_date_form, is_date, is_day, is_digit, is_moment, two_at, year_in}
-use Rattle.vf_fields.proofs.Plain.{both_true}
 use Rattle.vf_parameters.specs.Laws.{DatesAreMoments, MomentsAreDates}
 use Rattle.vf_parameters.proofs.Years.{all_years, month_at, month_in, months, months_before, twelve, year_at, year_in as year_found, years, years_before}
 
@@ -75,7 +74,7 @@ pub record IsDigit (octet : ℕ) : Type 0 where
 
 digit : (octet : ℕ) → is_digit octet ≡ true → IsDigit octet
 digit octet e =
-    let b = both_true (nat_le 48 octet) (nat_le octet 57) e in
+    let b = and_parts (nat_le 48 octet) (nat_le octet 57) e in
     record { low = leb-true 48 octet b.0; high = leb-true octet 57 b.1 }
 
 -- the number of two digits
@@ -159,7 +158,7 @@ moment_date seconds lt =
 -- ---- dates are texts of moments
 
 first_digit : (octet : ℕ) (octets : List ℕ) → list_all is_digit (octet ∷ octets) ≡ true → IsDigit octet × (list_all is_digit octets ≡ true)
-first_digit octet octets e = let b = both_true (is_digit octet) (list_all is_digit octets) e in (digit octet b.0, b.1)
+first_digit octet octets e = let b = and_parts (is_digit octet) (list_all is_digit octets) e in (digit octet b.0, b.1)
 
 two_text : (tens ones : ℕ) → IsDigit tens → IsDigit ones → two_digits (pair tens ones) ≡ tens ∷ ones ∷ []
 two_text tens ones t o = rw (pair_tens tens ones t o, pair_ones tens ones t o) refl
@@ -179,10 +178,10 @@ first_two century tens ones t o = omega (arith, t.low, t.high, o.low, o.high)
 -- the parts of a day of the calendar
 day_is : (year month day : ℕ) → is_day year month day ≡ true → year < 10000 → IsDay record { year = year; month = month; day = day }
 day_is year month day e late =
-    let a = both_true (nat_le 1970 year && nat_le 1 month && nat_le month 12 && nat_le 1 day) (nat_le day (month_length year month)) e in
-    let b = both_true (nat_le 1970 year && nat_le 1 month && nat_le month 12) (nat_le 1 day) a.0 in
-    let c = both_true (nat_le 1970 year && nat_le 1 month) (nat_le month 12) b.0 in
-    let d = both_true (nat_le 1970 year) (nat_le 1 month) c.0 in
+    let a = and_parts (nat_le 1970 year && nat_le 1 month && nat_le month 12 && nat_le 1 day) (nat_le day (month_length year month)) e in
+    let b = and_parts (nat_le 1970 year && nat_le 1 month && nat_le month 12) (nat_le 1 day) a.0 in
+    let c = and_parts (nat_le 1970 year && nat_le 1 month) (nat_le month 12) b.0 in
+    let d = and_parts (nat_le 1970 year) (nat_le 1 month) c.0 in
     record {
       early = leb-true 1970 year d.0;
       late = late;
@@ -224,8 +223,8 @@ two_more n numbers first rest f r = ap (λ (l : List ℕ). l ++ flat_map two_dig
 fifteen : (x0 x1 x2 x3 x4 x5 x6 x7 x8 x9 x10 x11 x12 x13 x14 : ℕ) → is_date (x0 ∷ x1 ∷ x2 ∷ x3 ∷ x4 ∷ x5 ∷ x6 ∷ x7 ∷ x8 ∷ x9 ∷ x10 ∷ x11 ∷ x12 ∷ x13 ∷ x14 ∷ []) ≡ true → Dated (x0 ∷ x1 ∷ x2 ∷ x3 ∷ x4 ∷ x5 ∷ x6 ∷ x7 ∷ x8 ∷ x9 ∷ x10 ∷ x11 ∷ x12 ∷ x13 ∷ x14 ∷ [])
 fifteen x0 x1 x2 x3 x4 x5 x6 x7 x8 x9 x10 x11 x12 x13 x14 e =
     let text : List ℕ = x0 ∷ x1 ∷ x2 ∷ x3 ∷ x4 ∷ x5 ∷ x6 ∷ x7 ∷ x8 ∷ x9 ∷ x10 ∷ x11 ∷ x12 ∷ x13 ∷ x14 ∷ [] in
-    let parts = both_true (has_date_form text) (is_moment text) e in
-    let form = both_true (list_all is_digit (x0 ∷ x1 ∷ x2 ∷ x3 ∷ x4 ∷ x5 ∷ x6 ∷ x7 ∷ x8 ∷ x9 ∷ x10 ∷ x11 ∷ x12 ∷ x13 ∷ [])) (nat_eq 90 x14 && true) parts.0 in
+    let parts = and_parts (has_date_form text) (is_moment text) e in
+    let form = and_parts (list_all is_digit (x0 ∷ x1 ∷ x2 ∷ x3 ∷ x4 ∷ x5 ∷ x6 ∷ x7 ∷ x8 ∷ x9 ∷ x10 ∷ x11 ∷ x12 ∷ x13 ∷ [])) (nat_eq 90 x14 && true) parts.0 in
     let d0 = first_digit x0 (x1 ∷ x2 ∷ x3 ∷ x4 ∷ x5 ∷ x6 ∷ x7 ∷ x8 ∷ x9 ∷ x10 ∷ x11 ∷ x12 ∷ x13 ∷ []) form.0 in
     let d1 = first_digit x1 (x2 ∷ x3 ∷ x4 ∷ x5 ∷ x6 ∷ x7 ∷ x8 ∷ x9 ∷ x10 ∷ x11 ∷ x12 ∷ x13 ∷ []) d0.1 in
     let d2 = first_digit x2 (x3 ∷ x4 ∷ x5 ∷ x6 ∷ x7 ∷ x8 ∷ x9 ∷ x10 ∷ x11 ∷ x12 ∷ x13 ∷ []) d1.1 in
@@ -240,13 +239,13 @@ fifteen x0 x1 x2 x3 x4 x5 x6 x7 x8 x9 x10 x11 x12 x13 x14 e =
     let d11 = first_digit x11 (x12 ∷ x13 ∷ []) d10.1 in
     let d12 = first_digit x12 (x13 ∷ []) d11.1 in
     let d13 = first_digit x13 ([]) d12.1 in
-    let z : 90 ≡ x14 = eqb-true 90 x14 (both_true (nat_eq 90 x14) true form.1).0 in
+    let z : 90 ≡ x14 = eqb-true 90 x14 (and_parts (nat_eq 90 x14) true form.1).0 in
     let century = pair x0 x1 in
     let year = 100 * century + pair x2 x3 in
     let date : Civil = record { year = year; month = pair x4 x5; day = pair x6 x7 } in
-    let a = both_true (is_day year (pair x4 x5) (pair x6 x7) && nat_lt (pair x8 x9) 24 && nat_lt (pair x10 x11) 60) (nat_lt (pair x12 x13) 60) parts.1 in
-    let b = both_true (is_day year (pair x4 x5) (pair x6 x7) && nat_lt (pair x8 x9) 24) (nat_lt (pair x10 x11) 60) a.0 in
-    let c = both_true (is_day year (pair x4 x5) (pair x6 x7)) (nat_lt (pair x8 x9) 24) b.0 in
+    let a = and_parts (is_day year (pair x4 x5) (pair x6 x7) && nat_lt (pair x8 x9) 24 && nat_lt (pair x10 x11) 60) (nat_lt (pair x12 x13) 60) parts.1 in
+    let b = and_parts (is_day year (pair x4 x5) (pair x6 x7) && nat_lt (pair x8 x9) 24) (nat_lt (pair x10 x11) 60) a.0 in
+    let c = and_parts (is_day year (pair x4 x5) (pair x6 x7)) (nat_lt (pair x8 x9) 24) b.0 in
     let late : year < 10000 = omega (arith, pair_small x0 x1 d0.0 d1.0, pair_small x2 x3 d2.0 d3.0) in
     let found = moment_of date (pair x8 x9) (pair x10 x11) (pair x12 x13) (day_is year (pair x4 x5) (pair x6 x7) c.0 late) (ltb-true (pair x8 x9) 24 c.1) (ltb-true (pair x10 x11) 60 b.1) (ltb-true (pair x12 x13) 60 a.1) in
     let dates : flat_map two_digits (century ∷ year ∷ pair x4 x5 ∷ pair x6 x7 ∷ []) ≡ x0 ∷ x1 ∷ x2 ∷ x3 ∷ x4 ∷ x5 ∷ x6 ∷ x7 ∷ [] =
@@ -281,9 +280,9 @@ nothing_left (first ∷ rest) e = absurd (omega (arith, e))
 pub date_moment : DatesAreMoments
 date_moment text is =
     let e = is_true (is_date text) is in
-    let form = both_true (has_date_form text) (is_moment text) e in
-    let digits = both_true (nat_eq (length text) 15 && list_all is_digit (take 14 text)) (list_all (nat_eq 90) (drop 14 text)) form.0 in
-    let long : length text ≡ 15 = eqb-true (length text) 15 (both_true (nat_eq (length text) 15) (list_all is_digit (take 14 text)) digits.0).0 in
+    let form = and_parts (has_date_form text) (is_moment text) e in
+    let digits = and_parts (nat_eq (length text) 15 && list_all is_digit (take 14 text)) (list_all (nat_eq 90) (drop 14 text)) form.0 in
+    let long : length text ≡ 15 = eqb-true (length text) 15 (and_parts (nat_eq (length text) 15) (list_all is_digit (take 14 text)) digits.0).0 in
     let b0 = begins 14 text long in
     let b1 = begins 13 b0.rest b0.left in
     let b2 = begins 12 b1.rest b1.left in

@@ -1,7 +1,7 @@
 -- What is computed of a value is what it means.
 use Rattle.std.proofs.Common.{◌≡◌, ◌≤◌, Bool, true, false, cond, List, refl, ap, sym, subst, ◌∙◌}
 use Rattle.std.specs.Prelude.{◌&&◌, nat_eq, nat_le, Some, None, Result, Ok, Err}
-use Rattle.std.proofs.lemmas.Bool.{eqb-true, leb-true}
+use Rattle.std.proofs.lemmas.Bool.{eqb-true, leb-true, and_parts}
 use Rattle.vf_ber.specs.Tree.{Tag, Tree, plain, built, Trees}
 use Rattle.vf_fields.specs.Content.{Slot, slots}
 use Rattle.vf_fields.specs.Fault.{Fault}
@@ -10,7 +10,7 @@ use Rattle.vf_fields.specs.Reading.{reading}
 use Rattle.vf_fields.proofs.Complete.{holds_shapes}
 use Rattle.vf_fields.proofs.Found.{reading_kept}
 use Rattle.vf_fields.proofs.Nested.{shapes_read}
-use Rattle.vf_fields.proofs.Plain.{both_true, some_is, tag_is}
+use Rattle.vf_fields.proofs.Plain.{some_is, tag_is}
 use Rattle.vf_pdu.specs.Laws.{MeaningIsComputed}
 use Rattle.vf_pdu.specs.PduComputed.{meaning, pdu_from, pdu_of}
 use Rattle.vf_pdu.specs.PduMeaning.{Means}
@@ -51,7 +51,7 @@ read_means tag parts pdu (Err fault) t le e h = absurd cc
 tag_means : (tag : Tag) (parts : Trees) (pdu : Pdu) (b : Bool) → b ≡ (nat_eq tag.class 2 && nat_le tag.number 40)
     → cond b (pdu_from tag.number (reading (row_of tag.number) parts)) None ≡ Some pdu → Means (built tag parts) pdu
 tag_means tag parts pdu true s h =
-    let b = both_true (nat_eq tag.class 2) (nat_le tag.number 40) (sym s) in
+    let b = and_parts (nat_eq tag.class 2) (nat_le tag.number 40) (sym s) in
     read_means tag parts pdu (reading (row_of tag.number) parts) (tag_is tag 2 tag.number (eqb-true tag.class 2 b.0) refl) (leb-true tag.number 40 b.1) refl h
 tag_means tag parts pdu false s h = absurd cc
 

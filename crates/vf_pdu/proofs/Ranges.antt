@@ -1,7 +1,7 @@
 -- A place is a number of 54 bits, and a FADU that is asked for has a number.
 use Rattle.std.proofs.Common.{◌≡◌, ℕ, ◌≤◌, true, false, [], ◌∷◌, refl, sym, ◌∙◌}
 use Rattle.std.specs.Prelude.{◌&&◌, IsSome, Some, None, nat_le}
-use Rattle.std.proofs.lemmas.Bool.{leb-true}
+use Rattle.std.proofs.lemmas.Bool.{leb-true, and_parts}
 use Rattle.vf_base.specs.declared.access.Context.{Context}
 use Rattle.vf_base.specs.declared.access.FaduId.{FaduId}
 use Rattle.vf_fields.specs.Content.{Slot, Slots, nil, slot, slots}
@@ -10,7 +10,6 @@ use Rattle.vf_fields.specs.Rows.{Form, Need, Row, end, field, required, or, fadu
 use Rattle.vf_fields.specs.Slots.{context_slot, fadu_slot}
 use Rattle.vf_fields.specs.declared.operation.WriteOperation.{WriteOperation}
 use Rattle.vf_fields.specs.declared.operation.WriteOperation.TheVariants as operations
-use Rattle.vf_fields.proofs.Plain.{both_true}
 use Rattle.vf_pdu.specs.PduMeaning.{IsInRange}
 use Rattle.vf_pdu.specs.PduRows.{row_of}
 use Rattle.vf_pdu.specs.declared.pdu.Pdu.TheVariants.{EraseRequest, LocateRequest, ProviderAbort, ReadRequest, WriteRequest}
@@ -18,9 +17,9 @@ use Rattle.vf_pdu.specs.declared.pdu.Pdu.TheVariants.{EraseRequest, LocateReques
 pub place_is : (number place : ℕ) → IsInRange (ProviderAbort number place) → place ≤ 9007199254740992
 unfolding row_of
 place_is number place h =
-    let all = both_true (nat_le 0 number && nat_le number 65535) (nat_le 0 place && nat_le place 9007199254740992 && true) h in
-    let fits = both_true (nat_le 0 place && nat_le place 9007199254740992) true all.1 in
-    leb-true place 9007199254740992 (both_true (nat_le 0 place) (nat_le place 9007199254740992) fits.0).1
+    let all = and_parts (nat_le 0 number && nat_le number 65535) (nat_le 0 place && nat_le place 9007199254740992 && true) h in
+    let fits = and_parts (nat_le 0 place && nat_le place 9007199254740992) true all.1 in
+    leb-true place 9007199254740992 (and_parts (nat_le 0 place) (nat_le place 9007199254740992) fits.0).1
 
 -- the first field is there where it may not be absent
 there_is : (number : ℕ) (form : Form) (need : Need) (row : Row) (first : Slot) (others : Slots) → ((s : Slots) → all_fit (field number form need row) (slot None s) ≡ false)

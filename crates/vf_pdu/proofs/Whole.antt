@@ -3,14 +3,13 @@ use Rattle.std.proofs.Common.{◌≡◌, ℕ, zero, suc, ◌+◌, ◌<◌, ◌�
 use Rattle.std.specs.Prelude.{pos, negsuc, nat_eq, nat_le, Some, None}
 use Rattle.std.specs.List.{list_all}
 use Rattle.std.specs.Option.{option_map}
-use Rattle.std.proofs.lemmas.Bool.{eqb-true, leb-true, ltb-true}
+use Rattle.std.proofs.lemmas.Bool.{eqb-true, leb-true, ltb-true, and_parts}
 use Rattle.vf_base.specs.declared.action.Actions.{Actions}
 use Rattle.vf_fields.specs.Content.{Content, Number, Truth, Octets, Arcs, Fields, Listed, Slots, nil, present, absent, Items, nothing, item, Slot, slots, items_of}
 use Rattle.vf_fields.specs.Forms.{is_control}
 use Rattle.vf_fields.specs.Meaning.{all_fit, count, each_within, fits}
 use Rattle.vf_fields.specs.Rows.{Range, Any, Integer, Boolean, Text, String, Controls, Oid, Date, Need, required, optional, default, Form, one, sequence, list, Row, end, field, int, or, fadu as fadu_form, natural}
 use Rattle.vf_fields.specs.Slots.{attribute_controls, content_controls, context_slot, control_octet, fadu_slot, maybe_integer, maybe_octets, num, operation_slot}
-use Rattle.vf_fields.proofs.Plain.{both_true}
 use Rattle.vf_parameters.specs.ParameterSlots.{attribute_slots, attributes_content, contents_content, contents_slots, diagnostic_content, diagnostic_slots, grants_content, maybe_contents, maybe_diagnostic, maybe_stamp, stamp_content, stamp_slots, terms_content}
 use Rattle.vf_parameters.specs.Parameters.{attribute_fields, attributes, contents, contents_fields, diagnostic, diagnostic_fields, grant, grants, no_terms, stamp, stamp_fields, term, terms}
 use Rattle.vf_pdu.specs.Contained.{actions_in, arcs_in, attribute_controls_in, attributes_at, attributes_in, content_controls_in, contents_at, contents_in, context_in, control_in, diagnostic_at, diagnostic_in, fadu_in, grant_at, grants_in, inside, integer_in, item_list, items_in, number_in, octets_in, operation_in, slot_list, stamp_at, stamp_in, term_at, terms_in, there, truth_in}
@@ -41,7 +40,7 @@ by_fields end P e (Some content ∷ rest) h = absurd cc
 by_fields end P e (None ∷ rest) h = absurd cc
 by_fields (field number form need row) P e [] h = absurd cc
 by_fields (field number form need row) P e (Some content ∷ rest) h =
-    let b = both_true (fits form content) (all_fit row (slots rest)) h in
+    let b = and_parts (fits form content) (all_fit row (slots rest)) h in
     by_fields row (λ others. P (Some content ∷ others)) (e (Some content) b.0) rest b.1
 by_fields (field number form required row) P e (None ∷ rest) h = absurd cc
 by_fields (field number form optional row) P e (None ∷ rest) h = by_fields row (λ others. P (None ∷ others)) (e None tt) rest h
@@ -87,25 +86,25 @@ control_whole (suc (suc (suc (suc n)))) h = let le : suc (suc (suc (suc n))) ≤
 
 attribute_whole : (content : Content) → fits (one (Controls 3)) content ≡ true → attribute_controls (attribute_controls_in content) ≡ content
 attribute_whole (Octets (a ∷ b ∷ c ∷ [])) h =
-    let h1 = both_true (is_control a) (list_all is_control (b ∷ c ∷ [])) h in
-    let h2 = both_true (is_control b) (list_all is_control (c ∷ [])) h1.1 in
-    let h3 = both_true (is_control c) true h2.1 in
+    let h1 = and_parts (is_control a) (list_all is_control (b ∷ c ∷ [])) h in
+    let h2 = and_parts (is_control b) (list_all is_control (c ∷ [])) h1.1 in
+    let h3 = and_parts (is_control c) true h2.1 in
     rw (control_whole a h1.0, control_whole b h2.0, control_whole c h3.0) refl
 attribute_whole (Octets (a ∷ b ∷ c ∷ d ∷ rest)) h =
-    let e : length (a ∷ b ∷ c ∷ d ∷ rest) ≡ 3 = eqb-true (length (a ∷ b ∷ c ∷ d ∷ rest)) 3 (both_true (nat_eq (length (a ∷ b ∷ c ∷ d ∷ rest)) 3) (list_all is_control (a ∷ b ∷ c ∷ d ∷ rest)) h).0 in
+    let e : length (a ∷ b ∷ c ∷ d ∷ rest) ≡ 3 = eqb-true (length (a ∷ b ∷ c ∷ d ∷ rest)) 3 (and_parts (nat_eq (length (a ∷ b ∷ c ∷ d ∷ rest)) 3) (list_all is_control (a ∷ b ∷ c ∷ d ∷ rest)) h).0 in
     absurd (omega arith)
 attribute_whole _ h = absurd cc
 
 content_whole : (content : Content) → fits (one (Controls 5)) content ≡ true → content_controls (content_controls_in content) ≡ content
 content_whole (Octets (a ∷ b ∷ c ∷ d ∷ e ∷ [])) h =
-    let h1 = both_true (is_control a) (list_all is_control (b ∷ c ∷ d ∷ e ∷ [])) h in
-    let h2 = both_true (is_control b) (list_all is_control (c ∷ d ∷ e ∷ [])) h1.1 in
-    let h3 = both_true (is_control c) (list_all is_control (d ∷ e ∷ [])) h2.1 in
-    let h4 = both_true (is_control d) (list_all is_control (e ∷ [])) h3.1 in
-    let h5 = both_true (is_control e) true h4.1 in
+    let h1 = and_parts (is_control a) (list_all is_control (b ∷ c ∷ d ∷ e ∷ [])) h in
+    let h2 = and_parts (is_control b) (list_all is_control (c ∷ d ∷ e ∷ [])) h1.1 in
+    let h3 = and_parts (is_control c) (list_all is_control (d ∷ e ∷ [])) h2.1 in
+    let h4 = and_parts (is_control d) (list_all is_control (e ∷ [])) h3.1 in
+    let h5 = and_parts (is_control e) true h4.1 in
     rw (control_whole a h1.0, control_whole b h2.0, control_whole c h3.0, control_whole d h4.0, control_whole e h5.0) refl
 content_whole (Octets (a ∷ b ∷ c ∷ d ∷ e ∷ f ∷ rest)) h =
-    let l : length (a ∷ b ∷ c ∷ d ∷ e ∷ f ∷ rest) ≡ 5 = eqb-true (length (a ∷ b ∷ c ∷ d ∷ e ∷ f ∷ rest)) 5 (both_true (nat_eq (length (a ∷ b ∷ c ∷ d ∷ e ∷ f ∷ rest)) 5) (list_all is_control (a ∷ b ∷ c ∷ d ∷ e ∷ f ∷ rest)) h).0 in
+    let l : length (a ∷ b ∷ c ∷ d ∷ e ∷ f ∷ rest) ≡ 5 = eqb-true (length (a ∷ b ∷ c ∷ d ∷ e ∷ f ∷ rest)) 5 (and_parts (nat_eq (length (a ∷ b ∷ c ∷ d ∷ e ∷ f ∷ rest)) 5) (list_all is_control (a ∷ b ∷ c ∷ d ∷ e ∷ f ∷ rest)) h).0 in
     absurd (omega arith)
 content_whole _ h = absurd cc
 
@@ -129,7 +128,7 @@ context_whole (Some (Number (pos (suc zero)))) h = refl
 context_whole (Some (Number (pos (suc (suc zero))))) h = refl
 context_whole (Some (Number (pos (suc (suc (suc zero)))))) h = refl
 context_whole (Some (Number (pos (suc (suc (suc (suc n))))))) h =
-    let le : suc (suc (suc (suc n))) ≤ 3 = leb-true (suc (suc (suc (suc n)))) 3 (both_true (nat_le 0 (suc (suc (suc (suc n))))) (nat_le (suc (suc (suc (suc n)))) 3) h).1 in absurd (omega arith)
+    let le : suc (suc (suc (suc n))) ≤ 3 = leb-true (suc (suc (suc (suc n)))) 3 (and_parts (nat_le 0 (suc (suc (suc (suc n))))) (nat_le (suc (suc (suc (suc n)))) 3) h).1 in absurd (omega arith)
 context_whole (Some _) h = absurd cc
 context_whole None h = absurd h
 
@@ -139,7 +138,7 @@ operation_whole (Some (Number (pos (suc zero)))) h = refl
 operation_whole (Some (Number (pos (suc (suc zero))))) h = refl
 operation_whole (Some (Number (pos (suc (suc (suc zero)))))) h = refl
 operation_whole (Some (Number (pos (suc (suc (suc (suc n))))))) h =
-    let le : suc (suc (suc (suc n))) ≤ 3 = leb-true (suc (suc (suc (suc n)))) 3 (both_true (nat_le 1 (suc (suc (suc (suc n))))) (nat_le (suc (suc (suc (suc n)))) 3) h).1 in absurd (omega arith)
+    let le : suc (suc (suc (suc n))) ≤ 3 = leb-true (suc (suc (suc (suc n)))) 3 (and_parts (nat_le 1 (suc (suc (suc (suc n))))) (nat_le (suc (suc (suc (suc n)))) 3) h).1 in absurd (omega arith)
 operation_whole (Some _) h = absurd cc
 operation_whole None h = absurd h
 
@@ -186,7 +185,7 @@ items_whole : {X : Type 0} (row : Row) (to : X → List Slot) (from : List Slot 
     → (items : Items) → each_within (all_fit row) items ≡ true → items_of (map (λ x. slots (to x)) (map (λ s. from (slot_list s)) (item_list items))) ≡ items
 items_whole row to from whole nothing h = refl
 items_whole row to from whole (item first rest) h =
-    let b = both_true (all_fit row first) (each_within (all_fit row) rest) h in
+    let b = and_parts (all_fit row first) (each_within (all_fit row) rest) h in
     let same : slots (slot_list first) ≡ first = slots-slot_list first in
     let front : slots (to (from (slot_list first))) ≡ first =
     ap slots (by_fields row (λ all. to (from all) ≡ all) whole (slot_list first) (ap (all_fit row) same ∙ b.0)) ∙ same in
@@ -196,7 +195,7 @@ items_whole row to from whole (item first rest) h =
 list_whole : {X : Type 0} (row : Row) (to : X → List Slot) (from : List Slot → X) → Each row (λ all. to (from all) ≡ all)
     → (content : Content) → fits (list row) content ≡ true → Listed (items_of (map (λ x. slots (to x)) (map (λ s. from (slot_list s)) (items_in content)))) ≡ content
 list_whole row to from whole (Listed items) h =
-    ap Listed (items_whole row to from whole items (both_true (nat_le (count items) 256) (each_within (all_fit row) items) h).1)
+    ap Listed (items_whole row to from whole items (and_parts (nat_le (count items) 256) (each_within (all_fit row) items) h).1)
 list_whole row to from whole _ h = absurd cc
 
 -- parameters

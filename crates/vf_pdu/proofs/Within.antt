@@ -2,13 +2,12 @@
 use Rattle.std.proofs.Common.{◌≡◌, ℕ, zero, suc, ◌≤◌, Bool, true, List, [], ◌∷◌, refl, inl, inr, arith}
 use Rattle.std.specs.Prelude.{◌&&◌, nat_le, get_or}
 use Rattle.std.specs.List.{list_all}
-use Rattle.std.proofs.lemmas.Bool.{leb-true}
+use Rattle.std.proofs.lemmas.Bool.{leb-true, and_parts}
 use Rattle.vf_ber.specs.Tree.{Trees}
 use Rattle.vf_fields.specs.Content.{slots}
 use Rattle.vf_fields.specs.Meaning.{context}
 use Rattle.vf_fields.specs.Rows.{Row, end}
 use Rattle.vf_fields.specs.Writing.{fields}
-use Rattle.vf_fields.proofs.Plain.{both_true}
 use Rattle.vf_fields.proofs.Sizes.{Fits, built-fits, fields-fit, levels_in, most_in}
 use Rattle.vf_pdu.specs.PduMeaning.{IsInRange}
 use Rattle.vf_pdu.specs.PduRows.{row_of, rows}
@@ -27,8 +26,8 @@ rows_small = refl
 get_small : (all : List Row) (n : ℕ) → list_all is_small all ≡ true → is_small (get_or all n end) ≡ true
 unfolding is_small
 get_small [] n small = refl
-get_small (row ∷ all) zero small = (both_true (is_small row) (list_all is_small all) small).0
-get_small (row ∷ all) (suc n) small = get_small all n (both_true (is_small row) (list_all is_small all) small).1
+get_small (row ∷ all) zero small = (and_parts (is_small row) (list_all is_small all) small).0
+get_small (row ∷ all) (suc n) small = get_small all n (and_parts (is_small row) (list_all is_small all) small).1
 
 row_small : (n : ℕ) → is_small (row_of n) ≡ true
 unfolding row_of
@@ -38,7 +37,7 @@ fits_small : (pdu : Pdu) → IsInRange pdu → Fits (value pdu) 1048007 31
 unfolding is_small
 fits_small pdu in_range =
     let row : Row = row_of (number_of pdu) in
-    let both = both_true (nat_le (most_in row) 1048000) (nat_le (levels_in row) 30) (row_small (number_of pdu)) in
+    let both = and_parts (nat_le (most_in row) 1048000) (nat_le (levels_in row) 30) (row_small (number_of pdu)) in
     let few : most_in row ≤ 1048000 = leb-true (most_in row) 1048000 both.0 in
     let low : levels_in row ≤ 30 = leb-true (levels_in row) 30 both.1 in
     let parts : Trees = fields row (slots (slots_of pdu)) in

@@ -5,7 +5,7 @@ use Rattle.std.specs.List.{AllByRecursion}
 use Rattle.std.specs.Option.{option_map, option_or}
 use Rattle.std.specs.Cmp.Lexicographic.{pointwise}
 use Rattle.std.specs.Str.{bytes_eq}
-use Rattle.std.proofs.lemmas.Bool.{eqb-true, leb-true}
+use Rattle.std.proofs.lemmas.Bool.{eqb-true, leb-true, and_parts}
 use Rattle.std.proofs.lemmas.Bool.Decides.{nat_tests}
 use Rattle.std.proofs.lemmas.Nat.{and_le_r}
 use Rattle.std.proofs.lemmas.Slice.Eq.{bytes_eq-Decides}
@@ -35,7 +35,7 @@ use Rattle.vf_elements.specs.declared.message.Message.{Message}
 use Rattle.vf_elements.specs.declared.message.Message.TheVariants as messages
 use Rattle.vf_elements.specs.declared.message.Said.{Said}
 use Rattle.vf_elements.specs.declared.message.Said.TheVariants as answers
-use Rattle.vf_fields.proofs.Plain.{both_true, some_is}
+use Rattle.vf_fields.proofs.Plain.{some_is}
 use Rattle.vf_pdu.specs.PduMeaning.{IsInRange}
 use Rattle.vf_pdu.specs.PduRows.{row_of}
 use Rattle.vf_pdu.specs.declared.pdu.Pdu.{Pdu}
@@ -135,9 +135,9 @@ has_doc c doc e = by (has_parameters c) (kind_of c.kind) e
 
 class_known : (c : Contents) → has_parameters c ≡ true → is_class c.class ≡ true
 class_known c e =
-    let a = both_true (is_class c.class && nat_le c.longest 65536 && nat_le c.significance 2) (not (is_fixed c && nat_eq c.longest 0)) e in
-    let b = both_true (is_class c.class && nat_le c.longest 65536) (nat_le c.significance 2) a.0 in
-    (both_true (is_class c.class) (nat_le c.longest 65536) b.0).0
+    let a = and_parts (is_class c.class && nat_le c.longest 65536 && nat_le c.significance 2) (not (is_fixed c && nat_eq c.longest 0)) e in
+    let b = and_parts (is_class c.class && nat_le c.longest 65536) (nat_le c.significance 2) a.0 in
+    (and_parts (is_class c.class) (nat_le c.longest 65536) b.0).0
 
 same_class : (c : Contents) (doc : DocType) (b : Bool) (k : Option Kind)
     → (if b then option_map (λ kind. record { kind = kind; class = c.class; longest = c.longest; is_fixed = is_fixed c }) k else None) ≡ Some doc
@@ -170,9 +170,9 @@ contents_told : (c : Contents) (doc : DocType) → doc_type c ≡ Some doc → I
 unfolding row_of
 contents_told c doc e =
     let has = has_doc c doc e in
-    let a = both_true (is_class c.class && nat_le c.longest 65536 && nat_le c.significance 2) (not (is_fixed c && nat_eq c.longest 0)) has.0 in
-    let b = both_true (is_class c.class && nat_le c.longest 65536) (nat_le c.significance 2) a.0 in
-    let d = both_true (is_class c.class) (nat_le c.longest 65536) b.0 in
+    let a = and_parts (is_class c.class && nat_le c.longest 65536 && nat_le c.significance 2) (not (is_fixed c && nat_eq c.longest 0)) has.0 in
+    let b = and_parts (is_class c.class && nat_le c.longest 65536) (nat_le c.significance 2) a.0 in
+    let d = and_parts (is_class c.class) (nat_le c.longest 65536) b.0 in
     let long : c.longest ≤ 65536 = leb-true c.longest 65536 d.1 in
     let some : c.significance ≤ 2 = leb-true c.significance 2 b.1 in
     let kind : IsTrue (is_oid c.kind) = is_true (is_oid c.kind) (known_oid c.kind (has.1).0 (has.1).1) in
@@ -480,7 +480,7 @@ module _ (state : State) (party : StandingParty) (moment : ℕ) (serves : CanSer
   requested_good : (request : Pdu) → is_built (messages.Pdu request) ≡ true → IsGood (requested state party moment request)
   unfolding row_of
   requested_good (InitializeRequest units identity password window) e =
-      let one : nat_eq window 1 ≡ true = (both_true (nat_eq units 15 && is_none identity && is_none password) (nat_eq window 1) e).1 in
+      let one : nat_eq window 1 ≡ true = (and_parts (nat_eq units 15 && is_none identity && is_none password) (nat_eq window 1) e).1 in
       concludes_good (messages.Pdu (InitializeRequest units identity password window)) _ [] Nothing (window_said units window one, tt) tt tt
   requested_good TerminateRequest e = record { said = (refl, tt); changes = tt; party = tt }
   requested_good (SelectRequest name actions controls password) e =

@@ -1,8 +1,8 @@
 -- Values that a document type takes make units of strings, and what is shown of these has values.
-use Rattle.std.proofs.Common.{◌≡◌, ℕ, zero, suc, ◌+◌, ◌-◌, ◌≤◌, Bool, true, false, cond, not, true≢false, List, [], ◌∷◌, ◌++◌, length, refl, ap, sym, ◌∙◌}
+use Rattle.std.proofs.Common.{◌≡◌, ℕ, zero, suc, ◌-◌, ◌≤◌, Bool, true, false, cond, not, true≢false, List, [], ◌∷◌, ◌++◌, length, refl, ap, sym, ◌∙◌}
 use Rattle.std.specs.Prelude.{◌&&◌, ◌||◌, nat_eq, nat_le, slice_get, Option, None, Some, IfSome, IsTrue, Result, Ok, Err, if◌then◌else◌}
 use Rattle.std.specs.List.{AllByRecursion, list_all}
-use Rattle.std.proofs.lemmas.Bool.{leb-true, eqb-true}
+use Rattle.std.proofs.lemmas.Bool.{leb-true, eqb-true, and_parts}
 use Rattle.vf_base.specs.declared.access.Constraint.{Constraint}
 use Rattle.vf_base.specs.declared.access.Constraint.TheVariants.{Unstructured, SequentialFlat}
 use Rattle.vf_base.specs.declared.access.Context.{Context}
@@ -22,7 +22,6 @@ use Rattle.vf_doctype.specs.declared.errors.DocError.TheVariants.{BadElement, To
 use Rattle.vf_elements.specs.ElementValue.{IsWritable}
 use Rattle.vf_elements.specs.Elements.{is_text}
 use Rattle.vf_elements.specs.Sizes.{IsShort}
-use Rattle.vf_fields.proofs.Plain.{both_true}
 use Rattle.vf_tree.specs.Contexts.{described, descriptor, one, reading, reading_flat, reading_one, reading_whole, shown, takes as takes_context, unit_there, whole}
 use Rattle.vf_tree.specs.Identities.{meant, standing}
 use Rattle.vf_tree.specs.FileTree.{DataUnit, FileTree, strings}
@@ -53,8 +52,8 @@ unfaulty false fitting e = absurd cc
 
 short : (doc : DocType) (count : ℕ) → fits doc count ≡ true → count ≤ 65536
 short doc count e =
-    let a = both_true (nat_le count 65536 && (nat_eq doc.longest 0 || nat_le count doc.longest)) (not doc.is_fixed || nat_eq count doc.longest) e in
-    leb-true count 65536 (both_true (nat_le count 65536) (nat_eq doc.longest 0 || nat_le count doc.longest) a.0).0
+    let a = and_parts (nat_le count 65536 && (nat_eq doc.longest 0 || nat_le count doc.longest)) (not doc.is_fixed || nat_eq count doc.longest) e in
+    leb-true count 65536 (and_parts (nat_le count 65536) (nat_eq doc.longest 0 || nat_le count doc.longest) a.0).0
 
 -- a string that is taken
 taken_string : (doc : DocType) → is_class doc.class ≡ true → (element : Element) → is_descriptor element ≡ false → fault doc element ≡ None → IsString element
@@ -63,8 +62,8 @@ taken_string doc known Enter plain e = untrue (unfaulty false true e).0
 taken_string doc known Exit plain e = untrue (unfaulty false true e).0
 taken_string doc known (Text class octets) plain e =
     let good = unfaulty (takes doc (Text class octets)) (fits doc (length octets)) e in
-    let a = both_true (takes_text doc.kind && nat_eq class doc.class) (list_all (is_octet class) octets) good.0 in
-    let same : class ≡ doc.class = eqb-true class doc.class (both_true (takes_text doc.kind) (nat_eq class doc.class) a.0).1 in
+    let a = and_parts (takes_text doc.kind && nat_eq class doc.class) (list_all (is_octet class) octets) good.0 in
+    let same : class ≡ doc.class = eqb-true class doc.class (and_parts (takes_text doc.kind) (nat_eq class doc.class) a.0).1 in
     (true_is (is_text class) (ap is_class same ∙ known), short doc (length octets) good.1)
 taken_string doc known (Binary octets) plain e = short doc (length octets) (unfaulty (not (takes_text doc.kind)) (fits doc (length octets)) e).1
 

@@ -6,7 +6,7 @@ use Rattle.vf_ber.specs.declared.room.Room.TheVariants.{Exact, Within}
 use Rattle.vf_ber.specs.Steps.{less}
 use Rattle.vf_scan.specs.declared.frames.Frame.{Frame}
 use Rattle.vf_scan.specs.declared.frames.Frame.TheVariants.{Definite, Indefinite}
-use Rattle.vf_scan.specs.Frames.{innermost_first, room_in, less_in, octets_in, ended_in}
+use Rattle.vf_scan.specs.Frames.{innermost_first, room_in, less_in, ended_in}
 
 -- ---- in an array
 
@@ -47,15 +47,6 @@ less-less (Within most) m n = ap Within (omega arith)
 pub less-zero : (room : Room) → less room 0 ≡ room
 less-zero (Exact most) = ap Exact (omega arith)
 less-zero (Within most) = ap Within (omega arith)
-
-pub less_in-less_in : (frames : List Frame) (m n : ℕ) → less_in (less_in frames m) n ≡ less_in frames (m + n)
-less_in-less_in [] m n = refl
-less_in-less_in (Definite left ∷ frames) m n = ap (λ k. Definite k ∷ frames) (omega arith)
-less_in-less_in (Indefinite room ∷ frames) m n = ap (λ r. Indefinite r ∷ frames) (less-less room m n)
-
-octets_less : (room : Room) (n : ℕ) → octets_in (less room n) ≡ octets_in room - n
-octets_less (Exact most) n = refl
-octets_less (Within most) n = refl
 
 -- Behind a value of an indefinite length that took so many octets, the two of its end among them, as many are left
 -- around it as if its length had been known.

@@ -7,7 +7,7 @@ use Rattle.std.proofs.lemmas.List.{take_all}
 use Rattle.vf_ber.specs.declared.fitting.Around.{Around}
 use Rattle.vf_ber.specs.declared.room.Room.{Room}
 use Rattle.vf_ber.specs.Reader.{digits_at, end_at, ended_at, parts_at, value_at}
-use Rattle.vf_ber.specs.Steps.{first_fits, length_fits, reaches, grown, less}
+use Rattle.vf_ber.specs.Steps.{first_fits, length_fits, reaches, grown}
 use Rattle.vf_ber.specs.Verdict.{bounded}
 use Rattle.vf_ber.proofs.Digits.{grown_step, grown_few, grown_more}
 use Rattle.vf_ber.proofs.NameSteps.{first_parts}
@@ -18,10 +18,9 @@ use Rattle.vf_scan.specs.declared.place.Next.{Next}
 use Rattle.vf_scan.specs.declared.place.Next.TheVariants as nexts
 use Rattle.vf_scan.specs.declared.place.Place.{Place}
 use Rattle.vf_scan.specs.declared.place.Place.TheVariants.{Start, Second, Third, Length, Digits, Contents, End}
-use Rattle.vf_scan.specs.Frames.{depth_in, end_room_in, ended_in, less_in, room_in}
+use Rattle.vf_scan.specs.Frames.{depth_in, end_room_in, ended_in, room_in}
 use Rattle.vf_scan.specs.Places.{IsGoing, IsOpen}
 use Rattle.vf_scan.specs.Outlook.{Wanting, Whole, left_outlook, after, then_outlook, value_outlook, contents_outlook, outlook_at, Leads}
-use Rattle.vf_scan.proofs.FrameLemmas.{less_in-less_in}
 use Rattle.vf_scan.proofs.ValueLemmas.{definite_goes_on, definite_ends, indefinite_goes_on, indefinite_ends, value_none, value_some, length_first, digit_first}
 
 -- ---- where a value begins
@@ -139,31 +138,6 @@ digit_next frames constructed front others high digit (room, near, some, le) sma
     }
 
 -- ---- contents
-
-pub header_indefinite : (frames : List Frame) (constructed : Bool) (front : ℕ) (room : Room) → room ≡ less (room_in frames) front
-    → Leads (λ more. contents_outlook frames front constructed None more) (nexts.At Start) (Indefinite room ∷ frames)
-header_indefinite frames constructed front room is = record { goes = λ more. ap (λ r. after (Indefinite r ∷ frames) more) (sym is); is_open = tt }
-
-pub header_definite : (frames lessened new : List Frame) (front n : ℕ) (next : Next) → lessened ≡ less_in (less_in frames front) n
-    → Leads (λ more. after (Definite n ∷ lessened) more) next new → Leads (λ more. contents_outlook frames front true (Some n) more) next new
-header_definite frames lessened new front n next is leads =
-    record { goes = λ more. ap (λ fs. after (Definite n ∷ fs) more) (sym (is ∙ less_in-less_in frames front n)) ∙ leads.goes more; is_open = leads.is_open }
-
-pub header_contents : (frames lessened : List Frame) (front n : ℕ) → 0 < n → lessened ≡ less_in (less_in frames front) n
-    → Leads (λ more. contents_outlook frames front false (Some n) more) (nexts.At (Contents n)) lessened
-header_contents frames lessened front n some is =
-    record { goes = λ more. ap (λ fs. cond (nat_lt (length more) n) Wanting (after fs (drop n more))) (sym (is ∙ less_in-less_in frames front n)); is_open = some }
-
-pub header_none : (frames lessened new : List Frame) (front n : ℕ) (next : Next) → n ≡ 0 → lessened ≡ less_in (less_in frames front) n
-    → Leads (λ more. after lessened more) next new → Leads (λ more. contents_outlook frames front false (Some n) more) next new
-header_none frames lessened new front n next none is leads =
-    record {
-      goes = λ more.
-          cond-false (nat_lt (length more) n) Wanting (after (less_in frames (front + n)) (drop n more)) (le-ltb (length more) n (omega arith))
-          ∙ ap (λ k. after (less_in frames (front + n)) (drop k more)) none
-          ∙ ap (λ fs. after fs more) (sym (is ∙ less_in-less_in frames front n)) ∙ leads.goes more;
-      is_open = leads.is_open;
-    }
 
 -- ---- behind a value
 

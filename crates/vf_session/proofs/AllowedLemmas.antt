@@ -1,5 +1,5 @@
 -- Each trace that is allowed is one that a session can stand for.
-use Rattle.std.proofs.Common.{◌≡◌, ◌+◌, ◌-◌, Bool, true, List, [], ◌∷◌, ◌++◌, refl, ap, sym, subst, arith}
+use Rattle.std.proofs.Common.{◌≡◌, Bool, true, List, [], ◌∷◌, ◌++◌, refl, ap, sym, subst, arith}
 use Rattle.vf_session.specs.declared.hearing.Hearing.TheVariants.{Tells}
 use Rattle.vf_spdu.specs.declared.spdu.Spdu.{Spdu}
 use Rattle.vf_session.specs.declared.standing.Standing.{Standing}

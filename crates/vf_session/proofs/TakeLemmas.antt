@@ -3,7 +3,7 @@ use Rattle.std.proofs.Common.{◌≡◌, true, None, List, [], ◌∷◌, ◌++�
 use Rattle.vf_session.specs.declared.errors.SessionError.{SessionError}
 use Rattle.vf_session.specs.declared.errors.SessionError.TheVariants as errors
 use Rattle.vf_session.specs.declared.hearing.Hearing.{Hearing}
-use Rattle.vf_session.specs.declared.hearing.Hearing.TheVariants.{Nothing, Tells, Faulty}
+use Rattle.vf_session.specs.declared.hearing.Hearing.TheVariants.{Tells, Faulty}
 use Rattle.vf_spdu.specs.declared.spdu.Spdu.{Spdu}
 use Rattle.vf_session.specs.declared.standing.Standing.{Standing}
 use Rattle.vf_session.specs.declared.units.SessionSay.{SessionSay}
@@ -19,12 +19,6 @@ same kept trace spdu x r h = ap (λ (s : Standing). hears kept.side s spdu) (sta
 
 meets : (kept : Kept) (trace : Trace) (told : List SessionSay) (kept' : Kept) (told' : List SessionSay) (x y : Hearing) → y ≡ x → MeetsHearing kept trace told kept' told' x → MeetsHearing kept trace told kept' told' y
 meets kept trace told kept' told' x y e m = let P : Hearing → Type 0 = λ x. MeetsHearing kept trace told kept' told' x in subst P (sym e) m
-
-pub takes-nothing : (kept : Kept) (spdu : Spdu) (told : List SessionSay) (kept' : Kept) (told' : List SessionSay) (trace : Trace)
-    → hears kept.side kept.standing spdu ≡ Nothing → kept' ≡ kept → told' ≡ told → Represents kept trace → Takes kept spdu told kept' told' trace (Ok tt)
-takes-nothing kept spdu told kept' told' trace h k t r =
-    let P : Kept → Type 0 = λ k. Represents k trace in
-    meets kept trace told kept' told' Nothing (hears kept.side (standing kept.side trace) spdu) (same kept trace spdu Nothing r h) (t, subst P (sym k) r)
 
 pub takes-tells : (kept : Kept) (spdu : Spdu) (told : List SessionSay) (kept' : Kept) (told' : List SessionSay) (trace : Trace) (unit : SessionSay)
     → hears kept.side kept.standing spdu ≡ Tells unit → Grows kept.side kept.standing unit → kept' ≡ kept_after (other kept.side) kept unit → told' ≡ told ++ unit ∷ [] → Represents kept trace

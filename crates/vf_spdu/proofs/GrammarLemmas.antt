@@ -9,7 +9,7 @@ use Rattle.vf_spdu.specs.declared.errors.SpduError.TheVariants.{Value}
 use Rattle.vf_spdu.specs.declared.spdu.Spdu.{Spdu}
 use Rattle.vf_spdu.specs.declared.table.Row.{Row}
 use Rattle.vf_spdu.specs.Fields.{with_value, taken_by, taken, taking}
-use Rattle.vf_spdu.specs.Grammar.{IsLength, AreJoined, AreOctets, Parameter, SpellsParameter, Element, single, group, SpellsElement, StandsIn, Filled, filled_with, filled_by, filled_in, filled, IsOfForm}
+use Rattle.vf_spdu.specs.Grammar.{IsLength, AreJoined, AreOctets, Parameter, SpellsParameter, single, group, SpellsElement, StandsIn, Filled, filled_with, filled_by, filled_in, IsOfForm}
 use Rattle.vf_spdu.specs.Numbers.{length_at}
 use Rattle.vf_spdu.specs.Parts.{Front, short, whole, front, front_by, parameter, Opening, parts_in, parts_by, parts_behind, inner, outer}
 use Rattle.vf_spdu.specs.Table.{row_at, fits, opens}

@@ -1,5 +1,5 @@
 -- A TSDU is read as SPDUs exactly where it holds them.
-use Rattle.std.proofs.Common.{◌≡◌, ℕ, suc, ◌+◌, ◌<◌, Bool, true, false, cond, nat_eq, List, [], ◌∷◌, ◌++◌, length, Option, Some, None, Result, Ok, Err, refl, ap, sym, subst, ◌∙◌, arith, append_assoc, get_or, Fits, w8}
+use Rattle.std.proofs.Common.{◌≡◌, ℕ, suc, ◌+◌, ◌<◌, Bool, true, false, cond, nat_eq, List, [], ◌∷◌, ◌++◌, length, Option, Some, None, Result, Ok, refl, ap, sym, subst, ◌∙◌, arith, append_assoc, get_or, Fits, w8}
 use Rattle.std.proofs.lemmas.Bool.Decides.{nat_tests}
 use Rattle.std.proofs.lemmas.List.{append-nil}
 use Rattle.std.specs.List.{AllByRecursion}
@@ -14,7 +14,7 @@ use Rattle.vf_spdu.specs.Kinds.{code_of, first_kind, second_kind}
 use Rattle.vf_spdu.specs.Parts.{Front, short, whole, front, parts, outer}
 use Rattle.vf_spdu.specs.Reading.{Behind, assembled, behind, is_dt, is_gt, one, one_by, nothing_behind, second, second_by, follows, first_by, reading}
 use Rattle.vf_spdu.specs.Table.{rows}
-use Rattle.vf_spdu.proofs.AfterLemmas.{after, after-bare, says, complete-there, there-complete}
+use Rattle.vf_spdu.proofs.AfterLemmas.{after-bare, says, complete-there, there-complete}
 use Rattle.vf_spdu.proofs.FrontLemmas.{indicates, front-unit}
 use Rattle.vf_spdu.proofs.GrammarLemmas.{all-split, fronted, joined-sound, joined-full, element-sound, element-full}
 use Rattle.vf_spdu.proofs.ReadableLemmas.{bound, is_ok}

@@ -63,9 +63,6 @@ pub record Left (opened : Opening) (place : ℕ) (octets : List ℕ) (spdu : Spd
   pub within : at + length rest ≤ place + length octets
   pub kind : now.kind ≡ spdu.kind
 
-pub left-start : (opened : Opening) (place : ℕ) (octets : List ℕ) (spdu : Spdu) → Left opened place octets spdu place octets spdu
-left-start opened place octets spdu = record { same = refl; within = omega arith; kind = refl }
-
 split : (rest : List ℕ) → 0 < length rest → rest ≡ get_or (take 1 rest) 0 0 ∷ drop 1 rest
 split [] h = absurd (omega arith)
 split (x ∷ rest) h = refl

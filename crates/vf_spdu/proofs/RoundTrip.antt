@@ -68,10 +68,6 @@ takes-connect-data fields (x ∷ o) h =
 
 -- ---- serial numbers
 
-numbered : (b : Bool) (x y : Spdu) (e : SpduError) → b ≡ true → x ≡ y → (let r : Result Spdu SpduError = cond b (Ok x) (Err e) in r >>= (λ s. taking s [])) ≡ Ok y
-numbered true x y e h i = ap (λ (s : Spdu). Ok s) i
-numbered false x y e h i = absurd cc
-
 takes-number : (opened : Opening) (code n : ℕ) (rest : List ℕ) (s s'' : Spdu) (f : ℕ → Spdu) → n ≤ last_serial
     → ((at : ℕ) (v : List ℕ) → fits Digits v ≡ true → taking s (opened at code v) ≡ Ok (f (number v)))
     → TakesTo opened rest (f n) s'' → TakesTo opened (spelled code (digits n) ++ rest) s s''

@@ -9,9 +9,6 @@ use Rattle.vf_tables.specs.declared.changes.Change.TheVariants.{PutFile}
 use Rattle.vf_attr.specs.declared.file.File.{File}
 use Rattle.vf_tables.specs.Files.{after_changes, file_named, named_file, with_file}
 
-abbrev pub name_of : File → List ℕ
-name_of file = file.name
-
 abbrev pub IsKeyed : List (List ℕ × File) → Type 0
 IsKeyed es = keys_of es ≡ map (λ (file : File). file.name) (values_of es)
 

@@ -39,9 +39,6 @@ any-snoc : (p : List ℕ → Bool) (ts : List (List ℕ)) (t : List ℕ) → lis
 any-snoc p [] t = or-false (p t)
 any-snoc p (x ∷ ts) t = ap (λ (b : Bool). p x || b) (any-snoc p ts t) ∙ sym (or_assoc (p x) (list_any p ts) (p t))
 
-phase-first : (t : List ℕ) → phase_of (t ∷ []) ≡ Standing (most_by t)
-phase-first t = refl
-
 phase-same : (ts : List (List ℕ)) (t : List ℕ) (most : ℕ) → is_end t ≡ false → phase_of ts ≡ Standing most → phase_of (ts ++ t ∷ []) ≡ phase_of ts
 phase-same [] t most e h = cc
 phase-same (x ∷ ts) t most e h = rw (any-snoc is_end ts t, e, or-false (list_any is_end ts)) refl

@@ -1,11 +1,11 @@
 -- The steps of hearing a stream, put together.
-use Rattle.std.proofs.Common.{◌≡◌, ℕ, zero, suc, ◌<◌, ◌≤◌, List, [], ◌++◌, length, drop, refl, ap, sym, subst, ◌∙◌, arith, Option, Some, None, Result, Ok, Err, inl, inr, append_assoc, append-nil, OnOk}
+use Rattle.std.proofs.Common.{◌≡◌, ℕ, zero, suc, ◌<◌, ◌≤◌, List, [], ◌++◌, drop, refl, ap, sym, subst, ◌∙◌, arith, Option, None, Result, Ok, Err, inl, inr, append_assoc, append-nil, OnOk}
 use Rattle.vf_tpkt.specs.declared.error.TpktError.{TpktError}
 use Rattle.vf_tpkt.specs.declared.phase.Side.{Side}
 use Rattle.vf_tpkt.specs.declared.unit.Unit.{Unit as Told}
-use Rattle.vf_tpkt.specs.Hearing.{Progress, part, bad, whole, front, Reading, Kept, resting, stopping, stopped, preceded, behind_tpdu, hearing, checked, after, units_of, onward, onward_from, hears, beginning}
+use Rattle.vf_tpkt.specs.Hearing.{Progress, part, bad, whole, front, Reading, Kept, resting, stopping, preceded, behind_tpdu, hearing, checked, after, units_of, onward, hears, beginning}
 use Rattle.vf_tpkt.specs.Pieces.{Extends, TellsFront, Tells, TellsPiece}
-use Rattle.vf_tpkt.specs.Steps.{HearsTpdu, FitsOne, WantsSome, Stops, Onward, Looks}
+use Rattle.vf_tpkt.specs.Steps.{HearsTpdu, WantsSome, Stops, Onward, Looks}
 use Rattle.vf_tpkt.specs.Tpdu.{answer_of}
 use Rattle.vf_tpkt.proofs.HearingLemmas.{hearing-front, front-whole, front-bad, pieces}
 
@@ -81,35 +81,6 @@ pub part-wants : (place count : ℕ) (packet : List ℕ) → front place packet 
 part-wants place zero packet e h = cc
 part-wants place (suc count) packet e h = omega arith
 
-pub wants-fits : (place count : ℕ) (packet more : List ℕ) → front place packet ≡ part → WantsSome place packet count → length more ≤ count → FitsOne (packet ++ more)
-wants-fits place zero packet more e h n = cc
-wants-fits place (suc count) packet more e h n = h.1 more n
-
-pub onward-begins : (p : Progress) (packet rest : List ℕ) (told : List Told) (answered : List ℕ) → front p.place packet ≡ part → Onward p (packet ++ rest) told answered p packet rest told answered
-onward-begins p packet rest told answered e =
-    record { same = refl; begun = e; units = same-extends told told refl; answers = same-extends answered answered refl }
-
-pub onward-onward : (p q s : Progress) (octets packet rest packet' rest' : List ℕ) (told told1 told' : List Told) (answered answered1 answered' : List ℕ) → Onward p octets told answered q packet rest told1 answered1 → Onward q (packet ++ rest) told1 answered1 s packet' rest' told' answered' → Onward p octets told answered s packet' rest' told' answered'
-onward-onward p q s octets packet rest packet' rest' told told1 told' answered answered1 answered' a b =
-    record { same = a.same ∙ b.same; begun = b.begun; units = extends-twice told told1 told' a.units b.units; answers = extends-twice answered answered1 answered' a.answers b.answers }
-
-pub onward-stops : (p q s : Progress) (octets packet rest : List ℕ) (told told1 told' : List Told) (answered answered1 answered' : List ℕ) (fault : TpktError) → Onward p octets told answered q packet rest told1 answered1 → Stops (hearing q (packet ++ rest)) told1 answered1 s told' answered' fault → Stops (hearing p octets) told answered s told' answered' fault
-onward-stops p q s octets packet rest told told1 told' answered answered1 answered' fault a b =
-    elim b [
-      | inl stopped ↦ inl (a.same ∙ stopped)
-      | inr wanting ↦
-          (let f = wanting.1 in
-          inr (
-            wanting.0,
-            record {
-              units = extends-twice told told1 told' a.units f.units;
-              others = (f.others.0, ap (λ (r : Reading). r.units) a.same ∙ f.others.1);
-              answers = extends-twice answered answered1 answered' a.answers f.answers;
-              other_answers = (f.other_answers.0, ap (λ (r : Reading). r.answers) a.same ∙ f.other_answers.1);
-            },
-          ))
-    ]
-
 -- what was heard of a piece, as the end keeps it
 pub tells-all : (p q : Progress) (octets packet : List ℕ) (told told' : List Told) (answered answered' : List ℕ) → Onward p octets told answered q packet [] told' answered' → Tells (hearing p octets) told answered (record { connection = q; packet = packet; fault = None }) told' answered' (Ok tt)
 tells-all p q octets packet told told' answered answered' h =
@@ -118,20 +89,6 @@ tells-all p q octets packet told told' answered answered' h =
       ap (λ (r : Reading). r.kept.fault) rests,
       record { units = sym (ap (λ (r : Reading). r.units) rests); answers = sym (ap (λ (r : Reading). r.answers) rests); keeps = sym (ap (λ (r : Reading). r.kept) rests) },
     )
-
-pub tells-stops : (r : Reading) (q : Progress) (told told' : List Told) (answered answered' : List ℕ) (fault : TpktError) → Stops r told answered q told' answered' fault → Tells r told answered (stopped q fault) told' answered' (Err fault)
-tells-stops r q told told' answered answered' fault h =
-    elim h [
-      | inl ends ↦ inl (ap (λ (r : Reading). r.kept.fault) ends, record { units = sym (ap (λ (r : Reading). r.units) ends); answers = sym (ap (λ (r : Reading). r.answers) ends); keeps = sym (ap (λ (r : Reading). r.kept) ends) })
-      | inr wanting ↦ inr (wanting.0, ap Some wanting.0, wanting.1)
-    ]
-
--- nothing is told behind a fault
-pub tells-nothing : (kept : Kept) (piece : List ℕ) (told : List Told) (answered : List ℕ) (fault : TpktError) → kept.fault ≡ Some fault → Tells (onward kept piece) told answered kept told answered (Err fault)
-tells-nothing kept piece told answered fault e =
-    let P : Reading → Type 0 = λ r. Tells r told answered kept told answered (Err fault) in
-    let none : onward kept piece ≡ record { units = []; answers = []; kept = kept } = ap (λ (f : Option TpktError). onward_from kept piece f) e in
-    subst P (sym none) (inl (e, record { units = sym (append-nil told); answers = sym (append-nil answered); keeps = refl }))
 
 pub tells-piece : (side : Side) (stream piece : List ℕ) (kept0 kept : Kept) (told told' : List Told) (answered answered' : List ℕ) (result : Result (Unit {0}) TpktError) → kept0 ≡ (hears side stream).kept → Tells (onward kept0 piece) told answered kept told' answered' result → TellsPiece side stream piece told answered kept told' answered' result
 tells-piece side stream piece kept0 kept told told' answered answered' result e h =

@@ -3,6 +3,7 @@ use Rattle.std.proofs.Common.{◌≡◌, Bool, true, false, List, [], ◌∷◌,
 use Rattle.std.specs.Prelude.{Ok}
 use Rattle.std.specs.List.{list_all}
 use Rattle.std.proofs.lemmas.List.Elements.{All-cons, All-head, All-nil}
+use Rattle.std.proofs.lemmas.Bool.{and_parts}
 use Rattle.vf_base.specs.declared.spdu_kind.SpduKind.TheVariants.{RS}
 use Rattle.vf_ber.specs.Limits.{IsTooLarge}
 use Rattle.vf_ber.specs.Spelling.{spell}
@@ -16,7 +17,7 @@ use Rattle.vf_upper.specs.Primitives.{offered, Standing}
 use Rattle.vf_upper.specs.Written.{accepted, has_pdu, holding, is_empty, IsWritable, universal, written}
 use Rattle.vf_upper.proofs.Marked.{marks_of}
 use Rattle.vf_upper.proofs.Parts.{first_of, is_low}
-use Rattle.vf_upper.proofs.Readings.{both, IsSound, Reads, typed-reads}
+use Rattle.vf_upper.proofs.Readings.{IsSound, Reads, typed-reads}
 use Rattle.vf_upper.proofs.TypesRead.{acse_data-reads, all_data-reads, aru-reads, cp-reads, cpa-reads, cpr-reads, resynchronization-reads, rlre-reads, rlrq-reads}
 use Rattle.vf_upper.proofs.WrittenTrees.{acse_id-fits, sequence-tree, written-tree}
 use Rattle.vf_userdata.specs.declared.labels.NumberLabel.{NumberLabel}
@@ -61,7 +62,7 @@ refused-found results values contexts is are has small =
 pub written_found : (p : Primitive) (contexts : List ContextEntry) → IsPrimitive p → AreContexts contexts → IsWritable p contexts → is_empty p ≡ false
     → found_in (cargo_of (carrier_of p)) (spell (written p contexts)) ≡ Ok (marks_of p contexts)
 written_found (Associate offers values) contexts is are writable some =
-    let placed = both (list_all (λ offer. offer.ber) offers) (has_pdu (map offered offers) contexts PciContext values) writable.placed in
+    let placed = and_parts (list_all (λ offer. offer.ber) offers) (has_pdu (map offered offers) contexts PciContext values) writable.placed in
     pdu-found (types.universal 17) types.cp (Associate offers) contexts (λ v is_v. cp-reads offers contexts v is.0 (acse_id-fits contexts are) is_v)
     (map offered offers) PciContext values placed.1 is.1 refl refl is writable.small
 written_found (Accepted results values) contexts is are writable some =

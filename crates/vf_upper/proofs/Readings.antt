@@ -5,6 +5,7 @@ use Rattle.std.specs.List.{list_all, list_any}
 use Rattle.std.specs.Option.{option_and_then}
 use Rattle.std.proofs.lemmas.List.{drop_all}
 use Rattle.std.proofs.lemmas.List.Elements.{All-cons, All-head, All-nil, All-tail}
+use Rattle.std.proofs.lemmas.Bool.{and_parts}
 use Rattle.vf_base.specs.Oid.{IsOid}
 use Rattle.vf_ber.specs.Contents.{integer_octets, oid_octets}
 use Rattle.vf_ber.specs.Limits.{IsTooLarge}
@@ -47,14 +48,10 @@ sound-parts tag ts sound = let is = sound.is_tree in sound-in ts is.1 (small-par
 abbrev pub are_low : List Tree → Bool
 are_low ts = list_all (λ tree. is_low (root tree)) ts
 
-pub both : (a b : Bool) → (a && b) ≡ true → (a ≡ true) × (b ≡ true)
-both true b e = (refl, e)
-both false b e = absurd (cc)
-
 low-trees : (ts : List Tree) → are_low ts ≡ true → All IsLow ts
 low-trees [] low = All-nil IsLow
 low-trees (tree ∷ ts) low =
-    let each = both (is_low (root tree)) (are_low ts) low in
+    let each = and_parts (is_low (root tree)) (are_low ts) low in
     All-cons IsLow tree ts (low-by tree each.0) (low-trees ts each.1)
 
 -- ---- what readings find, whatever was found before

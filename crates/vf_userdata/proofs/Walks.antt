@@ -1,7 +1,8 @@
 -- The walk over parts, one by one.
 use Rattle.std.proofs.Common.{◌≡◌, ℕ, ◌<◌, ◌≤◌, Bool, true, false, List, [], ◌∷◌, refl, ap, sym, subst, ◌∙◌, arith}
-use Rattle.std.specs.Prelude.{◌&&◌, nat_lt, Option, None, Some, Result, Ok, Err, if◌then◌else◌}
+use Rattle.std.specs.Prelude.{nat_lt, Option, None, Some, Result, Ok, Err, if◌then◌else◌}
 use Rattle.std.proofs.lemmas.Bool.Decides.{nat_tests}
+use Rattle.std.proofs.lemmas.Bool.{and_parts}
 use Rattle.vf_base.specs.declared.spdu_kind.SpduKind.{SpduKind}
 use Rattle.vf_userdata.specs.declared.form.Field.{Field}
 use Rattle.vf_userdata.specs.declared.marks.Stop.{Stop}
@@ -130,17 +131,13 @@ constructed-good read part found e = ap (λ b. if_found b (read (parts_of part.c
 
 -- ---- ranks
 
-and_true : (a b : Bool) → (a && b) ≡ true → (a ≡ true) × (b ≡ true)
-and_true true b e = (refl, e)
-and_true false b e = absurd (cc)
-
 lt_true : (m n : ℕ) → nat_lt m n ≡ true → m < n
 lt_true m n e = grind (arith, nat_tests)
 
 pub most-below : (bound : ℕ) (fields : List Field) → are_below bound fields ≡ true → most fields ≤ bound
 most-below bound [] e = omega arith
 most-below bound (field ∷ fields) e =
-    let both = and_true (nat_lt (rank field.form) bound) (are_below bound fields) e in
+    let both = and_parts (nat_lt (rank field.form) bound) (are_below bound fields) e in
     let here : rank field.form < bound = lt_true (rank field.form) bound both.0 in
     let there : most fields ≤ bound = most-below bound fields both.1 in
     omega arith

@@ -2,7 +2,7 @@ use Rattle.std.proofs.Common.{◌≡◌, ◌∷◌, List, [], get_or, arith, ◌
 use Rattle.std.proofs.lemmas.Bool.Decides.{nat_tests}
 use Rattle.std.proofs.lemmas.Result.{err_from_is_err_and}
 use Rattle.vf_spdu.specs.Parts.{inner, parameter}
-use Rattle.vf_spdu.specs.Fields.{taking, taken}
+use Rattle.vf_spdu.specs.Fields.{taken}
 use Rattle.vf_spdu.proofs.PartLemmas.{left-cut_fails, left-fails, left-goes_on, left-end, rest-split, taking-one}
 use Rattle.vf_spdu.proofs.parts.take_item.Goals as goal
 use Rattle.vf_spdu.proofs.parts.take_item.Goals.{After-value_at}
