@@ -3,6 +3,7 @@ pub mod Chains
 pub mod Digits
 pub mod Fits
 pub mod Integers
+pub mod Kept
 pub mod Lists
 pub mod Measures
 pub mod NameSteps

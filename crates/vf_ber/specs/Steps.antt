@@ -154,6 +154,10 @@ Contents most room front name None limits octets tree =
 
 -- ---- answers
 
+-- octets that others end with
+abbrev pub Ends : List ℕ → List ℕ → Type 0
+Ends all octets = (front : List ℕ) × (all ≡ front ++ octets)
+
 -- some word begins with the octets
 abbrev pub Open : {X : Type 0} → Language X → Limits → List ℕ → Type 0
 Open {X} L limits octets = (rest : List ℕ) × (x : X) × L limits (octets ++ rest) x

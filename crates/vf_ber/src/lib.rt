@@ -27,7 +27,7 @@ pub use laws::{
     written_is_read_again,
 };
 pub use primitive::{boolean, integer, oid};
-pub use reader::read;
+pub use reader::{read, read_shared};
 pub use room::{Asked, Room};
 pub use segments::octets;
 pub use tag::Tag;

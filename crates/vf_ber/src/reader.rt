@@ -1,7 +1,7 @@
 //! Reading a value: octet by octet, each asked whether a value can still be completed behind it.
-ghost use Rattle.std.specs.Prelude.{◌≡◌, ◌≢◌, ◌+◌, ◌-◌, ◌*◌, ◌≤◌, ◌<◌, ◌^◌, ◌∷◌, IfErr, IfOk, length, true, false, Some, None};
+ghost use Rattle.std.specs.Prelude.{◌≡◌, ◌≢◌, ◌+◌, ◌-◌, ◌*◌, ◌≤◌, ◌<◌, ◌^◌, ◌∷◌, IfErr, IfOk, IfSome, length, take, true, false, Some, None};
 ghost use Rattle.vf_ber.specs.Results.{IsAnswer};
-ghost use Rattle.vf_ber.specs.Steps.{Contents, Definite, Ended, Failed, fits, Got, has_depth, IsNoEnd, less as less_of, Parts, size_fits, Values as ValuesIn};
+ghost use Rattle.vf_ber.specs.Steps.{Contents, Definite, Ended, Ends, Failed, fits, Got, has_depth, IsNoEnd, less as less_of, Parts, size_fits, Values as ValuesIn};
 ghost use Rattle.vf_ber.specs.Verdict.{bounded};
 ghost use Rattle.vf_ber.specs.Views.{name_of as said, tag_of, tree_of};
 
@@ -11,7 +11,7 @@ use crate::header::{Name, first_of, name_of, size_of};
 use crate::room::Room;
 use crate::{BerError, Tag, Value, Values};
 use std::alloc::Global;
-use vf_base::Octets;
+use vf_base::{NoMemory, Octets};
 
 /// Reads the value that the octets begin with, and says how many octets it took.
 ///
@@ -23,10 +23,26 @@ use vf_base::Octets;
 pub fn read(alloc: Global, octets: &[u8]) -> Result<(Value, usize), BerError>
     ensures { IsAnswer result octets.now }
 {
+    read_of(alloc, None, octets)
+}
+
+/// Reads the value that the octets begin with, and says how many octets it took, as `read` does; its octets are not
+/// copied, but shared with these.
+pub fn read_shared(alloc: Global, octets: &Octets) -> Result<(Value, usize), BerError>
+    ensures { IsAnswer result octets.now }
+{
+    read_of(alloc, Some(octets), octets.as_slice())
+}
+
+/// Reads a value out of octets, which end those that are kept, where some are: its octets are then shared with them.
+fn read_of(alloc: Global, kept: Option<&Octets>, octets: &[u8]) -> Result<(Value, usize), BerError>
+    requires { IfSome kept (λ all. Ends all.now octets.now) }
+    ensures { IsAnswer result octets.now }
+{
     let Some((first, behind)) = first_of(octets) else {
         return Err(BerError::Short);
     };
-    match value_of(alloc, first, behind, 32, Room::Within(1_048_576)) {
+    match value_of(alloc, kept, first, behind, 32, Room::Within(1_048_576)) {
         Ok((value, rest)) => Ok((value, octets.len() - rest.len())),
         Err(Fault::Short) => Err(BerError::Short),
         Err(Fault::Bad(left)) => Err(BerError::Bad {
@@ -44,13 +60,15 @@ pub fn read(alloc: Global, octets: &[u8]) -> Result<(Value, usize), BerError>
 
 /// Reads a value, and gives what is behind it.
 #[cycle(read_value)]
-fn value_of(
+fn value_of<'a>(
     alloc: Global,
+    kept: Option<&Octets>,
     first: u8,
-    behind: &[u8],
+    behind: &'a [u8],
     depth: u32,
     room: Room,
-) -> Result<(Value, &[u8]), Fault>
+) -> Result<(Value, &'a [u8]), Fault>
+    requires kept { IfSome kept (λ all. Ends all.now (first ∷ behind.now)) }
     ensures got { IfOk result (λ x. Got (ValuesIn depth room) (first ∷ behind.now) (tree_of x.0) x.1.now) }
     ensures failed { IfErr result (λ e. Failed (ValuesIn depth room) (first ∷ behind.now) e) }
 {
@@ -63,20 +81,22 @@ fn value_of(
     };
     let (size, contents) = size_of(rest, around)?;
     let front = (behind.len() + 1 - contents.len()) as u64;
-    contents_of(alloc, contents, depth, room, front, name, size)
+    contents_of(alloc, kept, contents, depth, room, front, name, size)
 }
 
 /// Reads the contents of a value behind its identifier and its length.
 #[cycle(read_value)]
-fn contents_of(
+fn contents_of<'a>(
     alloc: Global,
-    octets: &[u8],
+    kept: Option<&Octets>,
+    octets: &'a [u8],
     depth: u32,
     room: Room,
     front: u64,
     name: Name,
     size: Option<u64>,
-) -> Result<(Value, &[u8]), Fault>
+) -> Result<(Value, &'a [u8]), Fault>
+    requires kept { IfSome kept (λ all. Ends all.now octets.now) }
     requires deep { has_depth bounded depth ≡ true }
     requires fits { size_fits bounded depth room front name.constructed size ≡ true }
     ensures got { IfOk result (λ x. Got (Contents depth room front (said name) size) octets.now (tree_of x.0) x.1.now) }
@@ -84,32 +104,72 @@ fn contents_of(
 {
     let tag = name.tag;
     let Some(n) = size else {
-        let (ended, rest) = ended_of(alloc, octets, depth - 1, less(room, front))?;
+        let (ended, rest) = ended_of(alloc, kept, octets, depth - 1, less(room, front))?;
         return Ok((Value::Built { tag, parts: ended }, rest));
     };
     if name.constructed {
-        let (parts, rest) = parts_of(alloc, octets, depth - 1, n)?;
+        let (parts, rest) = parts_of(alloc, kept, octets, depth - 1, n)?;
         return Ok((Value::Built { tag, parts }, rest));
     }
-    plain_of(alloc, octets, tag, n)
+    plain_of(alloc, kept, octets, tag, n)
 }
 
 /// Takes the contents of a primitive value, which are `n` octets.
-fn plain_of(alloc: Global, octets: &[u8], tag: Tag, n: u64) -> Result<(Value, &[u8]), Fault>
+fn plain_of<'a>(
+    alloc: Global,
+    kept: Option<&Octets>,
+    octets: &'a [u8],
+    tag: Tag,
+    n: u64,
+) -> Result<(Value, &'a [u8]), Fault>
+    requires kept { IfSome kept (λ all. Ends all.now octets.now) }
     ensures got { IfOk result (λ x. Got (Definite 0 n false (tag_of tag)) octets.now (tree_of x.0) x.1.now) }
     ensures failed { IfErr result (λ e. Failed (Definite 0 n false (tag_of tag)) octets.now e) }
 {
     if (octets.len() as u64) < n {
         return Err(Fault::Short);
     }
-    let (content, rest) = octets.split_at(n as usize);
-    let octets = Octets::of(alloc, content)?;
-    Ok((Value::Plain { tag, octets }, rest))
+    let content = content_of(alloc, kept, octets, n as usize)?;
+    let (_, rest) = octets.split_at(n as usize);
+    Ok((
+        Value::Plain {
+            tag,
+            octets: content,
+        },
+        rest,
+    ))
+}
+
+/// The first `n` octets, shared or copied.
+fn content_of(
+    alloc: Global,
+    kept: Option<&Octets>,
+    octets: &[u8],
+    n: usize,
+) -> Result<Octets, NoMemory>
+    requires within { n ≤ length octets.now }
+    requires kept { IfSome kept (λ all. Ends all.now octets.now) }
+    ensures { IfOk result (λ made. made ≡ take n octets.now) }
+{
+    match kept {
+        Some(all) => all.slice(all.len() - octets.len(), n),
+        None => {
+            let (content, _) = octets.split_at(n);
+            Octets::of(alloc, content)
+        }
+    }
 }
 
 /// Reads values in turn that take `len` octets.
 #[cycle(read_value)]
-fn parts_of(alloc: Global, octets: &[u8], depth: u32, len: u64) -> Result<(Values, &[u8]), Fault>
+fn parts_of<'a>(
+    alloc: Global,
+    kept: Option<&Octets>,
+    octets: &'a [u8],
+    depth: u32,
+    len: u64,
+) -> Result<(Values, &'a [u8]), Fault>
+    requires kept { IfSome kept (λ all. Ends all.now octets.now) }
     requires some { len ≢ 1 }
     requires deep { 0 < len → 0 < depth }
     ensures got { IfOk result (λ x. Got (Parts depth len) octets.now x.0 x.1.now) }
@@ -122,7 +182,7 @@ fn parts_of(alloc: Global, octets: &[u8], depth: u32, len: u64) -> Result<(Value
         let Some((first, behind)) = first_of(rest) else {
             return Err(Fault::Short);
         };
-        let (part, after) = value_of(alloc, first, behind, depth, Room::Exact(left))?;
+        let (part, after) = value_of(alloc, kept, first, behind, depth, Room::Exact(left))?;
         parts.push(part)?;
         left -= (rest.len() - after.len()) as u64;
         rest = after;
@@ -132,8 +192,15 @@ fn parts_of(alloc: Global, octets: &[u8], depth: u32, len: u64) -> Result<(Value
 
 /// Reads values in turn up to the end of contents.
 #[cycle(read_value)]
-fn ended_of(alloc: Global, octets: &[u8], depth: u32, room: Room) -> Result<(Values, &[u8]), Fault>
-    requires { fits bounded room 2 ≡ true }
+fn ended_of<'a>(
+    alloc: Global,
+    kept: Option<&Octets>,
+    octets: &'a [u8],
+    depth: u32,
+    room: Room,
+) -> Result<(Values, &'a [u8]), Fault>
+    requires kept { IfSome kept (λ all. Ends all.now octets.now) }
+    requires roomy { fits bounded room 2 ≡ true }
     ensures got { IfOk result (λ x. Got (Ended depth room) octets.now x.0 x.1.now) }
     ensures failed { IfErr result (λ e. Failed (Ended depth room) octets.now e) }
 {
@@ -145,7 +212,7 @@ fn ended_of(alloc: Global, octets: &[u8], depth: u32, room: Room) -> Result<(Val
             let after = end_of(behind)?;
             return Ok((parts, after));
         }
-        let (part, after) = value_of(alloc, first, behind, depth, less(room, 2))?;
+        let (part, after) = value_of(alloc, kept, first, behind, depth, less(room, 2))?;
         parts.push(part)?;
         room = less(room, (rest.len() - after.len()) as u64);
         rest = after;

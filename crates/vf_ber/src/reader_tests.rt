@@ -41,6 +41,35 @@ fn reads_every_form(rt: HostRuntime) -> Result<(), Fail> {
 }
 
 #[test]
+fn shares_octets(rt: HostRuntime) -> Result<(), Fail> {
+    // in a definite length and in an indefinite one, and behind other octets
+    let all = vf_base::Octets::of(
+        rt.alloc(),
+        &[
+            0xff, 0x30, 0x0b, 0x04, 0x02, 0x07, 0x08, 0x30, 0x80, 0x04, 0x01, 0x09, 0x00, 0x00,
+            0xff,
+        ],
+    )?;
+    let octets = all.slice(1, 14)?;
+    let (value, n) = read_shared(rt.alloc(), &octets).ok().ok_or("a value")?;
+    assert_eq!(rt; n, 13);
+    let mut out = Vec::new(rt.alloc());
+    write(rt.alloc(), &value, &mut out)
+        .ok()
+        .ok_or("within the limits")?;
+    assert_eq!(rt;
+        out.as_slice(),
+        [
+            0x30, 0x09, 0x04, 0x02, 0x07, 0x08, 0x30, 0x03, 0x04, 0x01, 0x09
+        ]
+        .as_slice()
+    );
+    let short = all.slice(1, 12)?;
+    assert!(rt; matches!(read_shared(rt.alloc(), &short), Err(BerError::Short)));
+    Ok(())
+}
+
+#[test]
 fn waits_for_octets(rt: HostRuntime) {
     let rows: [&[u8]; 9] = [
         &[],

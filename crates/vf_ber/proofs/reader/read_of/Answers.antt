@@ -5,7 +5,7 @@ use Rattle.vf_ber.specs.declared.room.Room.TheVariants.{Within}
 use Rattle.vf_ber.specs.Steps.{Failed, Values}
 use Rattle.vf_ber.specs.Verdict.{IsVerdict, Short}
 use Rattle.vf_ber.proofs.Verdicts.{none_short, bad_verdict, deep_verdict, long_verdict}
-use Rattle.vf_ber.proofs.reader.read.Goals as goal
+use Rattle.vf_ber.proofs.reader.read_of.Goals as goal
 
 failed_on : (octets others : List ℕ) (fault other : Fault) → octets ≡ others → fault ≡ other → Failed (Values 32 (Within 1048576)) others fault → Failed (Values 32 (Within 1048576)) octets other
 failed_on octets others fault other o e f =
