@@ -1,14 +1,12 @@
 -- Values in turn: as many turns as there are octets are enough.
-use Rattle.std.proofs.Common.{◌≡◌, ℕ, zero, suc, ◌+◌, ◌<◌, ◌≤◌, Bool, true, false, not, List, [], ◌∷◌, length, drop, refl, ap, sym, ◌∙◌, arith}
-use Rattle.std.specs.Prelude.{nat_eq, Ok, Err}
+use Rattle.std.proofs.Common.{◌≡◌, ℕ, zero, suc, ◌+◌, ◌<◌, ◌≤◌, Bool, true, false, List, [], ◌∷◌, length, drop, refl, ap, sym, ◌∙◌, arith}
+use Rattle.std.specs.Prelude.{nat_lt, take, Ok, Err}
 use Rattle.std.proofs.lemmas.Bool.Decides.{nat_tests}
-use Rattle.std.proofs.lemmas.List.{length-drop}
+use Rattle.std.proofs.lemmas.List.{drop-drop, length-drop, length-take-le}
 use Rattle.vf_ber.specs.Reader.{verdict}
 use Rattle.vf_ber.specs.Verdict.{IsVerdict, Verdict, Read, Short, Bad, Deep, Long}
 use Rattle.vf_ber.proofs.OneTree.{spelling_long}
 use Rattle.vf_ber.proofs.Plain.{verdict_found}
-use Rattle.std.proofs.lemmas.List.{length-take-le}
-use Rattle.std.specs.Prelude.{take}
 use Rattle.vf_userdata.specs.declared.marks.Stop.{Stop}
 use Rattle.vf_userdata.specs.declared.marks.Stop.TheVariants.{At, NoMemory}
 use Rattle.vf_userdata.specs.CargoViews.{IsNext}
@@ -80,16 +78,20 @@ abbrev pub left : Bool → ℕ → List ℕ → List Mark → Found
 left true at rest found = some_at at rest found
 left false at rest found = Ok found
 
-go-left : (at : ℕ) (rest : List ℕ) (found : List Mark) → go_on some_at at rest found ≡ left (not (nat_eq (length rest) 0)) at rest found
+go-left : (at : ℕ) (rest : List ℕ) (found : List Mark) → go_on some_at at rest found ≡ left (nat_lt 0 (length rest)) at rest found
 go-left at [] found = refl
 go-left at (octet ∷ octets) found =
-    let some : nat_eq (length (octet ∷ octets)) 0 ≡ false = grind (arith, nat_tests) in
-    ap (λ b. left (not b) at (octet ∷ octets) found) (sym some)
+    let some : nat_lt 0 (length (octet ∷ octets)) ≡ true = grind (arith, nat_tests) in ap (λ b. left b at (octet ∷ octets) found) (sym some)
 
-pub left_next : (at n : ℕ) (rest others : List ℕ) (old new : List Mark) → IsNext at rest old (Ok n) new → others ≡ drop n rest
-    → left true at rest old ≡ left (not (nat_eq (length others) 0)) (at + n) others new
-left_next at n rest others old new next same =
-    some-step at rest old ∙ next (go_on some_at) ∙ ap (λ o. go_on some_at (at + n) o new) (sym same) ∙ go-left (at + n) others new
+-- something is behind a place where this is in front of the end
+behind_place : (at : ℕ) (octets : List ℕ) → nat_lt 0 (length (drop at octets)) ≡ nat_lt at (length octets)
+behind_place at octets = let long = length-drop at octets in grind (arith, nat_tests)
+
+pub left_next : (at n : ℕ) (octets : List ℕ) (old new : List Mark) → IsNext at (drop at octets) old (Ok n) new
+    → left true at (drop at octets) old ≡ left (nat_lt (at + n) (length octets)) (at + n) (drop (at + n) octets) new
+left_next at n octets old new next =
+    some-step at (drop at octets) old ∙ next (go_on some_at) ∙ ap (λ o. go_on some_at (at + n) o new) (drop-drop n at octets) ∙ go-left (at + n) (drop (at + n) octets) new
+    ∙ ap (λ b. left b (at + n) (drop (at + n) octets) new) (behind_place (at + n) octets)
 
 pub left_stops : (at : ℕ) (rest : List ℕ) (old new : List Mark) (stop : Stop) (all : Found) → all ≡ left true at rest old → IsNext at rest old (Err stop) new → Stops stop all
 left_stops at rest old new (At place) all same next = same ∙ some-step at rest old ∙ next (go_on some_at)

@@ -1,6 +1,6 @@
 -- Values that octets begin with, by their verdict.
-use Rattle.std.proofs.Common.{◌≡◌, ℕ, ◌+◌, ◌<◌, ◌≤◌, List, [], ◌∷◌, length, drop, take, refl, ap, sym, subst, ◌∙◌, arith, length-append, zero-add, drop-cons}
-use Rattle.std.specs.Prelude.{Ok, Err}
+use Rattle.std.proofs.Common.{◌≡◌, ℕ, ◌+◌, ◌<◌, ◌≤◌, List, ◌∷◌, length, drop, take, refl, ap, sym, subst, ◌∙◌, arith, length-append, zero-add, drop-cons}
+use Rattle.std.specs.Prelude.{Result, Ok, Err}
 use Rattle.std.proofs.lemmas.List.{drop_all, length-take-le}
 use Rattle.vf_ber.specs.declared.errors.BerError.{BerError}
 use Rattle.vf_ber.specs.declared.value.Value.{Value}
@@ -56,8 +56,8 @@ read_deep octets at is = (misread octets (Deep at) at is refl, fault_small octet
 pub read_long : (octets : List ℕ) (at : ℕ) → IsVerdict octets (Long at) → IsFaultIn octets at
 read_long octets at is = (misread octets (Long at) at is refl, fault_small octets at is.0)
 
-pub same_error : (octets : List ℕ) (error other : BerError) → error ≡ other → IsAnswer (Err error) octets → IsAnswer (Err other) octets
-same_error octets error other same is = let P : BerError → Type 0 = λ e. IsAnswer (Err e) octets in subst P same is
+pub answered : (octets : List ℕ) (read other : Result (Value × ℕ) BerError) → read ≡ other → IsAnswer read octets → IsAnswer other octets
+answered octets read other same is = let P : Result (Value × ℕ) BerError → Type 0 = λ r. IsAnswer r octets in subst P same is
 
 -- ---- values in turn
 

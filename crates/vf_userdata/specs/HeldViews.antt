@@ -11,7 +11,7 @@ use Rattle.vf_userdata.specs.Texts.{Held, held, landed, place_of, segments}
 
 abbrev pub octets_of : code.Held → List ℕ
 octets_of (Contents octets) = octets.now
-octets_of (Segments octets) = octets.items
+octets_of (Segments octets) = octets
 
 abbrev pub octets_in : Option Held → Option (List ℕ)
 octets_in found = option_map (λ h. h.octets) found

@@ -11,14 +11,14 @@ use crate::parts::is_constructed;
 use crate::segments::{gathered, place_among, wrong_among};
 use crate::text::{Part, Text};
 use std::alloc::Global;
-use vf_base::NoMemory;
+use vf_base::{NoMemory, Octets};
 use vf_scan::whole_in;
 
 /// What a part holds: octets of its contents, or those that its segments gave.
 #[derive(Drop)]
 pub(crate) enum Held<'a> {
     Contents(&'a [u8]),
-    Segments(Vec<u8>),
+    Segments(Octets),
 }
 
 impl Held<'_> {
@@ -83,7 +83,7 @@ pub(crate) fn octets_held<'a>(alloc: Global, part: &Part<'a>) -> Result<Option<H
     if !is_constructed(part.first) {
         return Ok(Some(Held::Contents(part.contents.octets)));
     }
-    let octets = gathered(alloc, part.contents)?;
+    let octets = Octets::from_vec(gathered(alloc, part.contents)?)?;
     Ok(Some(Held::Segments(octets)))
 }
 

@@ -1,6 +1,7 @@
 //! The walk over the parts of user data.
 ghost use Rattle.std.specs.Prelude.{◌≡◌, ◌<◌, ◌≤◌, ◌^◌, IfErr, IfOk, length, map, true};
 ghost use Rattle.vf_userdata.specs.Forms.{each as each_read, in_order as fields_read};
+ghost use Rattle.vf_userdata.specs.HeldViews.{octets_of};
 ghost use Rattle.vf_userdata.specs.MarkViews.{Gives, marks_of};
 ghost use Rattle.vf_userdata.specs.Parts.{parts_of};
 ghost use Rattle.vf_userdata.specs.Rows.{cargo_read, cargo_within, field_of, label_in, listing_of, pair_of, read_of, result_in, tags_of, type_of};
@@ -12,7 +13,7 @@ ghost use Rattle.vf_userdata.specs.WalkViews.{most, StepsTo, StepStops};
 use crate::cargo::{one, seen, some};
 use crate::fields::{due, has_tag, is_known, lacking, leading, leads, refuses};
 use crate::form::{Cargo, Field, Form, Listing, Pair, TypeName};
-use crate::held::{landed, number_of, octets_held};
+use crate::held::{Held, landed, number_of, octets_held};
 use crate::labels::{NameLabel, NumberLabel};
 use crate::leaf::{integer, object_identifier};
 use crate::marks::{Marks, Stop};
@@ -223,9 +224,8 @@ fn carried(
     let Some(held) = octets_held(alloc, part)? else {
         return Err(Stop::At(part.at));
     };
-    let octets = held.octets();
-    let read = within(alloc, carrier, cargo, number_of(part.first), octets, found);
-    landed(part, octets.len(), read)
+    let read = within(alloc, carrier, cargo, number_of(part.first), &held, found);
+    landed(part, held.octets().len(), read)
 }
 
 /// Reads octets that are held.
@@ -235,22 +235,22 @@ fn within(
     carrier: SpduKind,
     cargo: Cargo,
     number: u8,
-    octets: &[u8],
+    held: &Held<'_>,
     found: &mut Marks,
 ) -> Result<(), Stop>
-    requires { length octets.now < 2 ^ 32 }
-    ensures { Gives result (marks_of found.new) (cargo_within carrier cargo number octets.now (marks_of found.old)) }
+    requires { length (octets_of held.now) < 2 ^ 32 }
+    ensures { Gives result (marks_of found.new) (cargo_within carrier cargo number (octets_of held.now) (marks_of found.old)) }
 {
     match cargo {
-        Cargo::One => one(alloc, octets, found),
+        Cargo::One => one(alloc, held, found),
         Cargo::Some => {
             if number == 0 {
-                one(alloc, octets, found)
+                one(alloc, held, found)
             } else {
-                some(alloc, octets, found)
+                some(alloc, held, found)
             }
         }
-        Cargo::Apdu => typed(alloc, carrier, apdu(carrier), octets, found),
+        Cargo::Apdu => typed(alloc, carrier, apdu(carrier), held.octets(), found),
     }
 }
 
