@@ -4,7 +4,7 @@ use Rattle.std.specs.Prelude.{IsTrue, ◌&&◌, ◌≤◌, nat_le, if◌then◌e
 use Rattle.std.specs.List.{list_any}
 use Rattle.std.proofs.Common.{arith}
 use Rattle.vf_base.specs.declared.element.Element.{Element}
-use Rattle.vf_fields.proofs.Plain.{some_is}
+use Rattle.vf_pdu_fields.proofs.Plain.{some_is}
 use Rattle.vf_elements.specs.Stages.{takes}
 use Rattle.vf_elements.specs.declared.message.Message.{Message}
 use Rattle.vf_elements.specs.declared.message.Message.TheVariants as messages
@@ -24,12 +24,12 @@ use Rattle.vf_regime.specs.State.{State, StandingParty}
 use Rattle.vf_regime.specs.Transition.{Consequence, aborts, created_by, file_in, identity_in, limit, mode_in, not_built, opened_by, performed, read_by, requested, requested_in, selected_by, stamp_of, transition, units_in, unless_aborted, wrong_state}
 use Rattle.vf_regime.specs.declared.party.Party.{Party}
 use Rattle.vf_regime.specs.declared.party.Party.TheVariants as parties
-use Rattle.vf_tables.specs.Files.{file_named}
-use Rattle.vf_tables.specs.Rows.{Given, Nothing, Refused, Showed, created, opened, read_given, select_row}
-use Rattle.vf_tables.specs.declared.creation.Created.{Created}
-use Rattle.vf_tables.specs.declared.creation.Created.TheVariants as creations
-use Rattle.vf_tables.specs.declared.opening.Opened.{Opened}
-use Rattle.vf_tables.specs.declared.opening.Opened.TheVariants as openings
+use Rattle.vf_files.specs.Files.{file_named}
+use Rattle.vf_files.specs.Rows.{Given, Nothing, Refused, Showed, created, opened, read_given, select_row}
+use Rattle.vf_files.specs.declared.creation.Created.{Created}
+use Rattle.vf_files.specs.declared.creation.Created.TheVariants as creations
+use Rattle.vf_files.specs.declared.opening.Opened.{Opened}
+use Rattle.vf_files.specs.declared.opening.Opened.TheVariants as openings
 use Rattle.vf_cli.specs.Dialogue.{is_abort, outside}
 
 -- no abort is said, and the link is kept

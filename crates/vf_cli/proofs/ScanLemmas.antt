@@ -6,8 +6,8 @@ use Rattle.vf_ber.proofs.Plain.{verdict_found}
 use Rattle.vf_ber.proofs.Verdicts.{one_verdict}
 use Rattle.vf_ber.specs.Reader.{verdict}
 use Rattle.vf_ber.specs.Verdict.{IsVerdict, IsSpelling, Short, bounded}
-use Rattle.vf_scan.specs.Scanned.{HasTaken, IsFed}
-use Rattle.vf_scan.specs.declared.scan.Scan.{Scan}
+use Rattle.vf_ber_scan.specs.Scanned.{HasTaken, IsFed}
+use Rattle.vf_ber_scan.specs.declared.scan.Scan.{Scan}
 
 -- where octets are wanting behind some, they are behind those in front
 prefix_short : (octets more : List ℕ) → verdict (octets ++ more) ≡ Short → verdict octets ≡ Short

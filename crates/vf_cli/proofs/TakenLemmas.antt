@@ -9,7 +9,7 @@ use Rattle.vf_elements.specs.Messages.{message_in, place_of}
 use Rattle.vf_elements.specs.declared.message.Message.{Message}
 use Rattle.vf_elements.specs.declared.message.Said.TheVariants as answers
 use Rattle.vf_regime.specs.declared.party.Party.{Party}
-use Rattle.vf_tables.specs.declared.tables.Tables.{Tables}
+use Rattle.vf_files.specs.declared.tables.Tables.{Tables}
 use Rattle.vf_regime.specs.Files.{after_changes}
 use Rattle.vf_regime.specs.Represents.{with_tables}
 use Rattle.vf_regime.specs.Sayable.{CanServe, NextCanServe}

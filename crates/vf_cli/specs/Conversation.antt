@@ -6,16 +6,16 @@ use Rattle.vf_ber.specs.Reader.{verdict}
 use Rattle.vf_ber.specs.Tree.{Tree}
 use Rattle.vf_ber.specs.Verdict.{Verdict, Short, Bad, Deep, Long, Read}
 use Rattle.vf_elements.specs.Messages.{message_in, place_of}
-use Rattle.vf_fields.specs.Fault.{Fault}
+use Rattle.vf_pdu_fields.specs.Fault.{Fault}
 use Rattle.vf_regime.specs.declared.party.Party.{Party}
-use Rattle.vf_tables.specs.declared.tables.Tables.{Tables}
+use Rattle.vf_files.specs.declared.tables.Tables.{Tables}
 use Rattle.vf_regime.specs.Files.{after_changes}
 use Rattle.vf_regime.specs.Represents.{Represents}
 use Rattle.vf_regime.specs.Sayable.{CanServe}
 use Rattle.vf_regime.specs.State.{State, StandingParty}
 use Rattle.vf_regime.specs.Transition.{Consequence}
-use Rattle.vf_scan.specs.Scanned.{HasTaken}
-use Rattle.vf_scan.specs.declared.scan.Scan.{Scan}
+use Rattle.vf_ber_scan.specs.Scanned.{HasTaken}
+use Rattle.vf_ber_scan.specs.declared.scan.Scan.{Scan}
 use Rattle.vf_cli.specs.declared.conversation.After.{After}
 use Rattle.vf_cli.specs.declared.conversation.After.TheVariants as after
 use Rattle.vf_cli.specs.declared.conversation.Conversation.{Conversation}

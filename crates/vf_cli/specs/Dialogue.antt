@@ -10,7 +10,7 @@ use Rattle.vf_elements.specs.Messages.{message_in, place_of}
 use Rattle.vf_elements.specs.declared.message.Message.{Message}
 use Rattle.vf_elements.specs.declared.message.Said.{Said}
 use Rattle.vf_elements.specs.declared.message.Said.TheVariants as answers
-use Rattle.vf_fields.specs.Fault.{Fault}
+use Rattle.vf_pdu_fields.specs.Fault.{Fault}
 use Rattle.vf_pdu.specs.PduValue.{value}
 use Rattle.vf_pdu.specs.declared.pdu.Pdu.TheVariants.{ProviderAbort}
 use Rattle.vf_regime.specs.State.{State, StandingParty, arrived, party_of}

@@ -11,9 +11,9 @@ ghost use Rattle.vf_cli.specs.Dialogue.{is_abort as abort_test, opened, outside,
 use crate::message::{Front, append_reply, front_of};
 use std::alloc::Global;
 use vf_base::{Moment, NoMemory};
+use vf_ber_scan::Scan;
 use vf_elements::{Message, Said, Stage};
 use vf_regime::{Outcome, Party, Tables};
-use vf_scan::Scan;
 
 /// A conversation with one party over a filestore that starts empty.
 #[derive(Drop)]

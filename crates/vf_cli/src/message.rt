@@ -18,8 +18,8 @@ use std::alloc::Global;
 use vf_base::{Element, NoMemory};
 use vf_ber::{BerError, Value, WriteError};
 use vf_elements::{Message, Said};
-use vf_fields::PduError;
 use vf_pdu::Pdu;
+use vf_pdu_fields::PduError;
 
 /// What stands in front of octets.
 #[derive(Drop)]

@@ -7,15 +7,15 @@ use Rattle.vf_base.specs.declared.element.Element.TheVariants.{Descriptor}
 use Rattle.vf_ber.specs.Tree.{Tag, Tree, built, Trees}
 use Rattle.vf_elements.specs.ElementFaults.{element_fault, is_descriptor}
 use Rattle.vf_elements.specs.Elements.{Means, IsDescriptor, application, descriptor, descriptor_slots}
-use Rattle.vf_fields.specs.Content.{slots}
-use Rattle.vf_fields.specs.Meaning.{all_fit}
-use Rattle.vf_fields.specs.Reading.{reading}
-use Rattle.vf_fields.specs.Results.{Gives, Names}
-use Rattle.vf_fields.specs.declared.errors.PduError.{PduError}
-use Rattle.vf_fields.specs.declared.errors.PduError.TheVariants as errors
-use Rattle.vf_fields.proofs.Faulty.{fault_told}
-use Rattle.vf_fields.proofs.FirstFaults.{told}
-use Rattle.vf_fields.proofs.Found.{Kept, reading_kept}
+use Rattle.vf_pdu_fields.specs.Content.{slots}
+use Rattle.vf_pdu_fields.specs.Meaning.{all_fit}
+use Rattle.vf_pdu_fields.specs.Reading.{reading}
+use Rattle.vf_pdu_fields.specs.Results.{Gives, Names}
+use Rattle.vf_pdu_fields.specs.declared.errors.PduError.{PduError}
+use Rattle.vf_pdu_fields.specs.declared.errors.PduError.TheVariants as errors
+use Rattle.vf_pdu_fields.proofs.Faulty.{fault_told}
+use Rattle.vf_pdu_fields.proofs.FirstFaults.{told}
+use Rattle.vf_pdu_fields.proofs.Found.{Kept, reading_kept}
 
 abbrev pub IsSome : Element → Type 0
 IsSome element = (name : Option (List ℕ)) × (filled : Bool) × (element ≡ Descriptor name filled)

@@ -5,7 +5,7 @@ use Rattle.std.specs.Option.{option_and_then, option_map}
 use Rattle.vf_ber.specs.Primitive.{in_front, is_octet_string, octets_in, octets_of}
 use Rattle.vf_ber.specs.Tree.{Tag, Tree, built, Trees, none, more, root}
 use Rattle.vf_elements.specs.ElementFaults.{is_segment, wrong_segment}
-use Rattle.vf_fields.specs.Fault.{Field}
+use Rattle.vf_pdu_fields.specs.Fault.{Field}
 
 joined : (first : Option (List ℕ)) (rest : Option (List ℕ)) → is_some first ≡ true → is_some rest ≡ true
     → is_some (option_and_then (λ octets. in_front octets rest) first) ≡ true

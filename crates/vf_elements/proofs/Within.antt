@@ -10,8 +10,8 @@ use Rattle.vf_ber.specs.Tree.{Tag, Tree, plain, none}
 use Rattle.vf_elements.specs.ElementValue.{IsNamed, descriptor_parts, filled_part}
 use Rattle.vf_elements.specs.Elements.{application, octet_string}
 use Rattle.vf_elements.specs.Sizes.{ElementIsWithin}
-use Rattle.vf_fields.specs.Meaning.{context, universal}
-use Rattle.vf_fields.proofs.Sizes.{FitIn, built-fits}
+use Rattle.vf_pdu_fields.specs.Meaning.{context, universal}
+use Rattle.vf_pdu_fields.proofs.Sizes.{FitIn, built-fits}
 
 header-short : (constructed : Bool) (tag : Tag) (n : ℕ) → length (header constructed tag n) ≤ 7
 header-short constructed tag n = grind (arith, nat_tests, length-append)

@@ -7,10 +7,10 @@ use Rattle.vf_base.specs.declared.element.Element.TheVariants.{Descriptor, Enter
 use Rattle.vf_ber.specs.Tree.{Tree, plain, built, none}
 use Rattle.vf_elements.specs.ElementValue.{IsNamed, IsWritable, ValueMeans, descriptor_parts, filled_part}
 use Rattle.vf_elements.specs.Elements.{IsDescriptor, Means, application, descriptor, descriptor_slots}
-use Rattle.vf_fields.specs.Content.{Octets, Truth, nil, slots}
-use Rattle.vf_fields.specs.Meaning.{Holds, context}
-use Rattle.vf_fields.specs.declared.errors.PduError.{PduError}
-use Rattle.vf_fields.specs.Rows.{Boolean, Row, end, field, default, one}
+use Rattle.vf_pdu_fields.specs.Content.{Octets, Truth, nil, slots}
+use Rattle.vf_pdu_fields.specs.Meaning.{Holds, context}
+use Rattle.vf_pdu_fields.specs.declared.errors.PduError.{PduError}
+use Rattle.vf_pdu_fields.specs.Rows.{Boolean, Row, end, field, default, one}
 
 and_true : (b : Bool) → IsTrue b → IsTrue (b && true)
 and_true true h = h

@@ -3,8 +3,8 @@ use Rattle.std.specs.Prelude.{ℕ, ◌+◌, Bool, true, false, ◌&&◌, ◌||�
 use Rattle.vf_ber.specs.Primitive.{is_octet_string, octets_of}
 use Rattle.vf_ber.specs.Tree.{Tag, Tree, plain, built, Trees, none, more, root}
 use Rattle.vf_elements.specs.Elements.{descriptor, is_text, octet_string}
-use Rattle.vf_fields.specs.Fault.{Fault, Unknown, Field}
-use Rattle.vf_fields.specs.Faults.{fault_in}
+use Rattle.vf_pdu_fields.specs.Fault.{Fault, Unknown, Field}
+use Rattle.vf_pdu_fields.specs.Faults.{fault_in}
 
 -- the tag of a text or of a binary
 abbrev pub is_string : Tag → Bool

@@ -6,9 +6,9 @@ use Rattle.vf_ber.specs.Primitive.{octets_in}
 use Rattle.vf_ber.specs.Tree.{Tag, Tree, plain, built, Trees}
 use Rattle.vf_elements.specs.ElementFaults.{is_descriptor, is_empty, is_mark, is_string, wrong_segment}
 use Rattle.vf_elements.specs.Elements.{descriptor, octet_string}
-use Rattle.vf_fields.specs.Content.{Truth, Octets, Slot}
-use Rattle.vf_fields.specs.Fault.{Fault, Unknown}
-use Rattle.vf_fields.specs.Reading.{reading}
+use Rattle.vf_pdu_fields.specs.Content.{Truth, Octets, Slot}
+use Rattle.vf_pdu_fields.specs.Fault.{Fault, Unknown}
+use Rattle.vf_pdu_fields.specs.Reading.{reading}
 
 -- a string by its tag
 abbrev pub string_as : Tag → List ℕ → Element

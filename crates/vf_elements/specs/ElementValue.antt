@@ -5,7 +5,7 @@ use Rattle.vf_base.specs.declared.element.Element.{Element}
 use Rattle.vf_base.specs.declared.element.Element.TheVariants.{Descriptor, Enter, Exit, Text, Binary}
 use Rattle.vf_ber.specs.Tree.{Tree, plain, built, Trees, none, more}
 use Rattle.vf_elements.specs.Elements.{Means, application, is_text, octet_string}
-use Rattle.vf_fields.specs.Meaning.{context, universal}
+use Rattle.vf_pdu_fields.specs.Meaning.{context, universal}
 
 -- a descriptor's data unit is its own where nothing is said of it
 abbrev pub filled_part : Bool → Trees

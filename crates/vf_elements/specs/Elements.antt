@@ -5,10 +5,10 @@ use Rattle.vf_base.specs.declared.element.Element.{Element}
 use Rattle.vf_base.specs.declared.element.Element.TheVariants.{Descriptor, Enter, Exit, Text, Binary}
 use Rattle.vf_ber.specs.Primitive.{octets_of}
 use Rattle.vf_ber.specs.Tree.{Tag, Tree, plain, built, Trees, root}
-use Rattle.vf_fields.specs.Content.{Truth, Slot, slots}
-use Rattle.vf_fields.specs.Meaning.{Holds, all_fit, universal}
-use Rattle.vf_fields.specs.Rows.{Boolean, Text as TextForm, optional, default, one, Row, row, a}
-use Rattle.vf_fields.specs.Slots.{maybe_octets}
+use Rattle.vf_pdu_fields.specs.Content.{Truth, Slot, slots}
+use Rattle.vf_pdu_fields.specs.Meaning.{Holds, all_fit, universal}
+use Rattle.vf_pdu_fields.specs.Rows.{Boolean, Text as TextForm, optional, default, one, Row, row, a}
+use Rattle.vf_pdu_fields.specs.Slots.{maybe_octets}
 
 abbrev pub application : ℕ → Tag
 application number = record { class = 1; number = number }

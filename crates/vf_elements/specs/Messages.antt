@@ -6,7 +6,7 @@ use Rattle.vf_ber.specs.Tree.{Tree, root}
 use Rattle.vf_elements.specs.ElementReading.{element_in}
 use Rattle.vf_elements.specs.declared.message.Message.{Message}
 use Rattle.vf_elements.specs.declared.message.Message.TheVariants as messages
-use Rattle.vf_fields.specs.Fault.{Fault, Unknown, Field, Range, Missing}
+use Rattle.vf_pdu_fields.specs.Fault.{Fault, Unknown, Field, Range, Missing}
 use Rattle.vf_pdu.specs.PduReading.{pdu_in}
 use Rattle.vf_pdu.specs.declared.pdu.Pdu.{Pdu}
 

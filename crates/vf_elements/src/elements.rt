@@ -2,20 +2,20 @@
 ghost use Rattle.std.specs.Prelude.{◌≡◌, ◌<◌, ◌^◌, ℕ, Bool, true, false, List, Option, None, Some, Ok, length, IfOk, IfErr};
 ghost use Rattle.std.specs.Option.{option_map};
 ghost use Rattle.vf_ber.specs.Primitive.{octets_of};
-ghost use Rattle.vf_fields.specs.Fault.{Field};
+ghost use Rattle.vf_pdu_fields.specs.Fault.{Field};
 ghost use Rattle.vf_ber.specs.Tree.{Tree, plain, root};
 ghost use Rattle.vf_ber.specs.Views.{tag_of, tree_of, trees_in};
 ghost use Rattle.vf_elements.specs.ElementFaults.{element_fault, is_descriptor as descriptor_tag, is_segment as segment_tree, is_string as string_tag, wrong_segment};
 ghost use Rattle.vf_elements.specs.ElementReading.{element_in};
 ghost use Rattle.vf_elements.specs.ElementValue.{IsWritable};
 ghost use Rattle.vf_elements.specs.Elements.{Means, descriptor as descriptor_row, descriptor_slots, is_text as text_class};
-ghost use Rattle.vf_fields.specs.Reading.{reading};
-ghost use Rattle.vf_fields.specs.Results.{Fails, Gives, Names};
+ghost use Rattle.vf_pdu_fields.specs.Reading.{reading};
+ghost use Rattle.vf_pdu_fields.specs.Results.{Fails, Gives, Names};
 
 use std::alloc::Global;
 use vf_base::{Element, NoMemory, Octets};
 use vf_ber::{Tag, Value};
-use vf_fields::{PduError, boolean_or, end, text};
+use vf_pdu_fields::{PduError, boolean_or, end, text};
 
 /// The data element that the value means (ISO 8571-2): a text (IA5 22, graphic 25, visible 26, general 27) or a binary
 /// (OCTET STRING) of universal class, in segments or not, or a descriptor, enter or exit of application class 0, 1, 2

@@ -2,13 +2,13 @@
 ghost use Rattle.vf_ber.specs.Views.{tree_of};
 ghost use Rattle.vf_elements.specs.ElementReading.{element_in};
 ghost use Rattle.vf_elements.specs.Messages.{from_element, from_pdu, message_in};
-ghost use Rattle.vf_fields.specs.Results.{Gives};
+ghost use Rattle.vf_pdu_fields.specs.Results.{Gives};
 ghost use Rattle.vf_pdu.specs.PduReading.{pdu_in};
 
 use crate::{Message, of_value};
 use std::alloc::Global;
 use vf_ber::Value;
-use vf_fields::PduError;
+use vf_pdu_fields::PduError;
 
 /// The message that the value means: a PDU where it is of context class (ISO 8571-4), else a data element (ISO 8571-2).
 /// The errors are those of `vf_pdu::of_value` and of `of_value`.

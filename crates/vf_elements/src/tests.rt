@@ -4,8 +4,8 @@ use crate::{Message, Stage, of_value, to_value};
 use std::alloc::Global;
 use std::test::Fail;
 use vf_base::Element;
-use vf_fields::PduError;
 use vf_pdu::Pdu;
+use vf_pdu_fields::PduError;
 
 /// The stages in the order of the digits below.
 const STAGES: [Stage; 9] = [

@@ -1,6 +1,6 @@
 //! Data elements as values.
 ghost use Rattle.std.specs.Prelude.{◌≡◌, ◌<◌, ◌≤◌, [], IfOk};
-ghost use Rattle.vf_fields.specs.Meaning.{context, universal};
+ghost use Rattle.vf_pdu_fields.specs.Meaning.{context, universal};
 ghost use Rattle.vf_ber.specs.Tree.{built, plain};
 ghost use Rattle.vf_ber.specs.Views.{tree_of};
 ghost use Rattle.vf_elements.specs.ElementValue.{IsWritable, ValueMeans, descriptor_parts, value as value_meant};

@@ -2,23 +2,23 @@
 use Rattle.std.proofs.Common.{◌≡◌, ℕ, ◌≤◌, Bool, true, cond, ap, sym, subst, ◌∙◌, rules, arith}
 use Rattle.std.specs.Prelude.{Some, Result, Ok, Err, IsTrue, IfOk, IfErr, nat_le}
 use Rattle.vf_ber.specs.Tree.{Tag, Tree, built, Trees}
-use Rattle.vf_fields.specs.Content.{slots}
-use Rattle.vf_fields.specs.Fault.{Unknown}
-use Rattle.vf_fields.specs.Faults.{fault_in}
+use Rattle.vf_pdu_fields.specs.Content.{slots}
+use Rattle.vf_pdu_fields.specs.Fault.{Unknown}
+use Rattle.vf_pdu_fields.specs.Faults.{fault_in}
 use Rattle.vf_pdu.specs.PduFaults.{fault}
-use Rattle.vf_fields.specs.Meaning.{context, all_fit}
+use Rattle.vf_pdu_fields.specs.Meaning.{context, all_fit}
 use Rattle.vf_pdu.specs.PduMeaning.{IsInRange, Means}
-use Rattle.vf_fields.specs.Reading.{reading}
-use Rattle.vf_fields.specs.Results.{Names}
+use Rattle.vf_pdu_fields.specs.Reading.{reading}
+use Rattle.vf_pdu_fields.specs.Results.{Names}
 use Rattle.vf_pdu.specs.PduResults.{Reads}
 use Rattle.vf_pdu.specs.PduRows.{row_of}
 use Rattle.vf_pdu.specs.PduSlots.{number_of, slots_of}
-use Rattle.vf_fields.specs.declared.errors.PduError.{PduError}
-use Rattle.vf_fields.specs.declared.errors.PduError.TheVariants as errors
+use Rattle.vf_pdu_fields.specs.declared.errors.PduError.{PduError}
+use Rattle.vf_pdu_fields.specs.declared.errors.PduError.TheVariants as errors
 use Rattle.vf_pdu.specs.declared.pdu.Pdu.{Pdu}
-use Rattle.vf_fields.proofs.Faulty.{fault_told}
-use Rattle.vf_fields.proofs.FirstFaults.{told}
-use Rattle.vf_fields.proofs.Found.{Kept, reading_kept}
+use Rattle.vf_pdu_fields.proofs.Faulty.{fault_told}
+use Rattle.vf_pdu_fields.proofs.FirstFaults.{told}
+use Rattle.vf_pdu_fields.proofs.Found.{Kept, reading_kept}
 use Rattle.vf_pdu.proofs.Tables.{row_is_table}
 
 is_true : (b : Bool) → b ≡ true → IsTrue b

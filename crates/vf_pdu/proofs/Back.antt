@@ -12,17 +12,17 @@ use Rattle.vf_base.specs.declared.action.Control.TheVariants.{NotRequired, Share
 use Rattle.vf_base.specs.declared.contents.Contents.{Contents}
 use Rattle.vf_base.specs.declared.diagnostic.Diagnostic.{Diagnostic}
 use Rattle.vf_base.specs.declared.term.Term.{Term}
-use Rattle.vf_fields.specs.Content.{Content, Number, Octets, Slots, Slot, slots, items_of}
-use Rattle.vf_fields.specs.Rows.{natural}
-use Rattle.vf_fields.specs.Slots.{attribute_controls, content_controls, context_slot, control_octet, fadu_slot, maybe_actions, maybe_integer, maybe_num, maybe_octets, num, operation_slot}
-use Rattle.vf_fields.specs.declared.controls.AttributeControls.{AttributeControls}
-use Rattle.vf_fields.specs.declared.controls.ContentControls.{ContentControls}
-use Rattle.vf_fields.specs.declared.operation.WriteOperation.{WriteOperation}
-use Rattle.vf_fields.specs.declared.operation.WriteOperation.TheVariants as operations
-use Rattle.vf_parameters.specs.ParameterSlots.{attribute_slots, attributes_content, contents_content, diagnostic_content, grant_slots, grants_content, maybe_attributes, maybe_contents, maybe_diagnostic, maybe_grants, maybe_stamp, maybe_terms, stamp_content, term_slots, terms_content}
-use Rattle.vf_parameters.specs.declared.file_attributes.Attributes.{Attributes}
-use Rattle.vf_parameters.specs.declared.file_attributes.Grant.{Grant}
-use Rattle.vf_parameters.specs.declared.file_attributes.Stamp.{Stamp}
+use Rattle.vf_pdu_fields.specs.Content.{Content, Number, Octets, Slots, Slot, slots, items_of}
+use Rattle.vf_pdu_fields.specs.Rows.{natural}
+use Rattle.vf_pdu_fields.specs.Slots.{attribute_controls, content_controls, context_slot, control_octet, fadu_slot, maybe_actions, maybe_integer, maybe_num, maybe_octets, num, operation_slot}
+use Rattle.vf_pdu_fields.specs.declared.controls.AttributeControls.{AttributeControls}
+use Rattle.vf_pdu_fields.specs.declared.controls.ContentControls.{ContentControls}
+use Rattle.vf_pdu_fields.specs.declared.operation.WriteOperation.{WriteOperation}
+use Rattle.vf_pdu_fields.specs.declared.operation.WriteOperation.TheVariants as operations
+use Rattle.vf_pdu_parameters.specs.ParameterSlots.{attribute_slots, attributes_content, contents_content, diagnostic_content, grant_slots, grants_content, maybe_attributes, maybe_contents, maybe_diagnostic, maybe_grants, maybe_stamp, maybe_terms, stamp_content, term_slots, terms_content}
+use Rattle.vf_pdu_parameters.specs.declared.file_attributes.Attributes.{Attributes}
+use Rattle.vf_pdu_parameters.specs.declared.file_attributes.Grant.{Grant}
+use Rattle.vf_pdu_parameters.specs.declared.file_attributes.Stamp.{Stamp}
 use Rattle.vf_pdu.specs.Contained.{actions_in, attribute_controls_in, attributes_at, attributes_in, content_controls_in, contents_in, context_in, control_in, diagnostic_in, fadu_in, grant_at, grants_in, integer_in, item_list, number_in, octets_in, operation_in, slot_list, stamp_in, term_at, terms_in}
 
 pub slot_list-slots : (all : List Slot) → slot_list (slots all) ≡ all

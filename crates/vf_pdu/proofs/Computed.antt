@@ -3,14 +3,14 @@ use Rattle.std.proofs.Common.{◌≡◌, ◌≤◌, Bool, true, false, cond, Lis
 use Rattle.std.specs.Prelude.{◌&&◌, nat_eq, nat_le, Some, None, Result, Ok, Err}
 use Rattle.std.proofs.lemmas.Bool.{eqb-true, leb-true, and_parts}
 use Rattle.vf_ber.specs.Tree.{Tag, Tree, plain, built, Trees}
-use Rattle.vf_fields.specs.Content.{Slot, slots}
-use Rattle.vf_fields.specs.Fault.{Fault}
-use Rattle.vf_fields.specs.Meaning.{all_fit, context}
-use Rattle.vf_fields.specs.Reading.{reading}
-use Rattle.vf_fields.proofs.Complete.{holds_shapes}
-use Rattle.vf_fields.proofs.Found.{reading_kept}
-use Rattle.vf_fields.proofs.Nested.{shapes_read}
-use Rattle.vf_fields.proofs.Plain.{some_is, tag_is}
+use Rattle.vf_pdu_fields.specs.Content.{Slot, slots}
+use Rattle.vf_pdu_fields.specs.Fault.{Fault}
+use Rattle.vf_pdu_fields.specs.Meaning.{all_fit, context}
+use Rattle.vf_pdu_fields.specs.Reading.{reading}
+use Rattle.vf_pdu_fields.proofs.Complete.{holds_shapes}
+use Rattle.vf_pdu_fields.proofs.Found.{reading_kept}
+use Rattle.vf_pdu_fields.proofs.Nested.{shapes_read}
+use Rattle.vf_pdu_fields.proofs.Plain.{some_is, tag_is}
 use Rattle.vf_pdu.specs.Laws.{MeaningIsComputed}
 use Rattle.vf_pdu.specs.PduComputed.{meaning, pdu_from, pdu_of}
 use Rattle.vf_pdu.specs.PduMeaning.{Means}

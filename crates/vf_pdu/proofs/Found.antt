@@ -2,12 +2,12 @@
 use Rattle.std.proofs.Common.{◌≡◌, ℕ, ◌≤◌, true, cond, ap, sym, subst, ◌∙◌, arith}
 use Rattle.std.specs.Prelude.{Result, Ok, Err, nat_le}
 use Rattle.vf_ber.specs.Tree.{Tag, Tree, built, Trees}
-use Rattle.vf_fields.specs.Fault.{Unknown}
-use Rattle.vf_fields.specs.Meaning.{context}
-use Rattle.vf_fields.specs.Reading.{reading}
-use Rattle.vf_fields.specs.Results.{Gives}
-use Rattle.vf_fields.specs.declared.errors.PduError.{PduError}
-use Rattle.vf_fields.specs.declared.errors.PduError.TheVariants as errors
+use Rattle.vf_pdu_fields.specs.Fault.{Unknown}
+use Rattle.vf_pdu_fields.specs.Meaning.{context}
+use Rattle.vf_pdu_fields.specs.Reading.{reading}
+use Rattle.vf_pdu_fields.specs.Results.{Gives}
+use Rattle.vf_pdu_fields.specs.declared.errors.PduError.{PduError}
+use Rattle.vf_pdu_fields.specs.declared.errors.PduError.TheVariants as errors
 use Rattle.vf_pdu.specs.PduComputed.{pdu_of}
 use Rattle.vf_pdu.specs.PduReading.{found_by, pdu_in}
 use Rattle.vf_pdu.specs.PduResults.{Reads}

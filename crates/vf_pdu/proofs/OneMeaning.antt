@@ -2,22 +2,22 @@
 use Rattle.std.proofs.Common.{◌≡◌, ℕ, ◌≤◌, Bool, true, List, refl, ap, sym, ◌∙◌, rules, arith}
 use Rattle.std.specs.Prelude.{Some, IsTrue, nat_le}
 use Rattle.vf_ber.specs.Tree.{Tree, built, root}
-use Rattle.vf_fields.specs.Content.{Slot, slots}
+use Rattle.vf_pdu_fields.specs.Content.{Slot, slots}
 use Rattle.vf_pdu.specs.PduFaults.{fault}
 use Rattle.vf_pdu.specs.Contained.{slot_list}
 use Rattle.vf_pdu.specs.Laws.{MeaningIsOne, MeaningHasNoFault, MeaningIsInRange}
-use Rattle.vf_fields.specs.Meaning.{context, all_fit}
+use Rattle.vf_pdu_fields.specs.Meaning.{context, all_fit}
 use Rattle.vf_pdu.specs.PduMeaning.{Means}
-use Rattle.vf_fields.specs.Reading.{parts_of, shapes}
+use Rattle.vf_pdu_fields.specs.Reading.{parts_of, shapes}
 use Rattle.vf_pdu.specs.PduRows.{row_of}
 use Rattle.vf_pdu.specs.PduSlots.{number_of, slots_of}
 use Rattle.vf_pdu.specs.declared.pdu.Pdu.{Pdu}
 use Rattle.vf_pdu.specs.declared.pdu.Pdu.TheVariants.{InitializeRequest, InitializeResponse, TerminateRequest, TerminateResponse, UserAbort, ProviderAbort, SelectRequest, SelectResponse, DeselectRequest, DeselectResponse, CreateRequest, CreateResponse, DeleteRequest, DeleteResponse, ReadAttribRequest, ReadAttribResponse, ChangeAttribRequest, ChangeAttribResponse, OpenRequest, OpenResponse, CloseRequest, CloseResponse, BeginGroupRequest, BeginGroupResponse, EndGroupRequest, EndGroupResponse, RecoverRequest, RecoverResponse, LocateRequest, LocateResponse, EraseRequest, EraseResponse, ReadRequest, WriteRequest, DataEnd, TransferEndRequest, TransferEndResponse, CancelRequest, CancelResponse, RestartRequest, RestartResponse}
 use Rattle.vf_pdu.proofs.Answering.{fault_is}
-use Rattle.vf_fields.proofs.Complete.{holds_shapes}
-use Rattle.vf_fields.proofs.FirstFaults.{told}
-use Rattle.vf_fields.proofs.Nested.{shapes_read}
-use Rattle.vf_fields.proofs.Plain.{some_is}
+use Rattle.vf_pdu_fields.proofs.Complete.{holds_shapes}
+use Rattle.vf_pdu_fields.proofs.FirstFaults.{told}
+use Rattle.vf_pdu_fields.proofs.Nested.{shapes_read}
+use Rattle.vf_pdu_fields.proofs.Plain.{some_is}
 use Rattle.vf_pdu.proofs.Back.{slot_list-slots}
 use Rattle.vf_pdu.proofs.Same.{same_pdu}
 use Rattle.vf_pdu.proofs.Tables.{row_is_table}

@@ -4,12 +4,12 @@ use Rattle.std.specs.Prelude.{◌&&◌, IsSome, Some, None, nat_le}
 use Rattle.std.proofs.lemmas.Bool.{leb-true, and_parts}
 use Rattle.vf_base.specs.declared.access.Context.{Context}
 use Rattle.vf_base.specs.declared.access.FaduId.{FaduId}
-use Rattle.vf_fields.specs.Content.{Slot, Slots, nil, slot, slots}
-use Rattle.vf_fields.specs.Meaning.{all_fit}
-use Rattle.vf_fields.specs.Rows.{Form, Need, Row, end, field, required, or, fadu as fadu_form, int}
-use Rattle.vf_fields.specs.Slots.{context_slot, fadu_slot}
-use Rattle.vf_fields.specs.declared.operation.WriteOperation.{WriteOperation}
-use Rattle.vf_fields.specs.declared.operation.WriteOperation.TheVariants as operations
+use Rattle.vf_pdu_fields.specs.Content.{Slot, Slots, nil, slot, slots}
+use Rattle.vf_pdu_fields.specs.Meaning.{all_fit}
+use Rattle.vf_pdu_fields.specs.Rows.{Form, Need, Row, end, field, required, or, fadu as fadu_form, int}
+use Rattle.vf_pdu_fields.specs.Slots.{context_slot, fadu_slot}
+use Rattle.vf_pdu_fields.specs.declared.operation.WriteOperation.{WriteOperation}
+use Rattle.vf_pdu_fields.specs.declared.operation.WriteOperation.TheVariants as operations
 use Rattle.vf_pdu.specs.PduMeaning.{IsInRange}
 use Rattle.vf_pdu.specs.PduRows.{row_of}
 use Rattle.vf_pdu.specs.declared.pdu.Pdu.TheVariants.{EraseRequest, LocateRequest, ProviderAbort, ReadRequest, WriteRequest}

@@ -1,6 +1,6 @@
 -- PDUs of one number with the same fields are the same.
 use Rattle.std.proofs.Common.{◌≡◌, ℕ, refl, ap, sym, ◌∙◌}
-use Rattle.vf_fields.specs.Slots.{attribute_controls, content_controls}
+use Rattle.vf_pdu_fields.specs.Slots.{attribute_controls, content_controls}
 use Rattle.vf_pdu.specs.Contained.{attribute_controls_in, content_controls_in}
 use Rattle.vf_pdu.specs.PduComputed.{pdu_of}
 use Rattle.vf_pdu.specs.PduSlots.{number_of, slots_of}

@@ -2,8 +2,8 @@
 use Rattle.std.proofs.Common.{◌≡◌, ℕ, zero, suc, true, List, [], ◌∷◌, refl, get_or}
 use Rattle.std.specs.List.{list_all}
 use Rattle.std.proofs.lemmas.Bool.{and_parts}
-use Rattle.vf_fields.specs.Rows.{Row, end}
-use Rattle.vf_fields.proofs.Tables.{is_table}
+use Rattle.vf_pdu_fields.specs.Rows.{Row, end}
+use Rattle.vf_pdu_fields.proofs.Tables.{is_table}
 use Rattle.vf_pdu.specs.PduRows.{rows, row_of}
 
 all_tables : list_all (is_table 0) rows ≡ true

@@ -5,13 +5,13 @@ use Rattle.std.specs.List.{list_all}
 use Rattle.std.specs.Option.{option_map}
 use Rattle.std.proofs.lemmas.Bool.{eqb-true, leb-true, ltb-true, and_parts}
 use Rattle.vf_base.specs.declared.action.Actions.{Actions}
-use Rattle.vf_fields.specs.Content.{Content, Number, Truth, Octets, Arcs, Fields, Listed, Slots, nil, present, absent, Items, nothing, item, Slot, slots, items_of}
-use Rattle.vf_fields.specs.Forms.{is_control}
-use Rattle.vf_fields.specs.Meaning.{all_fit, count, each_within, fits}
-use Rattle.vf_fields.specs.Rows.{Range, Any, Integer, Boolean, Text, String, Controls, Oid, Date, Need, required, optional, default, Form, one, sequence, list, Row, end, field, int, or, fadu as fadu_form, natural}
-use Rattle.vf_fields.specs.Slots.{attribute_controls, content_controls, context_slot, control_octet, fadu_slot, maybe_integer, maybe_octets, num, operation_slot}
-use Rattle.vf_parameters.specs.ParameterSlots.{attribute_slots, attributes_content, contents_content, contents_slots, diagnostic_content, diagnostic_slots, grants_content, maybe_contents, maybe_diagnostic, maybe_stamp, stamp_content, stamp_slots, terms_content}
-use Rattle.vf_parameters.specs.Parameters.{attribute_fields, attributes, contents, contents_fields, diagnostic, diagnostic_fields, grant, grants, no_terms, stamp, stamp_fields, term, terms}
+use Rattle.vf_pdu_fields.specs.Content.{Content, Number, Truth, Octets, Arcs, Fields, Listed, Slots, nil, present, absent, Items, nothing, item, Slot, slots, items_of}
+use Rattle.vf_pdu_fields.specs.Forms.{is_control}
+use Rattle.vf_pdu_fields.specs.Meaning.{all_fit, count, each_within, fits}
+use Rattle.vf_pdu_fields.specs.Rows.{Range, Any, Integer, Boolean, Text, String, Controls, Oid, Date, Need, required, optional, default, Form, one, sequence, list, Row, end, field, int, or, fadu as fadu_form, natural}
+use Rattle.vf_pdu_fields.specs.Slots.{attribute_controls, content_controls, context_slot, control_octet, fadu_slot, maybe_integer, maybe_octets, num, operation_slot}
+use Rattle.vf_pdu_parameters.specs.ParameterSlots.{attribute_slots, attributes_content, contents_content, contents_slots, diagnostic_content, diagnostic_slots, grants_content, maybe_contents, maybe_diagnostic, maybe_stamp, stamp_content, stamp_slots, terms_content}
+use Rattle.vf_pdu_parameters.specs.Parameters.{attribute_fields, attributes, contents, contents_fields, diagnostic, diagnostic_fields, grant, grants, no_terms, stamp, stamp_fields, term, terms}
 use Rattle.vf_pdu.specs.Contained.{actions_in, arcs_in, attribute_controls_in, attributes_at, attributes_in, content_controls_in, contents_at, contents_in, context_in, control_in, diagnostic_at, diagnostic_in, fadu_in, grant_at, grants_in, inside, integer_in, item_list, items_in, number_in, octets_in, operation_in, slot_list, stamp_at, stamp_in, term_at, terms_in, there, truth_in}
 use Rattle.vf_pdu.specs.PduComputed.{makers, pdu_of}
 use Rattle.vf_pdu.specs.PduRows.{row_of, rows}

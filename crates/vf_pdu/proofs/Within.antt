@@ -4,11 +4,11 @@ use Rattle.std.specs.Prelude.{◌&&◌, nat_le, get_or}
 use Rattle.std.specs.List.{list_all}
 use Rattle.std.proofs.lemmas.Bool.{leb-true, and_parts}
 use Rattle.vf_ber.specs.Tree.{Trees}
-use Rattle.vf_fields.specs.Content.{slots}
-use Rattle.vf_fields.specs.Meaning.{context}
-use Rattle.vf_fields.specs.Rows.{Row, end}
-use Rattle.vf_fields.specs.Writing.{fields}
-use Rattle.vf_fields.proofs.Sizes.{Fits, built-fits, fields-fit, levels_in, most_in}
+use Rattle.vf_pdu_fields.specs.Content.{slots}
+use Rattle.vf_pdu_fields.specs.Meaning.{context}
+use Rattle.vf_pdu_fields.specs.Rows.{Row, end}
+use Rattle.vf_pdu_fields.specs.Writing.{fields}
+use Rattle.vf_pdu_fields.proofs.Sizes.{Fits, built-fits, fields-fit, levels_in, most_in}
 use Rattle.vf_pdu.specs.PduMeaning.{IsInRange}
 use Rattle.vf_pdu.specs.PduRows.{row_of, rows}
 use Rattle.vf_pdu.specs.PduSizes.{PduIsWithin}

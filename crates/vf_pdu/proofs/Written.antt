@@ -1,11 +1,11 @@
 -- The value of a PDU means it.
 use Rattle.std.proofs.Common.{◌≡◌, refl}
 use Rattle.vf_ber.specs.Tree.{Trees}
-use Rattle.vf_fields.specs.Content.{slots}
-use Rattle.vf_fields.specs.Meaning.{all_fit}
-use Rattle.vf_fields.specs.Writing.{fields}
-use Rattle.vf_fields.proofs.ReadAgain.{fields_hold}
-use Rattle.vf_fields.proofs.Written.{all_appended}
+use Rattle.vf_pdu_fields.specs.Content.{slots}
+use Rattle.vf_pdu_fields.specs.Meaning.{all_fit}
+use Rattle.vf_pdu_fields.specs.Writing.{fields}
+use Rattle.vf_pdu_fields.proofs.ReadAgain.{fields_hold}
+use Rattle.vf_pdu_fields.proofs.Written.{all_appended}
 use Rattle.vf_pdu.specs.Laws.{WrittenIsReadAgain}
 use Rattle.vf_pdu.specs.PduMeaning.{Means}
 use Rattle.vf_pdu.specs.PduRows.{row_of}

@@ -12,14 +12,14 @@ use Rattle.vf_base.specs.declared.action.Control.TheVariants.{NotRequired, Share
 use Rattle.vf_base.specs.declared.contents.Contents.{Contents}
 use Rattle.vf_base.specs.declared.diagnostic.Diagnostic.{Diagnostic}
 use Rattle.vf_base.specs.declared.term.Term.{Term}
-use Rattle.vf_fields.specs.declared.controls.AttributeControls.{AttributeControls}
-use Rattle.vf_fields.specs.declared.controls.ContentControls.{ContentControls}
-use Rattle.vf_fields.specs.declared.operation.WriteOperation.{WriteOperation}
-use Rattle.vf_fields.specs.declared.operation.WriteOperation.TheVariants as operations
-use Rattle.vf_fields.specs.Content.{Content, Number, Truth, Octets, Arcs, Fields, Listed, Slots, nil, present, absent, Items, nothing, item, Slot}
-use Rattle.vf_parameters.specs.declared.file_attributes.Attributes.{Attributes}
-use Rattle.vf_parameters.specs.declared.file_attributes.Grant.{Grant}
-use Rattle.vf_parameters.specs.declared.file_attributes.Stamp.{Stamp}
+use Rattle.vf_pdu_fields.specs.declared.controls.AttributeControls.{AttributeControls}
+use Rattle.vf_pdu_fields.specs.declared.controls.ContentControls.{ContentControls}
+use Rattle.vf_pdu_fields.specs.declared.operation.WriteOperation.{WriteOperation}
+use Rattle.vf_pdu_fields.specs.declared.operation.WriteOperation.TheVariants as operations
+use Rattle.vf_pdu_fields.specs.Content.{Content, Number, Truth, Octets, Arcs, Fields, Listed, Slots, nil, present, absent, Items, nothing, item, Slot}
+use Rattle.vf_pdu_parameters.specs.declared.file_attributes.Attributes.{Attributes}
+use Rattle.vf_pdu_parameters.specs.declared.file_attributes.Grant.{Grant}
+use Rattle.vf_pdu_parameters.specs.declared.file_attributes.Stamp.{Stamp}
 
 abbrev pub there : Slot → Content
 there None = Number (pos 0)

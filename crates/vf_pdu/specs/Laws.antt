@@ -1,14 +1,14 @@
 -- How values, PDUs and faults agree.
 use Rattle.std.specs.Prelude.{◌≡◌, ℕ, None, Some}
 use Rattle.vf_ber.specs.Tree.{Tree}
-use Rattle.vf_fields.specs.Content.{Content}
-use Rattle.vf_fields.specs.Faults.{form_of}
+use Rattle.vf_pdu_fields.specs.Content.{Content}
+use Rattle.vf_pdu_fields.specs.Faults.{form_of}
 use Rattle.vf_pdu.specs.PduFaults.{fault}
-use Rattle.vf_fields.specs.Meaning.{Has}
+use Rattle.vf_pdu_fields.specs.Meaning.{Has}
 use Rattle.vf_pdu.specs.PduComputed.{meaning}
 use Rattle.vf_pdu.specs.PduMeaning.{IsInRange, Means}
-use Rattle.vf_fields.specs.Reading.{shape}
-use Rattle.vf_fields.specs.Rows.{Form}
+use Rattle.vf_pdu_fields.specs.Reading.{shape}
+use Rattle.vf_pdu_fields.specs.Rows.{Form}
 use Rattle.vf_pdu.specs.PduRows.{row_of}
 use Rattle.vf_pdu.specs.PduValue.{value}
 use Rattle.vf_pdu.specs.declared.pdu.Pdu.{Pdu}

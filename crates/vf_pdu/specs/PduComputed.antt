@@ -4,9 +4,9 @@ use Rattle.std.specs.Prelude.{ℕ, ◌&&◌, nat_eq, nat_le, List, [], ◌∷◌
 use Rattle.std.specs.Option.{option_map}
 use Rattle.vf_base.specs.declared.diagnostic.Diagnostic.{Diagnostic}
 use Rattle.vf_ber.specs.Tree.{Tree, plain, built}
-use Rattle.vf_fields.specs.Content.{Slot}
-use Rattle.vf_fields.specs.Fault.{Fault}
-use Rattle.vf_fields.specs.Reading.{reading}
+use Rattle.vf_pdu_fields.specs.Content.{Slot}
+use Rattle.vf_pdu_fields.specs.Fault.{Fault}
+use Rattle.vf_pdu_fields.specs.Reading.{reading}
 use Rattle.vf_pdu.specs.Contained.{actions_in, attribute_controls_in, attributes_in, content_controls_in, contents_in, context_in, diagnostic_in, fadu_in, number_in, octets_in, operation_in, slot_in, terms_in, there, truth_in}
 use Rattle.vf_pdu.specs.PduRows.{row_of}
 use Rattle.vf_pdu.specs.declared.pdu.Pdu.{Pdu}

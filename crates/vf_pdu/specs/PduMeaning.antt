@@ -1,8 +1,8 @@
 -- Which PDU a value means (ISO 8571-4; the fields are this profile's).
 use Rattle.std.specs.Prelude.{◌≡◌, IsTrue}
 use Rattle.vf_ber.specs.Tree.{Tree, built, Trees}
-use Rattle.vf_fields.specs.Content.{slots}
-use Rattle.vf_fields.specs.Meaning.{Holds, all_fit, context}
+use Rattle.vf_pdu_fields.specs.Content.{slots}
+use Rattle.vf_pdu_fields.specs.Meaning.{Holds, all_fit, context}
 use Rattle.vf_pdu.specs.PduRows.{row_of}
 use Rattle.vf_pdu.specs.PduSlots.{number_of, slots_of}
 use Rattle.vf_pdu.specs.declared.pdu.Pdu.{Pdu}

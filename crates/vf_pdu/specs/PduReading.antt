@@ -2,9 +2,9 @@
 -- they have makes the PDU.
 use Rattle.std.specs.Prelude.{ℕ, ◌&&◌, nat_eq, nat_le, List, Result, Ok, Err, if◌then◌else◌}
 use Rattle.vf_ber.specs.Tree.{Tree, plain, built}
-use Rattle.vf_fields.specs.Content.{Slot}
-use Rattle.vf_fields.specs.Fault.{Fault, Unknown}
-use Rattle.vf_fields.specs.Reading.{reading}
+use Rattle.vf_pdu_fields.specs.Content.{Slot}
+use Rattle.vf_pdu_fields.specs.Fault.{Fault, Unknown}
+use Rattle.vf_pdu_fields.specs.Reading.{reading}
 use Rattle.vf_pdu.specs.PduComputed.{pdu_of}
 use Rattle.vf_pdu.specs.PduRows.{row_of}
 use Rattle.vf_pdu.specs.declared.pdu.Pdu.{Pdu}

@@ -1,10 +1,10 @@
 -- What reading the fields of a PDU answers.
 use Rattle.std.specs.Prelude.{◌≡◌, ℕ, Result, Ok, Err}
 use Rattle.vf_ber.specs.Tree.{Trees}
-use Rattle.vf_fields.specs.Reading.{reading}
-use Rattle.vf_fields.specs.Results.{Fails}
-use Rattle.vf_fields.specs.Rows.{Row}
-use Rattle.vf_fields.specs.declared.errors.PduError.{PduError}
+use Rattle.vf_pdu_fields.specs.Reading.{reading}
+use Rattle.vf_pdu_fields.specs.Results.{Fails}
+use Rattle.vf_pdu_fields.specs.Rows.{Row}
+use Rattle.vf_pdu_fields.specs.declared.errors.PduError.{PduError}
 use Rattle.vf_pdu.specs.PduSlots.{number_of, slots_of}
 use Rattle.vf_pdu.specs.declared.pdu.Pdu.{Pdu}
 

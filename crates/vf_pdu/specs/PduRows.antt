@@ -1,9 +1,9 @@
 -- The fields of the PDUs (ISO 8571-4 has the PDUs and their numbers; the fields are this profile's).
 use Rattle.std.specs.Prelude.{ℕ, false, List, [], ◌∷◌, get_or}
-use Rattle.vf_fields.specs.Content.{Truth}
-use Rattle.vf_fields.specs.Rows.{Boolean, Text, String, Controls, required, optional, default, one, Row, end, row, a, int, or}
-use Rattle.vf_fields.specs.Rows.{activity, fadu, point}
-use Rattle.vf_parameters.specs.Parameters.{attributes, contents, diagnostic, no_terms, terms}
+use Rattle.vf_pdu_fields.specs.Content.{Truth}
+use Rattle.vf_pdu_fields.specs.Rows.{Boolean, Text, String, Controls, required, optional, default, one, Row, end, row, a, int, or}
+use Rattle.vf_pdu_fields.specs.Rows.{activity, fadu, point}
+use Rattle.vf_pdu_parameters.specs.Parameters.{attributes, contents, diagnostic, no_terms, terms}
 
 abbrev pub bare : Row
 bare = end

@@ -1,9 +1,9 @@
 -- The fields of each PDU as the contents of its row.
 use Rattle.std.specs.Prelude.{ℕ, List, [], ◌∷◌, Some}
 use Rattle.std.specs.Option.{option_map}
-use Rattle.vf_fields.specs.Content.{Octets, Slot, Truth}
-use Rattle.vf_fields.specs.Slots.{attribute_controls, content_controls, context_slot, fadu_slot, maybe_actions, maybe_num, maybe_octets, num, operation_slot}
-use Rattle.vf_parameters.specs.ParameterSlots.{contents_content, maybe_attributes, maybe_contents, maybe_diagnostic, maybe_terms, terms_content}
+use Rattle.vf_pdu_fields.specs.Content.{Octets, Slot, Truth}
+use Rattle.vf_pdu_fields.specs.Slots.{attribute_controls, content_controls, context_slot, fadu_slot, maybe_actions, maybe_num, maybe_octets, num, operation_slot}
+use Rattle.vf_pdu_parameters.specs.ParameterSlots.{contents_content, maybe_attributes, maybe_contents, maybe_diagnostic, maybe_terms, terms_content}
 use Rattle.vf_pdu.specs.declared.pdu.Pdu.{Pdu}
 use Rattle.vf_pdu.specs.declared.pdu.Pdu.TheVariants.{InitializeRequest, InitializeResponse, TerminateRequest, TerminateResponse, UserAbort, ProviderAbort, SelectRequest, SelectResponse, DeselectRequest, DeselectResponse, CreateRequest, CreateResponse, DeleteRequest, DeleteResponse, ReadAttribRequest, ReadAttribResponse, ChangeAttribRequest, ChangeAttribResponse, OpenRequest, OpenResponse, CloseRequest, CloseResponse, BeginGroupRequest, BeginGroupResponse, EndGroupRequest, EndGroupResponse, RecoverRequest, RecoverResponse, LocateRequest, LocateResponse, EraseRequest, EraseResponse, ReadRequest, WriteRequest, DataEnd, TransferEndRequest, TransferEndResponse, CancelRequest, CancelResponse, RestartRequest, RestartResponse}
 

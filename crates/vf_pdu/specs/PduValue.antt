@@ -1,8 +1,8 @@
 -- The one value of each PDU (ISO 8571-4; defaults left out, each part in one piece and in the fewest octets).
 use Rattle.vf_ber.specs.Tree.{Tree, built, Trees, none}
-use Rattle.vf_fields.specs.Content.{slots}
-use Rattle.vf_fields.specs.Meaning.{context}
-use Rattle.vf_fields.specs.Writing.{appended, fields}
+use Rattle.vf_pdu_fields.specs.Content.{slots}
+use Rattle.vf_pdu_fields.specs.Meaning.{context}
+use Rattle.vf_pdu_fields.specs.Writing.{appended, fields}
 use Rattle.vf_pdu.specs.PduMeaning.{IsInRange, Means}
 use Rattle.vf_pdu.specs.PduRows.{row_of}
 use Rattle.vf_pdu.specs.PduSlots.{number_of, slots_of}

@@ -5,7 +5,7 @@ ghost use Rattle.vf_pdu.specs.PduSlots.{number_of};
 use crate::Pdu;
 use std::alloc::Global;
 use vf_base::{NoMemory, Terms, copy_option};
-use vf_parameters::{Attributes, copy_contents};
+use vf_pdu_parameters::{Attributes, copy_contents};
 
 impl Pdu {
     /// The same PDU; its octets are shared.

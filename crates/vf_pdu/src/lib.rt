@@ -20,8 +20,8 @@ pub use laws::{
 };
 pub use pdu::Pdu;
 pub use read::of_value;
-pub use vf_fields::{AttributeControls, ContentControls, PduError, WriteOperation};
-pub use vf_parameters::{Attributes, Grant, Grants, Stamp};
+pub use vf_pdu_fields::{AttributeControls, ContentControls, PduError, WriteOperation};
+pub use vf_pdu_parameters::{Attributes, Grant, Grants, Stamp};
 pub use write::to_value;
 
 #[cfg(test)]

@@ -1,6 +1,6 @@
 use vf_base::{Actions, Contents, Context, Diagnostic, FaduId, Name, Octets, Terms};
-use vf_fields::{AttributeControls, ContentControls, WriteOperation};
-use vf_parameters::Attributes;
+use vf_pdu_fields::{AttributeControls, ContentControls, WriteOperation};
+use vf_pdu_parameters::Attributes;
 
 /// An FTAM PDU (ISO 8571-4). The fields, their ranges and their defaults are this profile's.
 #[derive(Drop)]

@@ -4,11 +4,11 @@ ghost use Rattle.vf_ber.specs.Views.{tree_of, trees_in};
 ghost use Rattle.vf_pdu.specs.PduFaults.{fault};
 ghost use Rattle.vf_pdu.specs.PduMeaning.{IsInRange, Means};
 ghost use Rattle.vf_pdu.specs.PduReading.{pdu_in};
-ghost use Rattle.vf_fields.specs.Reading.{reading};
-ghost use Rattle.vf_fields.specs.Results.{Gives, Names};
+ghost use Rattle.vf_pdu_fields.specs.Reading.{reading};
+ghost use Rattle.vf_pdu_fields.specs.Results.{Gives, Names};
 ghost use Rattle.vf_pdu.specs.PduResults.{Reads};
 ghost use Rattle.vf_pdu.specs.PduRows.{answer as answer_row, bare as bare_row, row_of};
-ghost use Rattle.vf_parameters.specs.ParameterSlots.{maybe_diagnostic};
+ghost use Rattle.vf_pdu_parameters.specs.ParameterSlots.{maybe_diagnostic};
 ghost use Rattle.vf_pdu.specs.PduSlots.{number_of, slots_of};
 
 use crate::Pdu;
@@ -26,8 +26,8 @@ use crate::read_transfer::{
 use std::alloc::Global;
 use vf_base::Diagnostic;
 use vf_ber::Value;
-use vf_fields::{PduError, end};
-use vf_parameters::diagnostic;
+use vf_pdu_fields::{PduError, end};
+use vf_pdu_parameters::diagnostic;
 
 /// The PDU that the value means (ISO 8571-4). `Unknown` comes exactly where the value isn't constructed of context
 /// class with a number of 0 to 40. Else the first faulty part decides: `Field` with its place, from 0 on, where its

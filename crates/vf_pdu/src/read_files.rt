@@ -8,11 +8,11 @@ use crate::Pdu;
 use std::alloc::Global;
 use vf_base::Actions;
 use vf_ber::Value;
-use vf_fields::{
+use vf_pdu_fields::{
     PduError, actions_of, attribute_controls, content_controls, end, natural, natural_or, small,
     string, text,
 };
-use vf_parameters::{attributes, contents, diagnostic, terms, terms_or_none};
+use vf_pdu_parameters::{attributes, contents, diagnostic, terms, terms_or_none};
 
 pub(crate) fn create_request(alloc: Global, parts: &[Value]) -> Result<Pdu, PduError>
     requires { length parts.now < 2 ^ 32 }

@@ -8,8 +8,8 @@ use crate::Pdu;
 use std::alloc::Global;
 use vf_base::Actions;
 use vf_ber::Value;
-use vf_fields::{PduError, attribute_controls, end, natural, natural_or, string, text};
-use vf_parameters::diagnostic;
+use vf_pdu_fields::{PduError, attribute_controls, end, natural, natural_or, string, text};
+use vf_pdu_parameters::diagnostic;
 
 pub(crate) fn initialize_request(alloc: Global, parts: &[Value]) -> Result<Pdu, PduError>
     requires { length parts.now < 2 ^ 32 }

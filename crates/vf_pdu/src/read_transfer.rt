@@ -6,11 +6,11 @@ ghost use Rattle.vf_pdu.specs.PduRows.{erase_request as erase_request_row, locat
 
 use crate::Pdu;
 use vf_ber::Value;
-use vf_fields::{
+use vf_pdu_fields::{
     PduError, boolean_or, context_of, end, fadu, fadu_or_begin, natural, natural_or, operation_of,
     small,
 };
-use vf_parameters::diagnostic;
+use vf_pdu_parameters::diagnostic;
 
 pub(crate) fn recover_request(parts: &[Value]) -> Result<Pdu, PduError>
     requires { length parts.now < 2 ^ 32 }

@@ -20,7 +20,7 @@ use crate::write_transfer::{
 use std::alloc::Global;
 use vf_base::NoMemory;
 use vf_ber::{Value, Values};
-use vf_fields::context;
+use vf_pdu_fields::context;
 
 /// The value of the PDU (ISO 8571-4), where each field is in the range of its row: defaults are left out, and each part
 /// is in one piece and in the fewest octets. What `of_value` answers is in range.

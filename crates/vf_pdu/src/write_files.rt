@@ -2,23 +2,23 @@
 ghost use Rattle.std.specs.Prelude.{◌≡◌, [], ◌∷◌, IfOk, OnOk, Some};
 ghost use Rattle.std.specs.Option.{option_map};
 ghost use Rattle.vf_ber.specs.Tree.{none};
-ghost use Rattle.vf_fields.specs.Content.{Octets as OctetsContent};
-ghost use Rattle.vf_fields.specs.Slots.{attribute_controls, content_controls, maybe_actions, maybe_num, maybe_octets, num};
-ghost use Rattle.vf_fields.specs.Rows.{Controls, String as StringField, Text, int, one, optional, or, required};
-ghost use Rattle.vf_fields.specs.Writing.{◌▸◌, appended, part_of};
-ghost use Rattle.vf_parameters.specs.Parameters.{contents as contents_form, no_terms, terms as terms_form};
-ghost use Rattle.vf_parameters.specs.ParameterSlots.{contents_content, maybe_attributes, maybe_contents, maybe_diagnostic, maybe_terms, terms_content};
+ghost use Rattle.vf_pdu_fields.specs.Content.{Octets as OctetsContent};
+ghost use Rattle.vf_pdu_fields.specs.Slots.{attribute_controls, content_controls, maybe_actions, maybe_num, maybe_octets, num};
+ghost use Rattle.vf_pdu_fields.specs.Rows.{Controls, String as StringField, Text, int, one, optional, or, required};
+ghost use Rattle.vf_pdu_fields.specs.Writing.{◌▸◌, appended, part_of};
+ghost use Rattle.vf_pdu_parameters.specs.Parameters.{contents as contents_form, no_terms, terms as terms_form};
+ghost use Rattle.vf_pdu_parameters.specs.ParameterSlots.{contents_content, maybe_attributes, maybe_contents, maybe_diagnostic, maybe_terms, terms_content};
 ghost use Rattle.vf_pdu.specs.PduRows.{change_attrib_request as change_attrib_request_row, create_request as create_request_row, open_request as open_request_row, open_response as open_response_row, read_attrib_response as read_attrib_response_row};
 
 use std::alloc::Global;
 use vf_base::{Actions, Contents, Diagnostic, Name, NoMemory, Octets, Terms};
 use vf_ber::Values;
-use vf_fields::{
+use vf_pdu_fields::{
     AttributeControls, ContentControls, put_attribute_controls, put_content_controls, put_integer,
     put_integer_or, put_maybe_actions, put_maybe_natural, put_maybe_string, put_maybe_text,
     put_text,
 };
-use vf_parameters::{
+use vf_pdu_parameters::{
     Attributes, put_contents, put_diagnostic, put_maybe_attributes, put_maybe_contents,
     put_maybe_terms, put_terms_or_none,
 };

@@ -2,20 +2,20 @@
 ghost use Rattle.std.specs.Prelude.{◌≡◌, ◌≤◌, [], ◌∷◌, IfOk, Some};
 ghost use Rattle.std.specs.Option.{option_map};
 ghost use Rattle.vf_ber.specs.Tree.{none};
-ghost use Rattle.vf_fields.specs.Content.{Octets as OctetsContent};
-ghost use Rattle.vf_fields.specs.Slots.{attribute_controls as attribute_controls_content, maybe_octets, num};
-ghost use Rattle.vf_fields.specs.Writing.{appended};
-ghost use Rattle.vf_parameters.specs.ParameterSlots.{maybe_diagnostic};
+ghost use Rattle.vf_pdu_fields.specs.Content.{Octets as OctetsContent};
+ghost use Rattle.vf_pdu_fields.specs.Slots.{attribute_controls as attribute_controls_content, maybe_octets, num};
+ghost use Rattle.vf_pdu_fields.specs.Writing.{appended};
+ghost use Rattle.vf_pdu_parameters.specs.ParameterSlots.{maybe_diagnostic};
 ghost use Rattle.vf_pdu.specs.PduRows.{answer as answer_row, begin_group_request as begin_group_request_row, initialize_request as initialize_request_row, initialize_response as initialize_response_row, provider_abort as provider_abort_row, read_attrib_request as read_attrib_request_row, select_request as select_request_row, user_abort as user_abort_row};
 
 use std::alloc::Global;
 use vf_base::{Actions, Diagnostic, Name, NoMemory, Octets};
 use vf_ber::Values;
-use vf_fields::{
+use vf_pdu_fields::{
     AttributeControls, put_attribute_controls, put_integer, put_integer_or, put_maybe_string,
     put_maybe_text, put_text,
 };
-use vf_parameters::put_diagnostic;
+use vf_pdu_parameters::put_diagnostic;
 
 /// A response that has a diagnostic alone.
 pub(crate) fn answer(alloc: Global, diagnostic: &Option<Diagnostic>) -> Result<Values, NoMemory>

@@ -1,21 +1,21 @@
 //! Writing the PDUs of access, transfer and recovery.
 ghost use Rattle.std.specs.Prelude.{◌≡◌, [], ◌∷◌, false, IfOk, IsSome, OnOk, Some};
 ghost use Rattle.vf_ber.specs.Tree.{none};
-ghost use Rattle.vf_fields.specs.Content.{Truth};
-ghost use Rattle.vf_fields.specs.Slots.{context_slot, fadu_slot, maybe_num, num, operation_slot};
-ghost use Rattle.vf_fields.specs.Rows.{Boolean, default, int, one, or, point as point_form};
-ghost use Rattle.vf_fields.specs.Writing.{◌▸◌, appended, part_of};
-ghost use Rattle.vf_parameters.specs.ParameterSlots.{maybe_diagnostic};
+ghost use Rattle.vf_pdu_fields.specs.Content.{Truth};
+ghost use Rattle.vf_pdu_fields.specs.Slots.{context_slot, fadu_slot, maybe_num, num, operation_slot};
+ghost use Rattle.vf_pdu_fields.specs.Rows.{Boolean, default, int, one, or, point as point_form};
+ghost use Rattle.vf_pdu_fields.specs.Writing.{◌▸◌, appended, part_of};
+ghost use Rattle.vf_pdu_parameters.specs.ParameterSlots.{maybe_diagnostic};
 ghost use Rattle.vf_pdu.specs.PduRows.{erase_request as erase_request_row, locate_request as locate_request_row, locate_response as locate_response_row, read_request as read_request_row, recover_request as recover_request_row, recover_response as recover_response_row, restart as restart_row, write_request as write_request_row};
 
 use std::alloc::Global;
 use vf_base::{Context, Diagnostic, FaduId, NoMemory};
 use vf_ber::Values;
-use vf_fields::{
+use vf_pdu_fields::{
     WriteOperation, put_boolean_or, put_context_or_ua, put_fadu, put_fadu_or_begin, put_integer,
     put_integer_or, put_maybe_natural, put_operation,
 };
-use vf_parameters::put_diagnostic;
+use vf_pdu_parameters::put_diagnostic;
 
 pub(crate) fn recover_request(
     alloc: Global,

@@ -8,10 +8,10 @@ use Rattle.vf_base.specs.declared.element.Element.{Element}
 use Rattle.vf_elements.specs.declared.message.Message.TheVariants as messages
 use Rattle.vf_elements.specs.declared.message.Said.TheVariants as answers
 use Rattle.vf_pdu.specs.declared.pdu.Pdu.TheVariants.{DataEnd, ReadRequest}
-use Rattle.vf_tables.specs.Readings.{given_of}
-use Rattle.vf_tables.specs.Rows.{Given, Nothing, Refused, Showed, given_unless}
-use Rattle.vf_tables.specs.declared.reading.Reading.{Reading}
-use Rattle.vf_tables.specs.declared.reading.Reading.TheVariants as readings
+use Rattle.vf_files.specs.Readings.{given_of}
+use Rattle.vf_files.specs.Rows.{Given, Nothing, Refused, Showed, given_unless}
+use Rattle.vf_files.specs.declared.reading.Reading.{Reading}
+use Rattle.vf_files.specs.declared.reading.Reading.TheVariants as readings
 use Rattle.vf_transfer.specs.Transfer.{Entry as TransferEntry, Value, joined as joined_values, standing as standing_values, survivors as surviving}
 use Rattle.vf_tree.specs.FileTree.{octets_of, octets_of_unit}
 use Rattle.vf_regime.specs.History.{has_data_end, positioned}

@@ -8,19 +8,19 @@ use Rattle.vf_base.specs.declared.contents.Contents.{Contents}
 use Rattle.vf_base.specs.declared.diagnostic.Diagnostic.{Diagnostic}
 use Rattle.vf_base.specs.declared.term.Term.{Term}
 use Rattle.vf_elements.specs.declared.message.Message.TheVariants as messages
-use Rattle.vf_fields.specs.declared.controls.AttributeControls.{AttributeControls}
-use Rattle.vf_fields.specs.declared.controls.ContentControls.{ContentControls}
-use Rattle.vf_fields.specs.declared.operation.WriteOperation.{WriteOperation}
+use Rattle.vf_pdu_fields.specs.declared.controls.AttributeControls.{AttributeControls}
+use Rattle.vf_pdu_fields.specs.declared.controls.ContentControls.{ContentControls}
+use Rattle.vf_pdu_fields.specs.declared.operation.WriteOperation.{WriteOperation}
 use Rattle.vf_pdu.specs.declared.pdu.Pdu.TheVariants.{SelectRequest, CreateRequest, OpenRequest, ReadRequest, WriteRequest, TransferEndRequest}
 use Rattle.vf_attr.specs.declared.file.File.{File}
-use Rattle.vf_tables.specs.Effects.{read_ending, write_ending}
-use Rattle.vf_tables.specs.Files.{file_named}
-use Rattle.vf_tables.specs.Rows.{Given, created, opened, read_given, select_row, write_given, refusal_of}
-use Rattle.vf_tables.specs.declared.creation.Created.{Created}
-use Rattle.vf_tables.specs.declared.creation.NewFile.{NewFile}
-use Rattle.vf_tables.specs.declared.ending.Ending.{Ending}
-use Rattle.vf_tables.specs.declared.opening.Opened.{Opened}
-use Rattle.vf_tables.specs.declared.tables.Tables.{Tables}
+use Rattle.vf_files.specs.Effects.{read_ending, write_ending}
+use Rattle.vf_files.specs.Files.{file_named}
+use Rattle.vf_files.specs.Rows.{Given, created, opened, read_given, select_row, write_given, refusal_of}
+use Rattle.vf_files.specs.declared.creation.Created.{Created}
+use Rattle.vf_files.specs.declared.creation.NewFile.{NewFile}
+use Rattle.vf_files.specs.declared.ending.Ending.{Ending}
+use Rattle.vf_files.specs.declared.opening.Opened.{Opened}
+use Rattle.vf_files.specs.declared.tables.Tables.{Tables}
 use Rattle.vf_regime.specs.declared.associated.Associated.{Associated}
 use Rattle.vf_regime.specs.declared.moving.Movement.{Movement}
 use Rattle.vf_regime.specs.declared.moving.Movement.TheVariants as movements

@@ -35,23 +35,23 @@ use Rattle.vf_elements.specs.declared.message.Message.{Message}
 use Rattle.vf_elements.specs.declared.message.Message.TheVariants as messages
 use Rattle.vf_elements.specs.declared.message.Said.{Said}
 use Rattle.vf_elements.specs.declared.message.Said.TheVariants as answers
-use Rattle.vf_fields.proofs.Plain.{some_is}
+use Rattle.vf_pdu_fields.proofs.Plain.{some_is}
 use Rattle.vf_pdu.specs.PduMeaning.{IsInRange}
 use Rattle.vf_pdu.specs.PduRows.{row_of}
 use Rattle.vf_pdu.specs.declared.pdu.Pdu.{Pdu}
 use Rattle.vf_pdu.specs.declared.pdu.Pdu.TheVariants.{InitializeRequest, InitializeResponse, TerminateRequest, ProviderAbort, SelectRequest, SelectResponse, DeselectRequest, CreateRequest, CreateResponse, OpenRequest, OpenResponse, CloseRequest, ReadRequest, WriteRequest, DataEnd, TransferEndRequest, TransferEndResponse}
-use Rattle.vf_tables.specs.Diagnostics.{plain}
-use Rattle.vf_tables.specs.Effects.{after_write, fitting, is_within_file, octets_row, only_unit, performed as write_performed, put_tree, put_unless, read_changes, read_ending, replacing, tree_after, version_row, write_ending}
-use Rattle.vf_tables.specs.Files.{after_changes, file_named, with_file}
-use Rattle.vf_tables.specs.Rows.{Given, Nothing, Refused, Showed, absent_row, access_row, action_row, count_row, created, created_unless, given_unless, includes, made, made_unless, modes, opened, opened_unless, read_given, read_of, refusal_of, replace_row, select_row, showing, tree_number, typed, unit_row, write_given, write_in, write_row}
-use Rattle.vf_tables.specs.declared.changes.Change.{Change}
-use Rattle.vf_tables.specs.declared.changes.Change.TheVariants.{PutFile}
-use Rattle.vf_tables.specs.declared.creation.Created.{Created}
-use Rattle.vf_tables.specs.declared.creation.Created.TheVariants as creations
-use Rattle.vf_tables.specs.declared.creation.NewFile.{NewFile}
-use Rattle.vf_tables.specs.declared.ending.Ending.{Ending}
-use Rattle.vf_tables.specs.declared.opening.Opened.{Opened}
-use Rattle.vf_tables.specs.declared.opening.Opened.TheVariants as openings
+use Rattle.vf_files.specs.Diagnostics.{plain}
+use Rattle.vf_files.specs.Effects.{after_write, fitting, is_within_file, octets_row, only_unit, performed as write_performed, put_tree, put_unless, read_changes, read_ending, replacing, tree_after, version_row, write_ending}
+use Rattle.vf_files.specs.Files.{after_changes, file_named, with_file}
+use Rattle.vf_files.specs.Rows.{Given, Nothing, Refused, Showed, absent_row, access_row, action_row, count_row, created, created_unless, given_unless, includes, made, made_unless, modes, opened, opened_unless, read_given, read_of, refusal_of, replace_row, select_row, showing, tree_number, typed, unit_row, write_given, write_in, write_row}
+use Rattle.vf_files.specs.declared.changes.Change.{Change}
+use Rattle.vf_files.specs.declared.changes.Change.TheVariants.{PutFile}
+use Rattle.vf_files.specs.declared.creation.Created.{Created}
+use Rattle.vf_files.specs.declared.creation.Created.TheVariants as creations
+use Rattle.vf_files.specs.declared.creation.NewFile.{NewFile}
+use Rattle.vf_files.specs.declared.ending.Ending.{Ending}
+use Rattle.vf_files.specs.declared.opening.Opened.{Opened}
+use Rattle.vf_files.specs.declared.opening.Opened.TheVariants as openings
 use Rattle.vf_tree.specs.Actions.{Done, replaced, replacement}
 use Rattle.vf_tree.specs.Contexts.{shown}
 use Rattle.vf_tree.specs.FileTree.{DataUnit, FileTree, new_file}

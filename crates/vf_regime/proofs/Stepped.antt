@@ -7,7 +7,7 @@ use Rattle.vf_elements.specs.declared.message.Message.{Message}
 use Rattle.vf_elements.specs.declared.message.Said.{Said}
 use Rattle.vf_elements.specs.declared.message.Said.TheVariants as answers
 use Rattle.vf_pdu.specs.declared.pdu.Pdu.{Pdu}
-use Rattle.vf_tables.specs.declared.tables.Tables.{Tables}
+use Rattle.vf_files.specs.declared.tables.Tables.{Tables}
 use Rattle.vf_regime.specs.declared.party.Outcome.{Outcome}
 use Rattle.vf_regime.specs.declared.party.Party.{Party}
 use Rattle.vf_regime.specs.declared.party.Party.TheVariants as parties

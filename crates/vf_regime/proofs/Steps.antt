@@ -4,9 +4,9 @@ use Rattle.vf_base.specs.declared.diagnostic.Diagnostic.{Diagnostic}
 use Rattle.vf_elements.specs.declared.message.Message.{Message}
 use Rattle.vf_elements.specs.declared.message.Said.{Said}
 use Rattle.vf_pdu.specs.declared.pdu.Pdu.{Pdu}
-use Rattle.vf_tables.specs.Rows.{Given}
-use Rattle.vf_tables.specs.declared.changes.Change.{Change}
-use Rattle.vf_tables.specs.declared.tables.Tables.{Tables}
+use Rattle.vf_files.specs.Rows.{Given}
+use Rattle.vf_files.specs.declared.changes.Change.{Change}
+use Rattle.vf_files.specs.declared.tables.Tables.{Tables}
 use Rattle.vf_regime.specs.declared.step.Step.{Step}
 use Rattle.vf_regime.specs.declared.step.StepError.TheVariants as errors
 use Rattle.vf_regime.specs.History.{Entry, History}

@@ -27,9 +27,9 @@ use Rattle.vf_tree.specs.Identities.{meant, standing}
 use Rattle.vf_tree.specs.FileTree.{DataUnit, FileTree, strings}
 use Rattle.vf_tree.specs.declared.errors.TreeError.{TreeError}
 use Rattle.vf_tree.specs.declared.errors.TreeError.TheVariants as tree_errors
-use Rattle.vf_tables.specs.Diagnostics.{plain}
-use Rattle.vf_tables.specs.Effects.{element_number}
-use Rattle.vf_tables.specs.Rows.{tree_number}
+use Rattle.vf_files.specs.Diagnostics.{plain}
+use Rattle.vf_files.specs.Effects.{element_number}
+use Rattle.vf_files.specs.Rows.{tree_number}
 use Rattle.vf_regime.specs.Sayable.{IsString, IsTold}
 
 abbrev pub AreStrings : List Element → Type 0

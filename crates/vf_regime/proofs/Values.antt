@@ -4,7 +4,7 @@ use Rattle.vf_base.specs.declared.diagnostic.Diagnostic.{Diagnostic}
 use Rattle.vf_base.specs.declared.element.Element.{Element}
 use Rattle.vf_elements.specs.declared.message.Message.TheVariants as messages
 use Rattle.vf_pdu.specs.declared.pdu.Pdu.TheVariants.{DataEnd}
-use Rattle.vf_tables.specs.declared.tables.Tables.{Tables}
+use Rattle.vf_files.specs.declared.tables.Tables.{Tables}
 use Rattle.vf_transfer.specs.Checks.{Checkpoints, RepresentsReceived}
 use Rattle.vf_transfer.specs.Transfer.{Entry as TransferEntry, Value, survivors as surviving}
 use Rattle.vf_tree.specs.FileTree.{octets_of, octets_of_unit}

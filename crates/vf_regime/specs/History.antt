@@ -14,7 +14,7 @@ use Rattle.vf_elements.specs.declared.message.Said.TheVariants as answers
 use Rattle.vf_elements.specs.declared.stage.Stage.{Stage}
 use Rattle.vf_elements.specs.declared.stage.Stage.TheVariants as stages
 use Rattle.vf_pdu.specs.declared.pdu.Pdu.TheVariants.{InitializeRequest, TerminateRequest, SelectRequest, DeselectRequest, CreateRequest, OpenRequest, CloseRequest, ReadRequest, WriteRequest, DataEnd, TransferEndRequest}
-use Rattle.vf_tables.specs.Rows.{Given, Showed}
+use Rattle.vf_files.specs.Rows.{Given, Showed}
 use Rattle.vf_transfer.specs.Transfer.{Entry as TransferEntry, Value, survivors as surviving}
 
 -- A concluded message: which transition of the run it was, when, the message, what was answered, and what it was given:

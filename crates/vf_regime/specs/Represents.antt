@@ -12,8 +12,8 @@ use Rattle.vf_elements.specs.declared.stage.Stage.{Stage}
 use Rattle.vf_elements.specs.declared.stage.Stage.TheVariants as stages
 use Rattle.vf_pdu.specs.declared.pdu.Pdu.{Pdu}
 use Rattle.vf_pdu.specs.declared.pdu.Pdu.TheVariants.{UserAbort, ProviderAbort}
-use Rattle.vf_tables.specs.Rows.{Given, refusal_of}
-use Rattle.vf_tables.specs.declared.tables.Tables.{Tables}
+use Rattle.vf_files.specs.Rows.{Given, refusal_of}
+use Rattle.vf_files.specs.declared.tables.Tables.{Tables}
 use Rattle.vf_transfer.specs.Checks.{RepresentsReceived}
 use Rattle.vf_tree.specs.FileTree.{octets_of_unit}
 use Rattle.vf_regime.specs.declared.associated.Associated.{Associated}

@@ -14,12 +14,12 @@ use Rattle.vf_elements.specs.Sizes.{IsShort}
 use Rattle.vf_elements.specs.declared.message.Message.{Message}
 use Rattle.vf_elements.specs.declared.message.Said.{Said}
 use Rattle.vf_elements.specs.declared.message.Said.TheVariants as answers
-use Rattle.vf_fields.specs.Meaning.{fits}
-use Rattle.vf_parameters.specs.ParameterSlots.{diagnostic_content}
-use Rattle.vf_parameters.specs.Parameters.{diagnostic as diagnostic_form}
+use Rattle.vf_pdu_fields.specs.Meaning.{fits}
+use Rattle.vf_pdu_parameters.specs.ParameterSlots.{diagnostic_content}
+use Rattle.vf_pdu_parameters.specs.Parameters.{diagnostic as diagnostic_form}
 use Rattle.vf_pdu.specs.PduMeaning.{IsInRange}
 use Rattle.vf_pdu.specs.declared.pdu.Pdu.TheVariants.{ProviderAbort}
-use Rattle.vf_tables.specs.Rows.{Given, Nothing, Refused, Showed}
+use Rattle.vf_files.specs.Rows.{Given, Nothing, Refused, Showed}
 use Rattle.vf_regime.specs.History.{Entry}
 use Rattle.vf_regime.specs.State.{State, StandingParty}
 use Rattle.vf_regime.specs.Transition.{after_transition, transition}

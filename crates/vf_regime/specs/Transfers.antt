@@ -3,10 +3,10 @@ use Rattle.std.specs.Prelude.{ℕ, List, Option, None, Some}
 use Rattle.vf_attr.specs.declared.file.File.{File}
 use Rattle.vf_attr.specs.declared.stamp.Stamp.{Stamp}
 use Rattle.vf_base.specs.declared.diagnostic.Diagnostic.{Diagnostic}
-use Rattle.vf_tables.specs.Diagnostics.{plain}
-use Rattle.vf_tables.specs.Effects.{read_ending, write_ending}
-use Rattle.vf_tables.specs.Rows.{Given, Showed}
-use Rattle.vf_tables.specs.declared.ending.Ending.{Ending}
+use Rattle.vf_files.specs.Diagnostics.{plain}
+use Rattle.vf_files.specs.Effects.{read_ending, write_ending}
+use Rattle.vf_files.specs.Rows.{Given, Showed}
+use Rattle.vf_files.specs.declared.ending.Ending.{Ending}
 use Rattle.vf_regime.specs.Transition.{joined}
 use Rattle.vf_regime.specs.declared.moving.Movement.{Movement}
 use Rattle.vf_regime.specs.declared.moving.Movement.TheVariants as movements

@@ -11,17 +11,17 @@ use Rattle.vf_elements.specs.declared.message.Said.{Said}
 use Rattle.vf_elements.specs.declared.message.Said.TheVariants as answers
 use Rattle.vf_pdu.specs.declared.pdu.Pdu.{Pdu}
 use Rattle.vf_pdu.specs.declared.pdu.Pdu.TheVariants.{InitializeRequest, InitializeResponse, TerminateRequest, TerminateResponse, SelectRequest, SelectResponse, DeselectRequest, DeselectResponse, CreateRequest, CreateResponse, OpenRequest, OpenResponse, CloseRequest, CloseResponse, ReadRequest, WriteRequest, DataEnd, TransferEndRequest, TransferEndResponse}
-use Rattle.vf_tables.specs.Diagnostics.{plain}
-use Rattle.vf_tables.specs.Effects.{read_ending, write_ending}
-use Rattle.vf_tables.specs.Files.{after_changes, file_named}
-use Rattle.vf_tables.specs.Rows.{Given, Nothing, Refused, Showed, created, opened, read_given, refusal_of, select_row, write_given}
-use Rattle.vf_tables.specs.declared.changes.Change.{Change}
-use Rattle.vf_tables.specs.declared.changes.Change.TheVariants.{PutFile}
-use Rattle.vf_tables.specs.declared.creation.Created.{Created}
-use Rattle.vf_tables.specs.declared.creation.Created.TheVariants as creations
-use Rattle.vf_tables.specs.declared.ending.Ending.{Ending}
-use Rattle.vf_tables.specs.declared.opening.Opened.{Opened}
-use Rattle.vf_tables.specs.declared.opening.Opened.TheVariants as openings
+use Rattle.vf_files.specs.Diagnostics.{plain}
+use Rattle.vf_files.specs.Effects.{read_ending, write_ending}
+use Rattle.vf_files.specs.Files.{after_changes, file_named}
+use Rattle.vf_files.specs.Rows.{Given, Nothing, Refused, Showed, created, opened, read_given, refusal_of, select_row, write_given}
+use Rattle.vf_files.specs.declared.changes.Change.{Change}
+use Rattle.vf_files.specs.declared.changes.Change.TheVariants.{PutFile}
+use Rattle.vf_files.specs.declared.creation.Created.{Created}
+use Rattle.vf_files.specs.declared.creation.Created.TheVariants as creations
+use Rattle.vf_files.specs.declared.ending.Ending.{Ending}
+use Rattle.vf_files.specs.declared.opening.Opened.{Opened}
+use Rattle.vf_files.specs.declared.opening.Opened.TheVariants as openings
 use Rattle.vf_tree.specs.FileTree.{octets_of, octets_of_unit}
 use Rattle.vf_attr.specs.declared.file.File.{File}
 use Rattle.vf_regime.specs.Built.{is_built}

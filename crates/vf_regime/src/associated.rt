@@ -2,7 +2,7 @@ ghost use Rattle.std.specs.Prelude.{◌≡◌, [], ◌∷◌, IfOk, IfErr, List,
 ghost use Rattle.vf_base.specs.declared.action.Actions.{Actions as ActionSet};
 ghost use Rattle.vf_base.specs.declared.contents.Contents.{Contents as FileContents};
 ghost use Rattle.vf_base.specs.declared.term.Term.{Term as FileTerm};
-ghost use Rattle.vf_fields.specs.declared.controls.AttributeControls.{AttributeControls as Controls};
+ghost use Rattle.vf_pdu_fields.specs.declared.controls.AttributeControls.{AttributeControls as Controls};
 ghost use Rattle.vf_elements.specs.declared.message.Message.TheVariants as messages;
 ghost use Rattle.vf_pdu.specs.declared.pdu.Pdu.TheVariants as pdus;
 ghost use Rattle.vf_elements.specs.declared.message.Said.TheVariants as answers;
@@ -12,8 +12,8 @@ use crate::step::one_said;
 use crate::{Change, Changes, File, Said, Selected, Stamp, Step, StepError, Tables};
 use std::alloc::Global;
 use vf_base::{Moment, Name, NoMemory};
+use vf_files::{Created, NewFile, create, plain, refused_select};
 use vf_pdu::Pdu;
-use vf_tables::{Created, NewFile, create, plain, refused_select};
 
 /// A party with an association and no selected file.
 #[derive(Drop)]

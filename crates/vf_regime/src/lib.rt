@@ -24,7 +24,7 @@ pub use selected::Selected;
 pub use step::{Step, StepError};
 pub use vf_attr::{File, Stamp};
 pub use vf_elements::{Message, Said, Stage};
-pub use vf_tables::{Change, Changes, Files, Tables};
+pub use vf_files::{Change, Changes, Files, Tables};
 pub use write::Write;
 
 #[cfg(test)]

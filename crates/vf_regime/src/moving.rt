@@ -10,8 +10,8 @@ use crate::step::one_said;
 use crate::{Open, Said, Stamp, Step, StepError, Tables, Write};
 use std::alloc::Global;
 use vf_base::{Diagnostic, Moment, NoMemory};
+use vf_files::{Ending, end_read, end_write};
 use vf_pdu::Pdu;
-use vf_tables::{Ending, end_read, end_write};
 
 /// A transfer that is under way.
 #[derive(Drop)]

@@ -2,7 +2,7 @@ ghost use Rattle.std.specs.Prelude.{◌≡◌, ◌<◌, IfErr, IsOk};
 ghost use Rattle.vf_base.specs.declared.access.Context.{Context as AccessContext};
 ghost use Rattle.vf_base.specs.declared.access.FaduId.{FaduId as Fadu};
 ghost use Rattle.vf_elements.specs.declared.message.Message.TheVariants as messages;
-ghost use Rattle.vf_fields.specs.declared.operation.WriteOperation.TheVariants as operations;
+ghost use Rattle.vf_pdu_fields.specs.declared.operation.WriteOperation.TheVariants as operations;
 ghost use Rattle.vf_pdu.specs.declared.pdu.Pdu.TheVariants as pdus;
 ghost use Rattle.vf_regime.specs.Represents.{IsMoving, IsOpen, IsSelected, IsStep};
 
@@ -11,8 +11,8 @@ use crate::transfers::{Shown, show, start};
 use crate::{Changes, Movement, Moving, Said, Selected, Step, StepError, Tables};
 use std::alloc::Global;
 use vf_base::Moment;
+use vf_files::read;
 use vf_pdu::Pdu;
-use vf_tables::read;
 
 /// A party with an open file and no transfer.
 #[derive(Drop)]

@@ -1,6 +1,6 @@
 ghost use Rattle.std.specs.Prelude.{◌≡◌, IfErr, List, ℕ, Option};
 ghost use Rattle.vf_base.specs.declared.contents.Contents.{Contents as FileContents};
-ghost use Rattle.vf_fields.specs.declared.controls.ContentControls.{ContentControls as Controls};
+ghost use Rattle.vf_pdu_fields.specs.declared.controls.ContentControls.{ContentControls as Controls};
 ghost use Rattle.vf_elements.specs.declared.message.Message.TheVariants as messages;
 ghost use Rattle.vf_pdu.specs.declared.pdu.Pdu.TheVariants as pdus;
 ghost use Rattle.vf_regime.specs.Represents.{IsAssociated, IsOpen, IsSelected, IsStep};
@@ -9,8 +9,8 @@ use crate::step::one_said;
 use crate::{Associated, Changes, Open, Said, Step, StepError, Tables};
 use std::alloc::Global;
 use vf_base::{Actions, Moment, Name};
+use vf_files::{Opened, open_file};
 use vf_pdu::Pdu;
-use vf_tables::{Opened, open_file};
 
 /// A party with a selected file that isn't open.
 #[derive(Drop)]

@@ -2,9 +2,9 @@
 ghost use Rattle.std.specs.Prelude.{◌≡◌, ◌++◌, ◌∷◌, [], map, IfOk};
 ghost use Rattle.vf_elements.specs.declared.message.Said.TheVariants as answers;
 ghost use Rattle.vf_pdu.specs.declared.pdu.Pdu.TheVariants as pdus;
-ghost use Rattle.vf_tables.specs.Files.{file_named};
-ghost use Rattle.vf_tables.specs.Readings.{given_of};
-ghost use Rattle.vf_tables.specs.Rows.{refusal_of, write_row};
+ghost use Rattle.vf_files.specs.Files.{file_named};
+ghost use Rattle.vf_files.specs.Readings.{given_of};
+ghost use Rattle.vf_files.specs.Rows.{refusal_of, write_row};
 ghost use Rattle.vf_regime.specs.Transfers.{position_after, refused_by};
 ghost use Rattle.vf_regime.specs.Transition.{read_said};
 ghost use Rattle.vf_transfer.specs.Checks.{RepresentsReceived};
@@ -12,8 +12,8 @@ ghost use Rattle.vf_transfer.specs.Checks.{RepresentsReceived};
 use crate::{Open, Said, Tables, Write};
 use std::alloc::Global;
 use vf_base::{Diagnostic, Element, FaduId, NoMemory};
+use vf_files::{Reading, plain, refused_write};
 use vf_pdu::Pdu;
-use vf_tables::{Reading, plain, refused_write};
 use vf_transfer::Receiving;
 
 /// What comes of a read that was asked for.

@@ -1,19 +1,19 @@
 -- Each trace that is allowed is one that a session can stand for.
 use Rattle.std.proofs.Common.{◌≡◌, Bool, true, List, [], ◌∷◌, ◌++◌, refl, ap, sym, subst, arith}
 use Rattle.vf_session.specs.declared.hearing.Hearing.TheVariants.{Tells}
-use Rattle.vf_spdu.specs.declared.spdu.Spdu.{Spdu}
+use Rattle.vf_session_spdu.specs.declared.spdu.Spdu.{Spdu}
 use Rattle.vf_session.specs.declared.standing.Standing.{Standing}
 use Rattle.vf_session.specs.declared.units.SessionSay.{SessionSay}
 use Rattle.vf_session.specs.declared.units.TokenSide.{TokenSide}
 use Rattle.vf_session.specs.Advances.{Grows, advanced, kept_after}
 use Rattle.vf_session.specs.Allowed.{IsAllowed, nothing, said, heard, IsRead, kept_of, IsKept}
-use Rattle.vf_spdu.specs.Fields.{IsReadable}
+use Rattle.vf_session_spdu.specs.Fields.{IsReadable}
 use Rattle.vf_session.specs.Hearing.{hears}
 use Rattle.vf_session.specs.Represents.{Kept, Represents}
 use Rattle.vf_session.specs.Saying.{may}
 use Rattle.vf_session.specs.Trace.{Trace, other, standing, settled, token, with_heard, with_said}
-use Rattle.vf_spdu.proofs.GrammarLemmas.{all-split}
-use Rattle.vf_spdu.proofs.ReadableLemmas.{reading-readable}
+use Rattle.vf_session_spdu.proofs.GrammarLemmas.{all-split}
+use Rattle.vf_session_spdu.proofs.ReadableLemmas.{reading-readable}
 use Rattle.vf_session.proofs.GrowLemmas.{InBounds, advanced-bounds, hears-grows}
 use Rattle.vf_session.proofs.SaidLemmas.{may-grows, may-free}
 use Rattle.vf_session.proofs.TakeLemmas as take

@@ -7,8 +7,8 @@ use Rattle.vf_session.specs.declared.errors.SessionError.{SessionError}
 use Rattle.vf_session.specs.declared.hearing.Hearing.{Hearing}
 use Rattle.vf_session.specs.declared.hearing.Hearing.TheVariants.{Nothing, Tells, Faulty}
 use Rattle.vf_session.specs.declared.resync.Resync.{Resync}
-use Rattle.vf_spdu.specs.declared.spdu.Spdu.{Spdu}
-use Rattle.vf_spdu.specs.declared.spdu.SpduFields.{SpduFields}
+use Rattle.vf_session_spdu.specs.declared.spdu.Spdu.{Spdu}
+use Rattle.vf_session_spdu.specs.declared.spdu.SpduFields.{SpduFields}
 use Rattle.vf_session.specs.declared.standing.Standing.{Standing}
 use Rattle.vf_session.specs.declared.units.ResyncKind.{ResyncKind}
 use Rattle.vf_session.specs.declared.units.ResyncKind.TheVariants.{Restart, Abandon}
@@ -17,9 +17,9 @@ use Rattle.vf_session.specs.declared.units.SessionSay.TheVariants as say
 use Rattle.vf_session.specs.declared.units.TokenSide.{TokenSide}
 use Rattle.vf_session.specs.declared.units.TokenSide.TheVariants.{Initiator, Responder}
 use Rattle.vf_session.specs.Advances.{Grows, advanced}
-use Rattle.vf_spdu.specs.Fields.{IsReadable, is_serial}
+use Rattle.vf_session_spdu.specs.Fields.{IsReadable, is_serial}
 use Rattle.vf_session.specs.Hearing.{hears, hears_by, standing_hears, waiting_hears, allowed_hears, may_come, hears_data, owes, negation, is_open, number_of, resync_of, token_heard, check_heard, acknowledgement_heard, resync_heard_by, named}
-use Rattle.vf_spdu.specs.Numbers.{last_serial}
+use Rattle.vf_session_spdu.specs.Numbers.{last_serial}
 use Rattle.vf_session.specs.Saying.{is_allowed, is_free, is_written}
 use Rattle.vf_session.specs.Trace.{other, is_side, is_from, is_resync, wins}
 

@@ -9,8 +9,8 @@ use Rattle.vf_session.specs.declared.hearing.Hearing.TheVariants.{Nothing, Tells
 use Rattle.vf_session.specs.declared.phase.Phase.{Phase}
 use Rattle.vf_session.specs.declared.phase.Phase.TheVariants.{Idle, Asked, Open, Leaving, Left, Aborted, Over}
 use Rattle.vf_session.specs.declared.resync.Resync.{Resync}
-use Rattle.vf_spdu.specs.declared.spdu.Spdu.{Spdu}
-use Rattle.vf_spdu.specs.declared.spdu.SpduFields.{SpduFields}
+use Rattle.vf_session_spdu.specs.declared.spdu.Spdu.{Spdu}
+use Rattle.vf_session_spdu.specs.declared.spdu.SpduFields.{SpduFields}
 use Rattle.vf_session.specs.declared.standing.Standing.{Standing}
 use Rattle.vf_session.specs.declared.units.ResyncKind.{ResyncKind}
 use Rattle.vf_session.specs.declared.units.ResyncKind.TheVariants.{Restart, Abandon}
@@ -20,14 +20,14 @@ use Rattle.vf_session.specs.declared.units.TokenSide.{TokenSide}
 use Rattle.vf_session.specs.declared.units.TokenSide.TheVariants.{Initiator, Responder}
 use Rattle.vf_session.specs.Advances.{advanced}
 use Rattle.vf_session.specs.Allowed.{IsAllowed, heard, IsRead, kept_of}
-use Rattle.vf_spdu.specs.Fields.{no_fields}
+use Rattle.vf_session_spdu.specs.Fields.{no_fields}
 use Rattle.vf_session.specs.Hearing.{hears, hears_by, standing_hears, waiting_hears, allowed_hears, may_come, hears_data, owes, negation, is_idle, is_asked, is_open, is_leaving, is_left, is_over, check_heard, acknowledgement_heard, resync_heard, resync_of, kind_of, named, answer_heard, answers}
 use Rattle.vf_session.specs.Mutual.{Fits, Agree, Begins, Turns, told_first, told_by, heard_of, with_all, IsHeard, Hears}
 use Rattle.vf_session.specs.Represents.{newest_resync}
 use Rattle.vf_session.specs.Saying.{may, is_allowed, fits, is_free, names_rightly, numbers_rightly, answers_rightly, answer_number, is_written, spdus, gt, units_fields, serial_fields, reason_fields, abort_fields, resync_code, token_item}
-use Rattle.vf_spdu.specs.Kinds.{code_of, first_kind, second_kind}
-use Rattle.vf_spdu.specs.Spelling.{IsWritten, spelling}
-use Rattle.vf_spdu.proofs.RoundTrip.{reads-alone, reads-behind}
+use Rattle.vf_session_spdu.specs.Kinds.{code_of, first_kind, second_kind}
+use Rattle.vf_session_spdu.specs.Spelling.{IsWritten, spelling}
+use Rattle.vf_session_spdu.proofs.RoundTrip.{reads-alone, reads-behind}
 use Rattle.vf_session.specs.Trace.{Trace, other, is_side, is_from, standing, phase, resync, token, settled, with_heard, with_said}
 use Rattle.vf_session.proofs.AllowedLemmas.{allowed-kept, bounds-of, stands-said, stands-heard}
 use Rattle.vf_session.proofs.GrowLemmas.{and_true}

@@ -4,17 +4,17 @@ use Rattle.std.proofs.lemmas.Bool.{cases_lt}
 use Rattle.std.proofs.lemmas.Bool.Decides.{nat_tests}
 use Rattle.std.proofs.lemmas.List.{length-append}
 use Rattle.std.specs.Option.{option_map}
-use Rattle.vf_spdu.specs.declared.spdu.Spdu.{Spdu}
+use Rattle.vf_session_spdu.specs.declared.spdu.Spdu.{Spdu}
 use Rattle.vf_session.specs.declared.units.ResyncKind.{ResyncKind}
 use Rattle.vf_session.specs.declared.units.SessionSay.{SessionSay}
 use Rattle.vf_session.specs.declared.units.SessionSay.TheVariants as say
 use Rattle.vf_session.specs.declared.units.TokenSide.{TokenSide}
 use Rattle.vf_base.specs.declared.spdu_kind.SpduKind.TheVariants as kinds
-use Rattle.vf_spdu.specs.Fields.{no_fields}
-use Rattle.vf_spdu.specs.Numbers.{digits, digit_count, six_digits, zeros_in_front}
+use Rattle.vf_session_spdu.specs.Fields.{no_fields}
+use Rattle.vf_session_spdu.specs.Numbers.{digits, digit_count, six_digits, zeros_in_front}
 use Rattle.vf_session.specs.Rooms.{connect_size, token_size, data_length, room}
 use Rattle.vf_session.specs.Saying.{fits, has_room, units_fields, reason_fields, abort_fields, resync_code, token_item}
-use Rattle.vf_spdu.specs.Spelling.{spelled, spelled_if, second_data, spelled_parameters}
+use Rattle.vf_session_spdu.specs.Spelling.{spelled, spelled_if, second_data, spelled_parameters}
 
 -- ---- one parameter
 

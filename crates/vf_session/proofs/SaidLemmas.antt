@@ -4,19 +4,19 @@ use Rattle.std.proofs.lemmas.Bool.Decides.{nat_tests}
 use Rattle.std.specs.List.{list_all, AllByRecursion}
 use Rattle.vf_base.specs.declared.spdu_kind.SpduKind.TheVariants as kinds
 use Rattle.vf_session.specs.declared.resync.Resync.{Resync}
-use Rattle.vf_spdu.specs.declared.spdu.Spdu.{Spdu}
+use Rattle.vf_session_spdu.specs.declared.spdu.Spdu.{Spdu}
 use Rattle.vf_session.specs.declared.standing.Standing.{Standing}
 use Rattle.vf_session.specs.declared.units.ResyncKind.{ResyncKind}
 use Rattle.vf_session.specs.declared.units.ResyncKind.TheVariants.{Restart, Abandon}
 use Rattle.vf_session.specs.declared.units.SessionSay.{SessionSay}
 use Rattle.vf_session.specs.declared.units.SessionSay.TheVariants as say
 use Rattle.vf_session.specs.declared.units.TokenSide.{TokenSide}
-use Rattle.vf_spdu.specs.Fields.{no_fields}
-use Rattle.vf_spdu.specs.Numbers.{last_serial}
+use Rattle.vf_session_spdu.specs.Fields.{no_fields}
+use Rattle.vf_session_spdu.specs.Numbers.{last_serial}
 use Rattle.vf_session.specs.Advances.{Grows}
 use Rattle.vf_session.specs.Represents.{Kept}
 use Rattle.vf_session.specs.Saying.{may, is_allowed, fits, has_room, spdus, gt, units_fields, reason_fields, abort_fields, serial_fields, resync_code, token_item, names_rightly, answers_rightly, is_written, answer_number}
-use Rattle.vf_spdu.specs.Spelling.{IsWritten, HasFields, HasUnits, HasReason, HasAbort, IsSide, spelled_parameters}
+use Rattle.vf_session_spdu.specs.Spelling.{IsWritten, HasFields, HasUnits, HasReason, HasAbort, IsSide, spelled_parameters}
 use Rattle.vf_session.specs.Trace.{other, is_side, is_resync}
 use Rattle.vf_session.proofs.GrowLemmas.{and_true, InBounds, said-free, said-grows}
 

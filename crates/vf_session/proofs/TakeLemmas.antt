@@ -4,7 +4,7 @@ use Rattle.vf_session.specs.declared.errors.SessionError.{SessionError}
 use Rattle.vf_session.specs.declared.errors.SessionError.TheVariants as errors
 use Rattle.vf_session.specs.declared.hearing.Hearing.{Hearing}
 use Rattle.vf_session.specs.declared.hearing.Hearing.TheVariants.{Tells, Faulty}
-use Rattle.vf_spdu.specs.declared.spdu.Spdu.{Spdu}
+use Rattle.vf_session_spdu.specs.declared.spdu.Spdu.{Spdu}
 use Rattle.vf_session.specs.declared.standing.Standing.{Standing}
 use Rattle.vf_session.specs.declared.units.SessionSay.{SessionSay}
 use Rattle.vf_session.specs.Advances.{Grows, kept_after}

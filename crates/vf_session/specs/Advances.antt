@@ -5,7 +5,7 @@ use Rattle.vf_session.specs.declared.standing.Standing.{Standing}
 use Rattle.vf_session.specs.declared.units.SessionSay.{SessionSay}
 use Rattle.vf_session.specs.declared.units.SessionSay.TheVariants as say
 use Rattle.vf_session.specs.declared.units.TokenSide.{TokenSide}
-use Rattle.vf_spdu.specs.Numbers.{last_serial}
+use Rattle.vf_session_spdu.specs.Numbers.{last_serial}
 use Rattle.vf_session.specs.Represents.{Kept}
 use Rattle.vf_session.specs.Trace.{other, is_side, is_from, is_resync}
 

@@ -2,10 +2,10 @@
 -- alone, and of no session.
 use Rattle.std.specs.Prelude.{◌≡◌, ℕ, ◌≤◌, Bool, IsTrue, List, [], ◌∷◌, ◌++◌, Ok}
 use Rattle.vf_session.specs.declared.hearing.Hearing.TheVariants.{Tells}
-use Rattle.vf_spdu.specs.declared.spdu.Spdu.{Spdu}
+use Rattle.vf_session_spdu.specs.declared.spdu.Spdu.{Spdu}
 use Rattle.vf_session.specs.declared.units.SessionSay.{SessionSay}
 use Rattle.vf_session.specs.declared.units.TokenSide.{TokenSide}
-use Rattle.vf_spdu.specs.Reading.{reading}
+use Rattle.vf_session_spdu.specs.Reading.{reading}
 use Rattle.vf_session.specs.Hearing.{hears}
 use Rattle.vf_session.specs.Represents.{Kept, Represents}
 use Rattle.vf_session.specs.Saying.{may}

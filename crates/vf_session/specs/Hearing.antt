@@ -9,15 +9,15 @@ use Rattle.vf_session.specs.declared.hearing.Hearing.TheVariants.{Nothing, Tells
 use Rattle.vf_session.specs.declared.phase.Phase.{Phase}
 use Rattle.vf_session.specs.declared.phase.Phase.TheVariants.{Idle, Asked, Open, Leaving, Left, Aborted, Over}
 use Rattle.vf_session.specs.declared.resync.Resync.{Resync}
-use Rattle.vf_spdu.specs.declared.spdu.Spdu.{Spdu}
-use Rattle.vf_spdu.specs.declared.spdu.SpduFields.{SpduFields}
+use Rattle.vf_session_spdu.specs.declared.spdu.Spdu.{Spdu}
+use Rattle.vf_session_spdu.specs.declared.spdu.SpduFields.{SpduFields}
 use Rattle.vf_session.specs.declared.standing.Standing.{Standing}
 use Rattle.vf_session.specs.declared.units.ResyncKind.{ResyncKind}
 use Rattle.vf_session.specs.declared.units.ResyncKind.TheVariants.{Restart, Abandon}
 use Rattle.vf_session.specs.declared.units.SessionSay.TheVariants as say
 use Rattle.vf_session.specs.declared.units.TokenSide.{TokenSide}
 use Rattle.vf_session.specs.declared.units.TokenSide.TheVariants.{Initiator, Responder}
-use Rattle.vf_spdu.specs.Kinds.{code_of}
+use Rattle.vf_session_spdu.specs.Kinds.{code_of}
 use Rattle.vf_session.specs.Trace.{other, is_side, is_from, wins}
 
 -- the phases

@@ -3,7 +3,7 @@
 -- connection at the same place, each end in a phase that fits the other's.
 use Rattle.std.specs.Prelude.{◌≡◌, Bool, true, false, IsTrue, List, [], ◌∷◌, Option, None, Some}
 use Rattle.std.specs.Option.{option_map}
-use Rattle.vf_spdu.specs.declared.spdu.Spdu.{Spdu}
+use Rattle.vf_session_spdu.specs.declared.spdu.Spdu.{Spdu}
 use Rattle.vf_session.specs.declared.hearing.Hearing.{Hearing}
 use Rattle.vf_session.specs.declared.hearing.Hearing.TheVariants.{Nothing, Tells, Faulty}
 use Rattle.vf_session.specs.declared.phase.Phase.{Phase}

@@ -5,7 +5,7 @@ use Rattle.vf_session.specs.declared.errors.SessionError.TheVariants.{NoMemory}
 use Rattle.vf_session.specs.declared.hearing.Hearing.{Hearing}
 use Rattle.vf_session.specs.declared.hearing.Hearing.TheVariants.{Nothing, Tells, Faulty}
 use Rattle.vf_session.specs.declared.resync.Resync.{Resync}
-use Rattle.vf_spdu.specs.declared.spdu.Spdu.{Spdu}
+use Rattle.vf_session_spdu.specs.declared.spdu.Spdu.{Spdu}
 use Rattle.vf_session.specs.declared.standing.Standing.{Standing}
 use Rattle.vf_session.specs.declared.units.SessionSay.{SessionSay}
 use Rattle.vf_session.specs.declared.units.TokenSide.{TokenSide}

@@ -4,7 +4,7 @@ use Rattle.std.specs.Prelude.{ℕ, ◌+◌, ◌-◌, Bool, true, false, List, le
 use Rattle.vf_session.specs.declared.units.SessionSay.{SessionSay}
 use Rattle.vf_session.specs.declared.units.SessionSay.TheVariants as say
 use Rattle.vf_session.specs.declared.units.TokenSide.{TokenSide}
-use Rattle.vf_spdu.specs.Numbers.{digit_count}
+use Rattle.vf_session_spdu.specs.Numbers.{digit_count}
 
 abbrev pub connect_size : Bool → ℕ → ℕ
 connect_size true serial = 17 + digit_count serial

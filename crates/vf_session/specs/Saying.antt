@@ -4,8 +4,8 @@ use Rattle.std.specs.List.{list_all}
 use Rattle.std.specs.Option.{option_map}
 use Rattle.vf_base.specs.declared.spdu_kind.SpduKind.TheVariants.{CN, AC, RF, FN, DN, AB, DT, GT, MIP, MIA, RS, RA}
 use Rattle.vf_session.specs.declared.resync.Resync.{Resync}
-use Rattle.vf_spdu.specs.declared.spdu.Spdu.{Spdu}
-use Rattle.vf_spdu.specs.declared.spdu.SpduFields.{SpduFields}
+use Rattle.vf_session_spdu.specs.declared.spdu.Spdu.{Spdu}
+use Rattle.vf_session_spdu.specs.declared.spdu.SpduFields.{SpduFields}
 use Rattle.vf_session.specs.declared.standing.Standing.{Standing}
 use Rattle.vf_session.specs.declared.units.ResyncKind.{ResyncKind}
 use Rattle.vf_session.specs.declared.units.ResyncKind.TheVariants.{Restart, Abandon}
@@ -13,10 +13,10 @@ use Rattle.vf_session.specs.declared.units.SessionSay.{SessionSay}
 use Rattle.vf_session.specs.declared.units.SessionSay.TheVariants as say
 use Rattle.vf_session.specs.declared.units.TokenSide.{TokenSide}
 use Rattle.vf_session.specs.declared.units.TokenSide.TheVariants.{Initiator, Responder}
-use Rattle.vf_spdu.specs.Fields.{no_fields}
+use Rattle.vf_session_spdu.specs.Fields.{no_fields}
 use Rattle.vf_session.specs.Hearing.{is_idle, is_asked, is_open, is_left, is_over, negation}
-use Rattle.vf_spdu.specs.Numbers.{last_serial}
-use Rattle.vf_spdu.specs.Spelling.{spelled_parameters}
+use Rattle.vf_session_spdu.specs.Numbers.{last_serial}
+use Rattle.vf_session_spdu.specs.Spelling.{spelled_parameters}
 use Rattle.vf_session.specs.Trace.{other, is_side}
 
 -- ---- the SPDUs

@@ -8,7 +8,7 @@ use crate::resync::Resync;
 use crate::standing::Standing;
 use crate::{Phase, ResyncKind, SessionError, SessionSay, Spdu, SpduFields, TokenSide};
 use vf_base::{Octets, SpduKind};
-use vf_spdu::code_of;
+use vf_session_spdu::code_of;
 
 /// What an SPDU tells.
 #[derive(Drop)]

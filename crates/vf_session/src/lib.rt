@@ -18,7 +18,7 @@ pub use laws::{allowed_traces_are_kept, said_is_heard};
 pub use phase::Phase;
 pub use session::Session;
 pub use units::{ResyncKind, SessionOut, SessionSay, TokenSide};
-pub use vf_spdu::{
+pub use vf_session_spdu::{
     Spdu, SpduError, SpduFields, fault_place, place_behind_gt, read, write, written_is_read_again,
 };
 

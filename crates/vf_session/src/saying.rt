@@ -7,7 +7,7 @@ use crate::hearing::{is_side, other};
 use crate::resync::Resync;
 use crate::standing::Standing;
 use crate::{Phase, ResyncKind, SessionSay, TokenSide};
-use vf_spdu::digit_count;
+use vf_session_spdu::digit_count;
 
 /// Whether a unit may be said where the connection stands so; its length isn't looked at, but for that of a CN.
 pub(crate) fn is_allowed(own: TokenSide, offer: bool, s: &Standing, say: &SessionSay) -> bool

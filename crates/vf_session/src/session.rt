@@ -2,10 +2,10 @@
 ghost use Rattle.std.specs.Prelude.{◌≡◌, ◌++◌, [], ◌≤◌, None, true, IsTrue, OnOk, OnErr};
 ghost use Rattle.std.specs.List.{AllByRecursion};
 ghost use Rattle.vf_session.specs.Advances.{Grows, kept_after};
-ghost use Rattle.vf_spdu.specs.Fields.{IsReadable};
+ghost use Rattle.vf_session_spdu.specs.Fields.{IsReadable};
 ghost use Rattle.vf_session.specs.Represents.{Represents, Takes, IsSameEnd};
 ghost use Rattle.vf_session.specs.Saying.{may as may_say, spdus, holds_token};
-ghost use Rattle.vf_spdu.specs.Spelling.{IsWritten};
+ghost use Rattle.vf_session_spdu.specs.Spelling.{IsWritten};
 ghost use Rattle.vf_session.specs.Trace.{Trace, is_resync as is_resync_said, next as next_of, standing as standing_of, with_said};
 ghost use Rattle.vf_session.specs.Hearing.{hears as told_by};
 ghost use Rattle.vf_session.specs.declared.units.SessionSay.{SessionSay};

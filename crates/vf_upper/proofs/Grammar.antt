@@ -20,13 +20,13 @@ use Rattle.vf_upper.proofs.Parts.{first_of, is_low}
 use Rattle.vf_upper.proofs.Readings.{IsSound, Reads, typed-reads}
 use Rattle.vf_upper.proofs.TypesRead.{acse_data-reads, all_data-reads, aru-reads, cp-reads, cpa-reads, cpr-reads, resynchronization-reads, rlre-reads, rlrq-reads}
 use Rattle.vf_upper.proofs.WrittenTrees.{acse_id-fits, sequence-tree, written-tree}
-use Rattle.vf_userdata.specs.declared.labels.NumberLabel.{NumberLabel}
-use Rattle.vf_userdata.specs.declared.labels.NumberLabel.TheVariants.{AnyContext, PciContext}
-use Rattle.vf_userdata.specs.Forms.{has_tag, Reading, Tags}
-use Rattle.vf_userdata.specs.Marks.{Mark}
-use Rattle.vf_userdata.specs.Texts.{typed}
-use Rattle.vf_userdata.specs.Types as types
-use Rattle.vf_userdata.specs.Types.{cargo_of, found_in}
+use Rattle.vf_upper_grammar.specs.declared.labels.NumberLabel.{NumberLabel}
+use Rattle.vf_upper_grammar.specs.declared.labels.NumberLabel.TheVariants.{AnyContext, PciContext}
+use Rattle.vf_upper_grammar.specs.Forms.{has_tag, Reading, Tags}
+use Rattle.vf_upper_grammar.specs.Marks.{Mark}
+use Rattle.vf_upper_grammar.specs.Texts.{typed}
+use Rattle.vf_upper_grammar.specs.Types as types
+use Rattle.vf_upper_grammar.specs.Types.{cargo_of, found_in}
 
 read-alone : (tags : Tags) (read : Reading) (tree : Tree) (marks : List Mark) → has_tag tags (first_of tree) ≡ true → is_low (root tree) ≡ true → Reads read tree marks → IsSound tree
     → typed tags read (spell tree) [] ≡ Ok marks

@@ -1,11 +1,11 @@
 -- What is found in the user data that are written for a primitive.
 use Rattle.std.specs.Prelude.{ℤ, pos, Bool, true, false, List, [], ◌∷◌, ◌++◌}
 use Rattle.std.specs.List.{flat_map}
-use Rattle.vf_userdata.specs.declared.labels.NameLabel.TheVariants.{Stated, Abstract, Transfer, Application}
-use Rattle.vf_userdata.specs.declared.labels.NumberLabel.{NumberLabel}
-use Rattle.vf_userdata.specs.declared.labels.NumberLabel.TheVariants.{Fixed, Proposal, Outcome, AcseContext, PciContext, AnyContext}
-use Rattle.vf_userdata.specs.Marks.{Mark, number, name, value}
-use Rattle.vf_userdata.specs.Syntaxes as syntaxes
+use Rattle.vf_upper_grammar.specs.declared.labels.NameLabel.TheVariants.{Stated, Abstract, Transfer, Application}
+use Rattle.vf_upper_grammar.specs.declared.labels.NumberLabel.{NumberLabel}
+use Rattle.vf_upper_grammar.specs.declared.labels.NumberLabel.TheVariants.{Fixed, Proposal, Outcome, AcseContext, PciContext, AnyContext}
+use Rattle.vf_upper_grammar.specs.Marks.{Mark, number, name, value}
+use Rattle.vf_upper_grammar.specs.Syntaxes as syntaxes
 use Rattle.vf_upper.specs.declared.contexts.ContextEntry.{ContextEntry}
 use Rattle.vf_upper.specs.declared.contexts.Offer.{Offer}
 use Rattle.vf_upper.specs.declared.primitive.Primitive.{Primitive}

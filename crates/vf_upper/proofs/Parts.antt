@@ -18,7 +18,7 @@ use Rattle.vf_ber.specs.Tags.{AreTrees, IsTag, IsTree}
 use Rattle.vf_ber.specs.Tree.{built, depth_in, plain, root, Tag, Tree}
 use Rattle.vf_ber.specs.Verdict.{Read}
 use Rattle.vf_upper.specs.Written.{holding, trees}
-use Rattle.vf_userdata.specs.Parts.{behind_length, ends, Header, header_at, long_form, next, number_of, Part, part_with, Parts, parts_by, parts_in, parts_of, Piece, piece_of, place_in, Taken, taken, taken_at, taken_by, Text}
+use Rattle.vf_upper_grammar.specs.Parts.{behind_length, ends, Header, header_at, long_form, next, number_of, Part, part_with, Parts, parts_by, parts_in, parts_of, Piece, piece_of, place_in, Taken, taken, taken_at, taken_by, Text}
 
 -- ---- trees and their parts
 

@@ -18,13 +18,13 @@ use Rattle.vf_ber.proofs.Oids.{oid-read}
 use Rattle.vf_upper.specs.Laws.{IsIdentifier}
 use Rattle.vf_upper.specs.Written.{context, holding, trees}
 use Rattle.vf_upper.proofs.Parts.{AreParts, first_of, is_low, IsLow, IsPart, low-by, parts-are, small-contents, small-parts, small-spelled, value-octets, verdict-alone}
-use Rattle.vf_userdata.specs.declared.labels.NameLabel.{NameLabel}
-use Rattle.vf_userdata.specs.declared.labels.NumberLabel.{NumberLabel}
-use Rattle.vf_userdata.specs.Forms.{◌>>=◌, constructed, due, Due, each, exactly, Field, found_name, found_number, has_tag, in_order, integer, is_allowed, is_allowed_name, is_known, lacking, leading, leads, object_identifier, ordered, Reading, sequence, sequence_of, set, step, Tags}
-use Rattle.vf_userdata.specs.Marks.{Found, Mark, name, number, value}
-use Rattle.vf_userdata.specs.Parts.{ends, is_constructed, next, number_of, Part, Parts, parts_of, Text}
-use Rattle.vf_userdata.specs.Texts.{Cargo, carried, carried_by, explicit_held, front, Held, held_in, landed, nothing, one, segments, then_read, typed, typed_by, unless}
-use Rattle.vf_userdata.specs.Types.{explicit, required}
+use Rattle.vf_upper_grammar.specs.declared.labels.NameLabel.{NameLabel}
+use Rattle.vf_upper_grammar.specs.declared.labels.NumberLabel.{NumberLabel}
+use Rattle.vf_upper_grammar.specs.Forms.{◌>>=◌, constructed, due, Due, each, exactly, Field, found_name, found_number, has_tag, in_order, integer, is_allowed, is_allowed_name, is_known, lacking, leading, leads, object_identifier, ordered, Reading, sequence, sequence_of, set, step, Tags}
+use Rattle.vf_upper_grammar.specs.Marks.{Found, Mark, name, number, value}
+use Rattle.vf_upper_grammar.specs.Parts.{ends, is_constructed, next, number_of, Part, Parts, parts_of, Text}
+use Rattle.vf_upper_grammar.specs.Texts.{Cargo, carried, carried_by, explicit_held, front, Held, held_in, landed, nothing, one, segments, then_read, typed, typed_by, unless}
+use Rattle.vf_upper_grammar.specs.Types.{explicit, required}
 
 -- ---- trees within the limits, and their parts
 

@@ -8,10 +8,10 @@ use Rattle.vf_base.specs.declared.spdu_kind.SpduKind.TheVariants.{CN, AC, RF, FN
 use Rattle.vf_ber.specs.Spelling.{spell}
 use Rattle.vf_ber.specs.Tree.{Tree, plain, built}
 use Rattle.vf_ber.proofs.Names.{identifier_some}
-use Rattle.vf_userdata.specs.declared.labels.NumberLabel.{NumberLabel}
-use Rattle.vf_userdata.specs.declared.labels.NumberLabel.TheVariants.{AcseContext, PciContext, AnyContext}
-use Rattle.vf_userdata.specs.Marks.{Mark, number}
-use Rattle.vf_userdata.specs.Types.{cargo_of, found_in}
+use Rattle.vf_upper_grammar.specs.declared.labels.NumberLabel.{NumberLabel}
+use Rattle.vf_upper_grammar.specs.declared.labels.NumberLabel.TheVariants.{AcseContext, PciContext, AnyContext}
+use Rattle.vf_upper_grammar.specs.Marks.{Mark, number}
+use Rattle.vf_upper_grammar.specs.Types.{cargo_of, found_in}
 use Rattle.vf_upper.specs.declared.contexts.ContextEntry.{ContextEntry}
 use Rattle.vf_upper.specs.declared.contexts.Offer.{Offer}
 use Rattle.vf_upper.specs.declared.primitive.Primitive.{Primitive}

@@ -14,15 +14,15 @@ use Rattle.vf_upper.proofs.Marked.{aare_marks, aarq_marks, acse_marks, carried_m
 use Rattle.vf_upper.proofs.Parts.{AreParts, first_of, is_low, IsPart}
 use Rattle.vf_upper.proofs.Readings.{are_low, AreSound, carried-reads, constructed-reads, exactly-reads, explicit-reads, integer-reads, IsSound, last_field, leading-first, oid-reads, one-reads, Orders, Reads, ReadsOctets, sequence-reads, sequence_of-reads, set-reads, then_field, typed-reads}
 use Rattle.vf_upper.proofs.WrittenTrees.{one_fits, two_fits, zero_fits}
-use Rattle.vf_userdata.specs.declared.labels.NameLabel.TheVariants.{Abstract, Application, Stated, Transfer}
-use Rattle.vf_userdata.specs.declared.labels.NumberLabel.{NumberLabel}
-use Rattle.vf_userdata.specs.declared.labels.NumberLabel.TheVariants.{AcseContext, AnyContext, Fixed, Outcome, PciContext, Proposal}
-use Rattle.vf_userdata.specs.Forms.{Field, has_tag, in_order, Reading, sequence_of, Tags}
-use Rattle.vf_userdata.specs.Marks.{Found, Mark, name, number, value}
-use Rattle.vf_userdata.specs.Parts.{ends, is_constructed, next, number_of, Part, Parts}
-use Rattle.vf_userdata.specs.Syntaxes as syntaxes
-use Rattle.vf_userdata.specs.Texts.{Cargo, carried, carried_data, one, some, typed}
-use Rattle.vf_userdata.specs.Types as types
+use Rattle.vf_upper_grammar.specs.declared.labels.NameLabel.TheVariants.{Abstract, Application, Stated, Transfer}
+use Rattle.vf_upper_grammar.specs.declared.labels.NumberLabel.{NumberLabel}
+use Rattle.vf_upper_grammar.specs.declared.labels.NumberLabel.TheVariants.{AcseContext, AnyContext, Fixed, Outcome, PciContext, Proposal}
+use Rattle.vf_upper_grammar.specs.Forms.{Field, has_tag, in_order, Reading, sequence_of, Tags}
+use Rattle.vf_upper_grammar.specs.Marks.{Found, Mark, name, number, value}
+use Rattle.vf_upper_grammar.specs.Parts.{ends, is_constructed, next, number_of, Part, Parts}
+use Rattle.vf_upper_grammar.specs.Syntaxes as syntaxes
+use Rattle.vf_upper_grammar.specs.Texts.{Cargo, carried, carried_data, one, some, typed}
+use Rattle.vf_upper_grammar.specs.Types as types
 
 -- ---- values in contexts
 

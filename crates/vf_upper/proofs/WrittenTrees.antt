@@ -13,7 +13,7 @@ use Rattle.vf_upper.specs.Laws.{AreCarried, AreContexts, IsCarried, IsIdentifier
 use Rattle.vf_upper.specs.Written.{aare, aarq, abrt, accepted, acse_data, acse_id, application, application_context_name, carried_list, context, external, has_syntax, id_among, in_mode, holding, or_zero, outcome, pdv_list, proposal, rlre, rlrq, source, trees, universal, user_information, written}
 use Rattle.vf_upper.specs.Primitives.{syntax_of}
 use Rattle.vf_upper.proofs.Parts.{is_low, low-by, trees-are}
-use Rattle.vf_userdata.specs.Syntaxes as syntaxes
+use Rattle.vf_upper_grammar.specs.Syntaxes as syntaxes
 
 -- ---- identifiers
 

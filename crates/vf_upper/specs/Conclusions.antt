@@ -9,7 +9,7 @@ use Rattle.vf_upper.specs.declared.errors.UpperError.TheVariants.{Context, Gramm
 use Rattle.vf_upper.specs.declared.primitive.Primitive.{Primitive}
 use Rattle.vf_upper.specs.declared.primitive.Primitive.TheVariants as primitives
 use Rattle.vf_upper.specs.CarriedCode.{Carried}
-use Rattle.vf_userdata.specs.Marks.{Mark}
+use Rattle.vf_upper_grammar.specs.Marks.{Mark}
 use Rattle.vf_upper.specs.Primitives.{answered, offered, refusal, Standing, stands, values_of}
 
 -- this is answered, where memory is there

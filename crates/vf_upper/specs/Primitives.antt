@@ -7,17 +7,17 @@ use Rattle.vf_upper.specs.declared.contexts.ContextEntry.{ContextEntry}
 use Rattle.vf_upper.specs.declared.contexts.Offer.{Offer}
 use Rattle.vf_upper.specs.declared.errors.UpperError.{UpperError}
 use Rattle.vf_upper.specs.declared.errors.UpperError.TheVariants as errors
-use Rattle.vf_userdata.specs.declared.labels.NameLabel.{NameLabel}
-use Rattle.vf_userdata.specs.declared.labels.NameLabel.TheVariants.{Abstract, Transfer, Application}
-use Rattle.vf_userdata.specs.declared.labels.NumberLabel.{NumberLabel}
-use Rattle.vf_userdata.specs.declared.labels.NumberLabel.TheVariants.{Proposal, Outcome, AcseContext, PciContext, AnyContext}
+use Rattle.vf_upper_grammar.specs.declared.labels.NameLabel.{NameLabel}
+use Rattle.vf_upper_grammar.specs.declared.labels.NameLabel.TheVariants.{Abstract, Transfer, Application}
+use Rattle.vf_upper_grammar.specs.declared.labels.NumberLabel.{NumberLabel}
+use Rattle.vf_upper_grammar.specs.declared.labels.NumberLabel.TheVariants.{Proposal, Outcome, AcseContext, PciContext, AnyContext}
 use Rattle.vf_upper.specs.declared.primitive.Primitive.{Primitive}
 use Rattle.vf_upper.specs.declared.primitive.Primitive.TheVariants as primitives
 use Rattle.vf_upper.specs.CarriedCode.{Carried}
-use Rattle.vf_userdata.specs.Forms.{are_arcs}
-use Rattle.vf_userdata.specs.Marks.{Mark, number, name, value, Found}
-use Rattle.vf_userdata.specs.Syntaxes as syntaxes
-use Rattle.vf_userdata.specs.Types.{cargo_of, found_in}
+use Rattle.vf_upper_grammar.specs.Forms.{are_arcs}
+use Rattle.vf_upper_grammar.specs.Marks.{Mark, number, name, value, Found}
+use Rattle.vf_upper_grammar.specs.Syntaxes as syntaxes
+use Rattle.vf_upper_grammar.specs.Types.{cargo_of, found_in}
 
 -- ---- what was found
 

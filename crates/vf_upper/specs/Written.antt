@@ -8,14 +8,14 @@ use Rattle.vf_ber.specs.Spelling.{spell}
 use Rattle.vf_ber.specs.Tree.{Tag, Tree, plain, built, Trees, none, more}
 use Rattle.vf_upper.specs.declared.contexts.ContextEntry.{ContextEntry}
 use Rattle.vf_upper.specs.declared.contexts.Offer.{Offer}
-use Rattle.vf_userdata.specs.declared.labels.NumberLabel.{NumberLabel}
-use Rattle.vf_userdata.specs.declared.labels.NumberLabel.TheVariants.{AcseContext, PciContext, AnyContext}
+use Rattle.vf_upper_grammar.specs.declared.labels.NumberLabel.{NumberLabel}
+use Rattle.vf_upper_grammar.specs.declared.labels.NumberLabel.TheVariants.{AcseContext, PciContext, AnyContext}
 use Rattle.vf_upper.specs.declared.primitive.Primitive.{Primitive}
 use Rattle.vf_upper.specs.declared.primitive.Primitive.TheVariants.{Associate, Accepted, Refused, Release, Released, Data, Abort}
 use Rattle.vf_upper.specs.CarriedCode.{Carried}
-use Rattle.vf_userdata.specs.Forms.{are_arcs}
+use Rattle.vf_upper_grammar.specs.Forms.{are_arcs}
 use Rattle.vf_upper.specs.Primitives.{is_suited, offered, Standing, stands, syntax_of}
-use Rattle.vf_userdata.specs.Syntaxes as syntaxes
+use Rattle.vf_upper_grammar.specs.Syntaxes as syntaxes
 
 -- ---- values
 

@@ -2,7 +2,7 @@
 ghost use Rattle.std.specs.Prelude.{◌≡◌, IfOk, Ok, map, false};
 ghost use Rattle.std.specs.Option.{option_copied};
 ghost use Rattle.vf_upper.specs.Conclusions.{Answers, having, is_associated, IsTaken, standing_of};
-ghost use Rattle.vf_userdata.specs.MarkViews.{mark_of, marks_of};
+ghost use Rattle.vf_upper_grammar.specs.MarkViews.{mark_of, marks_of};
 ghost use Rattle.vf_upper.specs.Primitives.{concluded as conclusion, is_abstract as abstract_test, is_application as application_test, is_context as context_test, is_outcome as outcome_test, is_proposal as proposal_test, is_suited as suited_test, is_transfer as transfer_test, offers_ber as ber_offered, offers_of as offers_in, refusal as first_refusal, refused as refused_by, results_of as results_in, syntax_of, values_of as values_in};
 
 use crate::standing::{accepted_syntax, answered_syntax, offered_syntax};
@@ -11,7 +11,7 @@ use crate::{
 };
 use std::alloc::Global;
 use vf_base::{NoMemory, Oid, SpduKind};
-use vf_userdata::{Mark, Marks, NameLabel, NumberLabel, is_acse, is_ber, is_ftam, is_pci};
+use vf_upper_grammar::{Mark, Marks, NameLabel, NumberLabel, is_acse, is_ber, is_ftam, is_pci};
 
 /// The contexts in which values stand.
 #[derive(Clone, Copy)]

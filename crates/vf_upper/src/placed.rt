@@ -12,7 +12,7 @@ use crate::{CarriedValue, CarriedValues, ContextEntry, Contexts, Offer, Offers, 
 use std::alloc::Global;
 use vf_base::NoMemory;
 use vf_ber::WriteError;
-use vf_userdata::NumberLabel;
+use vf_upper_grammar::NumberLabel;
 
 fn suits_in(standing: Standing<'_>, label: NumberLabel, id: i64) -> bool
     ensures { result ≡ suits_test (standing_of standing.entry) label id }

@@ -4,7 +4,7 @@ ghost use Rattle.vf_ber.specs.Contents.{oid_octets};
 ghost use Rattle.vf_ber.specs.Tree.{plain};
 ghost use Rattle.vf_ber.specs.Views.{tag_of, tree_of};
 ghost use Rattle.vf_upper.specs.Carried.{carried_of};
-ghost use Rattle.vf_userdata.specs.Syntaxes.{ber as ber_arcs};
+ghost use Rattle.vf_upper_grammar.specs.Syntaxes.{ber as ber_arcs};
 ghost use Rattle.vf_upper.specs.Written.{carried_list, context as context_tag, holding as held, in_mode as mode_of, outcome as outcome_tree, pdv_list as pdv_tree, proposal as proposal_tree, trees};
 
 use crate::holding::{

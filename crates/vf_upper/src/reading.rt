@@ -7,7 +7,7 @@ use crate::conclusion::concluded;
 use crate::{Contexts, Primitive, UpperError};
 use std::alloc::Global;
 use vf_base::SpduKind;
-use vf_userdata::{Marks, Stop, find};
+use vf_upper_grammar::{Marks, Stop, find};
 
 /// A refusal or an abort may have no user data.
 fn is_bare(carrier: SpduKind, octets: &[u8]) -> bool

@@ -6,7 +6,7 @@ ghost use Rattle.vf_upper.specs.Written.{acse_id as acse_context};
 
 use crate::{ContextEntry, Offer};
 use vf_base::Oid;
-use vf_userdata::{is_acse, is_ours};
+use vf_upper_grammar::{is_acse, is_ours};
 
 /// The abstract syntax of an accepted context.
 pub(crate) fn accepted_syntax(contexts: &[ContextEntry], id: i64) -> Option<&Oid>

@@ -5,7 +5,7 @@ ghost use Rattle.vf_base.specs.declared.access.FaduId.{FaduId as Fadu};
 ghost use Rattle.vf_base.specs.declared.diagnostic.Diagnostic.{Diagnostic as Reason};
 ghost use Rattle.vf_elements.specs.declared.message.Message.TheVariants as messages;
 ghost use Rattle.vf_elements.specs.declared.stage.Stage.TheVariants as stages;
-ghost use Rattle.vf_fields.specs.declared.operation.WriteOperation.TheVariants as operations;
+ghost use Rattle.vf_pdu_fields.specs.declared.operation.WriteOperation.TheVariants as operations;
 ghost use Rattle.vf_regime.specs.declared.moving.Movement.TheVariants as movements;
 ghost use Rattle.vf_regime.specs.declared.party.Party.TheVariants as parties;
 ghost use Rattle.vf_regime.specs.Represents.{IsTaken, stage_of_movement};

@@ -4,8 +4,8 @@ ghost use Rattle.vf_base.specs.declared.action.Actions.{Actions as ActionSet};
 ghost use Rattle.vf_base.specs.declared.contents.Contents.{Contents as FileContents};
 ghost use Rattle.vf_base.specs.declared.term.Term.{Term as FileTerm};
 ghost use Rattle.vf_elements.specs.declared.message.Message.TheVariants as messages;
-ghost use Rattle.vf_fields.specs.declared.controls.AttributeControls.{AttributeControls as Controls};
-ghost use Rattle.vf_fields.specs.declared.controls.ContentControls.{ContentControls as OpenControls};
+ghost use Rattle.vf_pdu_fields.specs.declared.controls.AttributeControls.{AttributeControls as Controls};
+ghost use Rattle.vf_pdu_fields.specs.declared.controls.ContentControls.{ContentControls as OpenControls};
 ghost use Rattle.vf_regime.specs.Represents.{IsTaken};
 
 use super::{Setting, end_party, keep_party};

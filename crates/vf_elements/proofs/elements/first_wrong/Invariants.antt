@@ -1,6 +1,6 @@
 use Rattle.std.proofs.Common.{◌≡◌}
 use Rattle.vf_ber.specs.Views.{trees_in}
-use Rattle.vf_fields.specs.Reading.{rest}
+use Rattle.vf_pdu_fields.specs.Reading.{rest}
 use Rattle.vf_elements.specs.ElementFaults.{wrong_segment}
 use Rattle.vf_elements.proofs.elements.first_wrong.Given as goal
 

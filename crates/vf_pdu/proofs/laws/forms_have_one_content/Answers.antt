@@ -1,7 +1,7 @@
 use Rattle.vf_pdu.specs.PduRows.{row_of}
-use Rattle.vf_fields.proofs.Complete.{has_shape}
-use Rattle.vf_fields.proofs.FieldForms.{form_in}
-use Rattle.vf_fields.proofs.Shapes.{shape_has}
+use Rattle.vf_pdu_fields.proofs.Complete.{has_shape}
+use Rattle.vf_pdu_fields.proofs.FieldForms.{form_in}
+use Rattle.vf_pdu_fields.proofs.Shapes.{shape_has}
 use Rattle.vf_pdu.proofs.Tables.{row_is_table}
 use Rattle.vf_pdu.proofs.laws.forms_have_one_content.Goals as goal
 

@@ -1,9 +1,9 @@
 use Rattle.std.proofs.Common.{◌≡◌, ◌≤◌, ap, refl, arith}
 use Rattle.vf_ber.specs.Views.{tag_of, tree_of, trees_in}
-use Rattle.vf_fields.specs.Meaning.{context}
+use Rattle.vf_pdu_fields.specs.Meaning.{context}
 use Rattle.vf_pdu.proofs.Answering.{meaning_of, fault_of, ok_in_range}
 use Rattle.vf_pdu.proofs.Found.{found_of}
-use Rattle.vf_fields.proofs.Plain.{tag_is}
+use Rattle.vf_pdu_fields.proofs.Plain.{tag_is}
 use Rattle.vf_pdu.proofs.read.of_value.Goals as goal
 
 pub returns-clause-meaning : goal.returns-clause-meaning

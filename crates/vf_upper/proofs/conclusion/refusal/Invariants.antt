@@ -1,6 +1,6 @@
 use Rattle.std.proofs.Common.{◌≡◌, length, map}
 use Rattle.vf_upper.specs.Conclusions.{standing_of}
-use Rattle.vf_userdata.specs.MarkViews.{mark_of}
+use Rattle.vf_upper_grammar.specs.MarkViews.{mark_of}
 use Rattle.vf_upper.specs.Primitives.{refusal}
 use Rattle.vf_upper.proofs.conclusion.refusal.Given as goal
 

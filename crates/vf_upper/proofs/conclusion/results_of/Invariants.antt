@@ -1,5 +1,5 @@
 use Rattle.std.proofs.Common.{◌≡◌, ◌++◌, length, map}
-use Rattle.vf_userdata.specs.MarkViews.{mark_of}
+use Rattle.vf_upper_grammar.specs.MarkViews.{mark_of}
 use Rattle.vf_upper.specs.Primitives.{results_of}
 use Rattle.vf_upper.proofs.conclusion.results_of.Given as goal
 

@@ -1,6 +1,6 @@
 use Rattle.std.proofs.Common.{◌≡◌, ◌++◌, map}
 use Rattle.std.specs.Vec.Iter.{into_iter_items}
-use Rattle.vf_userdata.specs.MarkViews.{mark_of, marks_of}
+use Rattle.vf_upper_grammar.specs.MarkViews.{mark_of, marks_of}
 use Rattle.vf_upper.specs.Primitives.{values_from, values_of}
 use Rattle.vf_upper.proofs.conclusion.values_of.Given as goal
 

@@ -2,7 +2,7 @@ use Rattle.std.proofs.Common.{◌≡◌, length, map}
 use Rattle.std.specs.List.{list_all}
 use Rattle.vf_upper.specs.Carried.{carried_of}
 use Rattle.vf_upper.specs.Written.{accepted, suits_in}
-use Rattle.vf_userdata.specs.declared.labels.NumberLabel.TheVariants.{AnyContext}
+use Rattle.vf_upper_grammar.specs.declared.labels.NumberLabel.TheVariants.{AnyContext}
 use Rattle.vf_upper.proofs.placed.all_suit.Given as goal
 
 abbrev pub invariant-loop-value : goal.invariant-loop-value

@@ -1,5 +1,5 @@
 use Rattle.std.proofs.Common.{◌≡◌, length}
-use Rattle.vf_userdata.specs.Syntaxes.{acse}
+use Rattle.vf_upper_grammar.specs.Syntaxes.{acse}
 use Rattle.vf_upper.specs.Written.{id_among}
 use Rattle.vf_upper.proofs.standing.acse_id.Given as goal
 

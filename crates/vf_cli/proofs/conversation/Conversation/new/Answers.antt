@@ -1,6 +1,6 @@
 use Rattle.std.proofs.Common.{List, [], ℕ, refl, sym, subst}
 use Rattle.vf_regime.specs.State.{arrived}
-use Rattle.vf_scan.specs.Scanned.{HasTaken}
+use Rattle.vf_ber_scan.specs.Scanned.{HasTaken}
 use Rattle.vf_cli.specs.Conversation.{IsQuiet}
 use Rattle.vf_cli.specs.Dialogue.{link, opened}
 use Rattle.vf_cli.proofs.ContinuesLemmas.{quiet_short}

@@ -1,13 +1,13 @@
 use Rattle.std.proofs.Common.{◌≡◌, ◌++◌, List, ℕ, [], Option, None, drop, ap, sym, subst, ◌∙◌, append-nil}
 use Rattle.std.specs.Prelude.{not}
 use Rattle.vf_regime.specs.declared.party.Party.{Party}
-use Rattle.vf_tables.specs.declared.tables.Tables.{Tables}
+use Rattle.vf_files.specs.declared.tables.Tables.{Tables}
 use Rattle.vf_ber.specs.Reader.{verdict}
 use Rattle.vf_ber.specs.Verdict.{Short}
 use Rattle.vf_regime.specs.State.{State}
 use Rattle.vf_cli.specs.declared.conversation.After.{After}
 use Rattle.vf_cli.specs.declared.conversation.After.TheVariants as after
-use Rattle.vf_scan.specs.Scanned.{HasTaken, IsFed}
+use Rattle.vf_ber_scan.specs.Scanned.{HasTaken, IsFed}
 use Rattle.vf_cli.specs.Conversation.{Appends, Continues, Holds, IsQuiet, IsRest, IsScanned}
 use Rattle.vf_cli.proofs.ScanLemmas.{on_some, scanned, still_wanting}
 use Rattle.vf_cli.proofs.ContinuesLemmas.{continues_gone, continues_none, quiet_gone, quiet_short}

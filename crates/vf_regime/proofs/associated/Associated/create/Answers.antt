@@ -5,10 +5,10 @@ use Rattle.vf_elements.specs.declared.message.Message.TheVariants as messages
 use Rattle.vf_elements.specs.declared.message.Said.TheVariants as answers
 use Rattle.vf_pdu.specs.declared.pdu.Pdu.{Pdu}
 use Rattle.vf_pdu.specs.declared.pdu.Pdu.TheVariants.{CreateRequest, CreateResponse}
-use Rattle.vf_tables.specs.Rows.{Nothing, created}
-use Rattle.vf_tables.specs.declared.changes.Change.TheVariants.{PutFile}
-use Rattle.vf_tables.specs.declared.creation.Created.TheVariants as creations
-use Rattle.vf_tables.specs.declared.creation.NewFile.{NewFile}
+use Rattle.vf_files.specs.Rows.{Nothing, created}
+use Rattle.vf_files.specs.declared.changes.Change.TheVariants.{PutFile}
+use Rattle.vf_files.specs.declared.creation.Created.TheVariants as creations
+use Rattle.vf_files.specs.declared.creation.NewFile.{NewFile}
 use Rattle.vf_regime.specs.declared.selected.Selected.{Selected}
 use Rattle.vf_regime.specs.declared.step.Step.{Step}
 use Rattle.vf_regime.specs.Represents.{IsAssociated, IsSelected, selection_of, with_tables}

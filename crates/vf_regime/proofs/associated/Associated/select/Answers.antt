@@ -4,9 +4,9 @@ use Rattle.vf_elements.specs.declared.message.Message.TheVariants as messages
 use Rattle.vf_elements.specs.declared.message.Said.TheVariants as answers
 use Rattle.vf_pdu.specs.declared.pdu.Pdu.{Pdu}
 use Rattle.vf_pdu.specs.declared.pdu.Pdu.TheVariants.{SelectRequest, SelectResponse}
-use Rattle.vf_tables.specs.Diagnostics.{plain}
-use Rattle.vf_tables.specs.Files.{file_named}
-use Rattle.vf_tables.specs.Rows.{Nothing, select_row}
+use Rattle.vf_files.specs.Diagnostics.{plain}
+use Rattle.vf_files.specs.Files.{file_named}
+use Rattle.vf_files.specs.Rows.{Nothing, select_row}
 use Rattle.vf_regime.specs.declared.selected.Selected.{Selected}
 use Rattle.vf_regime.specs.declared.step.Step.{Step}
 use Rattle.vf_regime.specs.declared.step.StepError.TheVariants as errors

@@ -2,7 +2,7 @@ use Rattle.std.proofs.Common.{Some, None, [], ◌∷◌, ap, sym, min, ◌∙◌
 use Rattle.vf_elements.specs.declared.message.Message.TheVariants as messages
 use Rattle.vf_elements.specs.declared.message.Said.TheVariants as answers
 use Rattle.vf_pdu.specs.declared.pdu.Pdu.TheVariants.{InitializeRequest, InitializeResponse}
-use Rattle.vf_tables.specs.Rows.{Nothing}
+use Rattle.vf_files.specs.Rows.{Nothing}
 use Rattle.vf_regime.specs.declared.associated.Associated.{Associated}
 use Rattle.vf_regime.specs.declared.step.Step.{Step}
 use Rattle.vf_regime.specs.History.{agreed}

@@ -3,7 +3,7 @@ use Rattle.vf_base.specs.declared.diagnostic.Diagnostic.{Diagnostic}
 use Rattle.vf_elements.specs.declared.message.Message.TheVariants as messages
 use Rattle.vf_elements.specs.declared.message.Said.TheVariants as answers
 use Rattle.vf_pdu.specs.declared.pdu.Pdu.TheVariants.{TransferEndRequest, TransferEndResponse}
-use Rattle.vf_tables.specs.declared.ending.Ending.{Ending}
+use Rattle.vf_files.specs.declared.ending.Ending.{Ending}
 use Rattle.vf_regime.specs.declared.opened.Open.{Open}
 use Rattle.vf_regime.specs.declared.step.Step.{Step}
 use Rattle.vf_regime.specs.Represents.{IsMoving, IsOpen, with_tables}

@@ -3,7 +3,7 @@ use Rattle.vf_base.specs.declared.diagnostic.Diagnostic.{Diagnostic}
 use Rattle.vf_elements.specs.declared.message.Message.TheVariants as messages
 use Rattle.vf_elements.specs.declared.message.Said.TheVariants as answers
 use Rattle.vf_pdu.specs.declared.pdu.Pdu.TheVariants.{CloseRequest, CloseResponse}
-use Rattle.vf_tables.specs.Rows.{Nothing}
+use Rattle.vf_files.specs.Rows.{Nothing}
 use Rattle.vf_regime.specs.declared.selected.Selected.{Selected}
 use Rattle.vf_regime.specs.declared.step.Step.{Step}
 use Rattle.vf_regime.specs.Represents.{IsOpen, IsSelected, with_tables}

@@ -2,8 +2,8 @@ use Rattle.std.proofs.Common.{Some, [], ap, refl, sym, ◌∙◌}
 use Rattle.vf_base.specs.declared.diagnostic.Diagnostic.{Diagnostic}
 use Rattle.vf_elements.specs.declared.message.Message.TheVariants as messages
 use Rattle.vf_pdu.specs.declared.pdu.Pdu.TheVariants.{DataEnd, ReadRequest}
-use Rattle.vf_tables.specs.Readings.{given_of}
-use Rattle.vf_tables.specs.Rows.{Given}
+use Rattle.vf_files.specs.Readings.{given_of}
+use Rattle.vf_files.specs.Rows.{Given}
 use Rattle.vf_regime.specs.declared.moving.Movement.TheVariants as movements
 use Rattle.vf_regime.specs.declared.moving.Moving.{Moving}
 use Rattle.vf_regime.specs.declared.step.Step.{Step}

@@ -2,8 +2,8 @@ use Rattle.std.proofs.Common.{◌≡◌, Some, [], ap, refl, sym, ◌∙◌}
 use Rattle.vf_base.specs.declared.diagnostic.Diagnostic.{Diagnostic}
 use Rattle.vf_elements.specs.declared.message.Message.TheVariants as messages
 use Rattle.vf_pdu.specs.declared.pdu.Pdu.TheVariants.{TransferEndResponse, WriteRequest}
-use Rattle.vf_tables.specs.Files.{file_named}
-use Rattle.vf_tables.specs.Rows.{write_given, write_row}
+use Rattle.vf_files.specs.Files.{file_named}
+use Rattle.vf_files.specs.Rows.{write_given, write_row}
 use Rattle.vf_transfer.specs.Checks.{Receiver}
 use Rattle.vf_tree.specs.FileTree.{octets_of_unit}
 use Rattle.vf_regime.specs.declared.moving.Movement.TheVariants as movements

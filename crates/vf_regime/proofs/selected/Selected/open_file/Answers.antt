@@ -4,9 +4,9 @@ use Rattle.vf_elements.specs.declared.message.Message.TheVariants as messages
 use Rattle.vf_elements.specs.declared.message.Said.TheVariants as answers
 use Rattle.vf_pdu.specs.declared.pdu.Pdu.{Pdu}
 use Rattle.vf_pdu.specs.declared.pdu.Pdu.TheVariants.{OpenRequest, OpenResponse}
-use Rattle.vf_tables.specs.Files.{file_named}
-use Rattle.vf_tables.specs.Rows.{Nothing, opened}
-use Rattle.vf_tables.specs.declared.opening.Opened.TheVariants as openings
+use Rattle.vf_files.specs.Files.{file_named}
+use Rattle.vf_files.specs.Rows.{Nothing, opened}
+use Rattle.vf_files.specs.declared.opening.Opened.TheVariants as openings
 use Rattle.vf_regime.specs.declared.opened.Open.{Open}
 use Rattle.vf_regime.specs.declared.step.Step.{Step}
 use Rattle.vf_regime.specs.Represents.{IsOpen, IsSelected, with_tables}

@@ -1,0 +1,20 @@
+//! Whole values at the front of octets.
+ghost use Rattle.std.specs.Prelude.{◌≡◌, ◌≤◌, IfSome, length};
+ghost use Rattle.vf_ber.specs.Reader.{verdict};
+ghost use Rattle.vf_ber_scan.specs.Scanned.{length_read};
+
+use crate::scan::Scan;
+
+/// How many octets the value takes that these begin with; `None` where they begin with none: some are wanting, or there
+/// is a fault. A value takes 1,048,576 octets at most (profile). Takes no memory.
+pub fn whole_in(octets: &[u8]) -> Option<usize>
+    ensures value { result ≡ length_read (verdict octets.now) }
+    ensures within { IfSome result (λ n. n ≤ length octets.now) }
+    ensures small { IfSome result (λ n. n ≤ 1048576) }
+{
+    let mut scan = Scan::new();
+    let Some(end) = scan.end_in(octets) else {
+        return None;
+    };
+    if end.whole { Some(end.len) } else { None }
+}

@@ -1,5 +1,0 @@
-use Rattle.vf_parameters.proofs.Dates.{date_moment}
-use Rattle.vf_parameters.proofs.laws.dates_are_moments.Goals as goal
-
-pub returns : goal.returns
-returns c = date_moment

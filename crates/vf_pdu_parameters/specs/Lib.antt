@@ -1,0 +1,15 @@
+pub use Rattle.vf_pdu_fields.specs.Content
+pub use Rattle.vf_pdu_fields.specs.Fault
+pub use Rattle.vf_pdu_fields.specs.Faults
+pub use Rattle.vf_pdu_fields.specs.Forms
+pub use Rattle.vf_pdu_fields.specs.Meaning
+pub use Rattle.vf_pdu_fields.specs.Reading
+pub use Rattle.vf_pdu_fields.specs.Results
+pub use Rattle.vf_pdu_fields.specs.Rows
+pub use Rattle.vf_pdu_fields.specs.Slots
+pub use Rattle.vf_pdu_fields.specs.Writing
+pub mod AttributeTails
+pub mod FormViews
+pub mod Laws
+pub mod ParameterSlots
+pub mod Parameters

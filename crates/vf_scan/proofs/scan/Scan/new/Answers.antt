@@ -1,5 +1,0 @@
-use Rattle.vf_scan.proofs.VerdictLemmas.{new_ahead, new_short}
-use Rattle.vf_scan.proofs.scan.Scan.new.Goals as goal
-
-pub returns : goal.returns
-returns c = record { short = new_short c.new.result c.new.ensures; ahead = new_ahead c.new.result c.new.ensures }

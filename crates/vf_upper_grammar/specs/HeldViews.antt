@@ -1,0 +1,39 @@
+-- What a part holds, in the words of texts.
+use Rattle.std.specs.Prelude.{◌≡◌, ℕ, List, length, Option, None, Some, Result, if◌then◌else◌}
+use Rattle.std.specs.Option.{option_map}
+use Rattle.vf_upper_grammar.specs.declared.held.Held as code
+use Rattle.vf_upper_grammar.specs.declared.held.Held.TheVariants.{Contents, Segments}
+use Rattle.vf_upper_grammar.specs.declared.marks.Stop.{Stop}
+use Rattle.vf_upper_grammar.specs.Marks.{Mark, Found}
+use Rattle.vf_upper_grammar.specs.MarkViews.{Gives}
+use Rattle.vf_upper_grammar.specs.Parts.{Part, Text}
+use Rattle.vf_upper_grammar.specs.Texts.{Held, held, landed, place_of, segments}
+
+abbrev pub octets_of : code.Held → List ℕ
+octets_of (Contents octets) = octets.now
+octets_of (Segments octets) = octets
+
+abbrev pub octets_in : Option Held → Option (List ℕ)
+octets_in found = option_map (λ h. h.octets) found
+
+-- the octets of segments
+abbrev pub AreGathered : Text → List ℕ → Type 0
+AreGathered text octets = (end : ℕ) → (segments end text).octets ≡ octets
+
+abbrev pub broken_at : Held → Option ℕ
+broken_at h = if h.broken then Some h.end else None
+
+-- the place of a wrong segment
+abbrev pub Breaks : Text → Option ℕ → Type 0
+Breaks text place = (end : ℕ) → broken_at (segments end text) ≡ place
+
+abbrev pub PlacesHeld : Part → ℕ → ℕ → ℕ → Type 0
+PlacesHeld part len offset place = (h : Held) → held part ≡ Some h → length h.octets ≡ len → place ≡ place_of h offset
+
+abbrev pub BreaksHeld : Part → Option ℕ → Type 0
+BreaksHeld part place = (h : Held) → held part ≡ Some h → broken_at h ≡ place
+
+-- what is found in held octets, with places in the user data
+abbrev pub IsLanded : Part → ℕ → Result Unit Stop → Result Unit Stop → Type 0
+IsLanded part len read result =
+    (h : Held) → held part ≡ Some h → length h.octets ≡ len → (marks : List Mark) (found : Found) → Gives read marks found → Gives result marks (landed h found)
