@@ -11,6 +11,7 @@ mod element;
 mod errors;
 mod events;
 mod input;
+mod limits;
 mod links;
 mod lists;
 mod memory;
@@ -27,8 +28,6 @@ mod source;
 mod spdu_kind;
 mod streams;
 mod term;
-#[cfg(test)]
-mod tests;
 
 pub use access::{Constraint, Context, FaduId};
 pub use action::{Action, Actions, Control, Controls};
@@ -40,6 +39,7 @@ pub use element::Element;
 pub use errors::{BaseError, Failed, NoMemory, ReadFault};
 pub use events::{LinkEvent, LinkFault, Piece, ScriptEvent};
 pub use input::read_up_to;
+pub use limits::{MOST_STRING_OCTETS, MOST_VALUE_OCTETS};
 pub use links::Links;
 pub use lists::{DataUnit, Elements, Terms};
 pub use memory::{SliceSource, VecSink};

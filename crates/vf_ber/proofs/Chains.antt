@@ -5,7 +5,7 @@ use Rattle.std.proofs.lemmas.List.{append_cancel_left}
 use Rattle.std.proofs.lemmas.Result.{err_from_is_err_and}
 use Rattle.vf_ber.specs.declared.fault.Fault.{Fault}
 use Rattle.vf_ber.specs.declared.fault.Fault.TheVariants as faults
-use Rattle.vf_ber.specs.Verdict.{Limits, free, shallow, bounded}
+use Rattle.vf_ber.specs.Reading.{Limits, free, shallow, bounded}
 use Rattle.vf_ber.specs.Steps.{Language, Open, Ruled, Got, FaultAt, Failed, Judged}
 
 -- the words of H are a word of F, and one of G behind it

@@ -4,7 +4,7 @@ use Rattle.std.specs.Prelude.{not, ◌||◌, ◌&&◌, nat_le, Option, Some, Non
 use Rattle.std.proofs.lemmas.Bool.{and_parts, and_from, or_cases, or_left, or_right, cases_eq, lt-ltb, le-leb, eq-eqb, ltb-true, leb-true, eqb-true, eqb-false, not-true, ne_eqb, not_from_false}
 use Rattle.vf_ber.specs.declared.room.Room.{Room}
 use Rattle.vf_ber.specs.declared.room.Room.TheVariants.{Exact, Within}
-use Rattle.vf_ber.specs.Verdict.{Limits, free, shallow, bounded}
+use Rattle.vf_ber.specs.Reading.{Limits, free, shallow, bounded}
 use Rattle.vf_ber.specs.Steps.{fits, is_roomy, less, has_depth, IsShallow, size_fits}
 
 -- ---- depth

@@ -15,4 +15,4 @@ pub mod ReaderSteps
 pub mod SizeSteps
 pub mod Subidentifiers
 pub mod ValueSteps
-pub mod Verdicts
+pub mod Readings

@@ -1,4 +1,4 @@
--- The plain program finds the verdict.
+-- The plain program finds the reading.
 use Rattle.std.proofs.Common.{◌≡◌, ◌≢◌, ℕ, zero, suc, ◌+◌, ◌-◌, ◌*◌, ◌%◌, ◌<◌, ◌≤◌, Bool, true, false, cond, List, [], ◌∷◌, ◌++◌, length, take, drop, refl, ap, sym, subst, arith, length-append, nat_eq, nat_lt, inl, inr, ◌⊎◌}
 use Rattle.std.specs.Prelude.{Option, Some, None, Ok, Err, ◌&&◌}
 use Rattle.std.proofs.lemmas.Bool.{cases_lt, and_parts, and_cases, both_ways, ltb-true, ltb-false, lt-ltb, eqb-true, eqb-false, ltb-true}
@@ -7,16 +7,16 @@ use Rattle.vf_ber.specs.declared.fault.Fault.TheVariants as faults
 use Rattle.vf_ber.specs.declared.room.Room.{Room}
 use Rattle.vf_ber.specs.declared.room.Room.TheVariants.{Exact, Within}
 use Rattle.vf_ber.specs.Tree.{Tag, Tree, plain, built, Trees, none, more}
-use Rattle.vf_ber.specs.Verdict.{Limits, free, shallow, bounded, IsVerdict}
+use Rattle.vf_ber.specs.Reading.{Limits, free, shallow, bounded, IsReading}
 use Rattle.vf_ber.specs.Steps.{Language, Name, Names, Sizes, Digits, Contents, Values, Parts, Ended, Open, Ruled, Got, Failed, Judged, fault_of, first_fits, second_fits, reaches, length_fits, size_fits, fits, is_roomy, has_depth, less}
-use Rattle.vf_ber.specs.Reader.{Reads, then_read, checked, name_from, third_at, second_at, name_at, digits_at, size_at, Reader, parts_at, end_at, ended_at, contents_at, value_at, as_verdict, verdict}
+use Rattle.vf_ber.specs.Reader.{Reads, then_read, checked, name_from, third_at, second_at, name_at, digits_at, size_at, Reader, parts_at, end_at, ended_at, contents_at, value_at, as_reading, reading}
 use Rattle.vf_ber.proofs.Chains.{Chain, Tells, behind_got, behind_failed, test_failed}
 use Rattle.vf_ber.proofs.Fits.{shallow_zero}
 use Rattle.vf_ber.proofs.NameSteps as names
 use Rattle.vf_ber.proofs.ReaderSteps.{value_got, name_failed, size_failed, contents_failed, plain_got, plain_short, contents_plain, contents_wanting, parts_got, parts_failed, ended_got, ended_failed, name_facts, size_facts, open_room, parts_room, PartsSoFar, parts_start, parts_next, part_failed, parts_short, EndedSoFar, ended_start, ended_next, other_failed, ended_short, ended_end, ended_wrong}
 use Rattle.vf_ber.proofs.SizeSteps as sizes
 use Rattle.vf_ber.proofs.OneTree.{spelling_long}
-use Rattle.vf_ber.proofs.Verdicts.{spelling_from, none_short, whole_read, bad_verdict, deep_verdict, long_verdict}
+use Rattle.vf_ber.proofs.Readings.{spelling_from, none_short, whole_read, bad_reading, deep_reading, long_reading}
 
 abbrev pub IsReal : Fault → Type 0
 IsReal faults.Short = Unit {0}
@@ -351,15 +351,15 @@ value_answers (suc most) room first octets =
 
 -- ---- all octets
 
-found : (octets : List ℕ) (r : Reads Tree) → Answers (Values 32 (Within 1048576)) octets r → IsVerdict octets (as_verdict octets r)
+found : (octets : List ℕ) (r : Reads Tree) → Answers (Values 32 (Within 1048576)) octets r → IsReading octets (as_reading octets r)
 found octets (Ok x) g = (whole_read octets x.1 x.0 g).1
 found octets (Err faults.Short) ((next, rest, tree, v), is_real) = (next, rest, tree, spelling_from bounded (octets ++ (next ∷ rest)) tree v)
-found octets (Err (faults.Bad left)) (f, is_real) = (bad_verdict octets left f).2
-found octets (Err (faults.Deep left)) (f, is_real) = (deep_verdict octets left f).2
-found octets (Err (faults.Long left)) (f, is_real) = (long_verdict octets left f).2
+found octets (Err (faults.Bad left)) (f, is_real) = (bad_reading octets left f).2
+found octets (Err (faults.Deep left)) (f, is_real) = (deep_reading octets left f).2
+found octets (Err (faults.Long left)) (f, is_real) = (long_reading octets left f).2
 found octets (Err faults.NoMemory) (f, is_real) = absurd is_real
 
-pub verdict_found : (octets : List ℕ) → IsVerdict octets (verdict octets)
-unfolding verdict value_at
-verdict_found [] = none_short
-verdict_found (first ∷ octets) = found (first ∷ octets) (value_at 32 (Within 1048576) (first ∷ octets)) (value_answers 32 (Within 1048576) first octets)
+pub reading_found : (octets : List ℕ) → IsReading octets (reading octets)
+unfolding reading value_at
+reading_found [] = none_short
+reading_found (first ∷ octets) = found (first ∷ octets) (value_at 32 (Within 1048576) (first ∷ octets)) (value_answers 32 (Within 1048576) first octets)

@@ -8,7 +8,7 @@ use Rattle.vf_ber.specs.declared.fault.Fault.TheVariants as faults
 use Rattle.vf_ber.specs.declared.room.Room.{Room}
 use Rattle.vf_ber.specs.declared.room.Room.TheVariants.{Exact}
 use Rattle.vf_ber.specs.Tree.{Tag, Tree, plain, built, Trees, none, more, joined}
-use Rattle.vf_ber.specs.Verdict.{Limits, free, bounded}
+use Rattle.vf_ber.specs.Reading.{Limits, free, bounded}
 use Rattle.vf_ber.specs.Steps.{Language, Name, Names, Sizes, Definite, Contents, Values, Parts, Ended, Ruled, Got, Failed, IsNoEnd, fits, is_roomy, less, has_depth, size_fits}
 use Rattle.vf_ber.proofs.Chains.{Carries, Anything, front_failed, behind_got, behind_failed, carried_failed}
 use Rattle.vf_ber.proofs.Fits.{depth_from, shallow_zero, exact_rest, end_behind, less_fits, size_parts}

@@ -7,7 +7,7 @@ use Rattle.vf_ber.specs.declared.fault.Fault.TheVariants as faults
 use Rattle.vf_ber.specs.declared.room.Room.{Room}
 use Rattle.vf_ber.specs.declared.room.Room.TheVariants.{Exact, Within}
 use Rattle.vf_ber.specs.Spellings.{number_in}
-use Rattle.vf_ber.specs.Verdict.{Limits, free, shallow, bounded}
+use Rattle.vf_ber.specs.Reading.{Limits, free, shallow, bounded}
 use Rattle.vf_ber.specs.Steps.{Language, Sizes, Digits, Open, Ruled, Got, Failed, fits, is_roomy, size_fits, grown, shifted, fills, reaches, length_fits}
 use Rattle.vf_ber.proofs.Chains.{Chain, Carries, Anything, Tells, behind_got, behind_failed, carried_failed}
 use Rattle.vf_ber.proofs.Digits.{digits, length-digits, octets-digits, number-digits, shifted_number, shifted_grown, grown_least, grown_whole}

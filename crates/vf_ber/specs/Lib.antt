@@ -13,5 +13,5 @@ pub mod Spellings
 pub mod Steps
 pub mod Tags
 pub mod Tree
-pub mod Verdict
+pub mod Reading
 pub mod Views

@@ -1,12 +1,12 @@
--- The verdict on octets as a plain program finds it, octet by octet: at each it asks whether a value can still be
--- completed behind it. A law says that it is the verdict.
+-- The reading on octets as a plain program finds it, octet by octet: at each it asks whether a value can still be
+-- completed behind it. A law says that it is the reading.
 use Rattle.std.specs.Prelude.{ℕ, zero, suc, ◌+◌, ◌-◌, ◌*◌, ◌/◌, ◌%◌, Bool, ◌&&◌, nat_eq, nat_lt, List, [], ◌∷◌, length, take, drop, Option, Some, None, Result, Ok, Err, if◌then◌else◌}
 use Rattle.vf_ber.specs.declared.fault.Fault.{Fault}
 use Rattle.vf_ber.specs.declared.fault.Fault.TheVariants as faults
 use Rattle.vf_ber.specs.declared.room.Room.{Room}
 use Rattle.vf_ber.specs.declared.room.Room.TheVariants.{Exact, Within}
 use Rattle.vf_ber.specs.Tree.{Tree, plain, built, Trees, none, more}
-use Rattle.vf_ber.specs.Verdict.{Limits, free, shallow, bounded, Verdict, Read, Short, Bad, Deep, Long}
+use Rattle.vf_ber.specs.Reading.{Limits, free, shallow, bounded, Reading, Read, Short, Bad, Deep, Long}
 use Rattle.vf_ber.specs.Steps.{Name, fault_of, first_fits, second_fits, less, length_fits, reaches}
 
 -- what is read in front of octets, and those behind it
@@ -107,13 +107,13 @@ value_at (suc most) = value_with (value_at most) (suc most)
 
 -- ---- all octets
 
-abbrev pub as_verdict : List ℕ → Reads Tree → Verdict
-as_verdict octets (Ok x) = Read x.0 (length octets - length x.1)
-as_verdict octets (Err faults.Short) = Short
-as_verdict octets (Err (faults.Bad left)) = Bad (length octets - left)
-as_verdict octets (Err (faults.Deep left)) = Deep (length octets - left)
-as_verdict octets (Err (faults.Long left)) = Long (length octets - left)
-as_verdict octets (Err faults.NoMemory) = Short
+abbrev pub as_reading : List ℕ → Reads Tree → Reading
+as_reading octets (Ok x) = Read x.0 (length octets - length x.1)
+as_reading octets (Err faults.Short) = Short
+as_reading octets (Err (faults.Bad left)) = Bad (length octets - left)
+as_reading octets (Err (faults.Deep left)) = Deep (length octets - left)
+as_reading octets (Err (faults.Long left)) = Long (length octets - left)
+as_reading octets (Err faults.NoMemory) = Short
 
-unfoldable pub verdict : List ℕ → Verdict
-verdict octets = as_verdict octets (value_at 32 (Within 1048576) octets)
+unfoldable pub reading : List ℕ → Reading
+reading octets = as_reading octets (value_at 32 (Within 1048576) octets)

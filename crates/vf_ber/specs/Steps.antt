@@ -11,7 +11,7 @@ use Rattle.vf_ber.specs.Tree.{Tag, Tree, plain, built, Trees, depth, depth_in}
 use Rattle.vf_ber.specs.Tags.{IsTag}
 use Rattle.vf_ber.specs.Spelling.{identifier}
 use Rattle.vf_ber.specs.Spellings.{AreOctets, number_in, IsLength, Spells, SpellInTurn}
-use Rattle.vf_ber.specs.Verdict.{Limits, free, shallow, bounded}
+use Rattle.vf_ber.specs.Reading.{Limits, free, shallow, bounded}
 
 abbrev pub limits_of : Asked → Limits
 limits_of Free = free

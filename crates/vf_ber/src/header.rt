@@ -1,7 +1,7 @@
 //! Reading identifiers and lengths, octet by octet.
 ghost use Rattle.std.specs.Prelude.{◌≡◌, ◌≢◌, ◌+◌, ◌-◌, ◌*◌, ◌≤◌, ◌<◌, ◌^◌, ◌∷◌, IfErr, IfOk, IfSome, length, MatchOption, [], true, false, Some, None};
 ghost use Rattle.vf_ber.specs.Steps.{Digits, Failed, first_fits, Got, grown as grown_of, is_roomy, Names, reaches, Sizes};
-ghost use Rattle.vf_ber.specs.Verdict.{bounded};
+ghost use Rattle.vf_ber.specs.Reading.{bounded};
 ghost use Rattle.vf_ber.specs.Views.{name_of as said};
 
 use crate::Tag;

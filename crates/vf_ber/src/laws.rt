@@ -1,5 +1,5 @@
 //! Laws of reading and spelling, each the contract of a function that does nothing.
-ghost use Rattle.vf_ber.specs.Laws.{HasAVerdict, HasOneVerdict, IsPrefixFree, IsReadAgain, SpellsOne};
+ghost use Rattle.vf_ber.specs.Laws.{HasAReading, HasOneReading, IsPrefixFree, IsReadAgain, SpellsOne};
 
 /// No spelling of a value is a proper prefix of a spelling of any value.
 pub fn no_spelling_goes_on()
@@ -11,14 +11,14 @@ pub fn octets_spell_one_value()
     ensures { SpellsOne }
 {}
 
-/// Octets have a verdict.
-pub fn octets_have_a_verdict()
-    ensures { HasAVerdict }
+/// Octets have a reading.
+pub fn octets_have_a_reading()
+    ensures { HasAReading }
 {}
 
-/// Octets have one verdict at most.
-pub fn octets_have_one_verdict()
-    ensures { HasOneVerdict }
+/// Octets have one reading at most.
+pub fn octets_have_one_reading()
+    ensures { HasOneReading }
 {}
 
 /// The canonical spelling of a value within the limits, whatever follows it, is read as this value.

@@ -23,7 +23,7 @@ pub use contents_laws::{
 pub use errors::{BerError, WriteError};
 pub use fitting::{Around, is_first, is_length, is_reached, is_second, less};
 pub use laws::{
-    no_spelling_goes_on, octets_have_a_verdict, octets_have_one_verdict, octets_spell_one_value,
+    no_spelling_goes_on, octets_have_a_reading, octets_have_one_reading, octets_spell_one_value,
     written_is_read_again,
 };
 pub use primitive::{boolean, integer, oid};

@@ -2,7 +2,7 @@
 ghost use Rattle.std.specs.Prelude.{◌≡◌, ◌≢◌, ◌+◌, ◌-◌, ◌*◌, ◌≤◌, ◌<◌, ◌^◌, ◌∷◌, IfErr, IfOk, IfSome, length, take, true, false, Some, None};
 ghost use Rattle.vf_ber.specs.Results.{IsAnswer};
 ghost use Rattle.vf_ber.specs.Steps.{Contents, Definite, Ended, Ends, Failed, fits, Got, has_depth, IsNoEnd, less as less_of, Parts, size_fits, Values as ValuesIn};
-ghost use Rattle.vf_ber.specs.Verdict.{bounded};
+ghost use Rattle.vf_ber.specs.Reading.{bounded};
 ghost use Rattle.vf_ber.specs.Views.{name_of as said, tag_of, tree_of};
 
 use crate::fault::Fault;

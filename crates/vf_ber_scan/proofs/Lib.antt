@@ -3,4 +3,4 @@ pub mod ReadLemmas
 pub mod StepLemmas
 pub mod TurnLemmas
 pub mod ValueLemmas
-pub mod VerdictLemmas
+pub mod ReadingLemmas

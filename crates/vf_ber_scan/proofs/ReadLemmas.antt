@@ -2,9 +2,9 @@
 use Rattle.std.proofs.Common.{◌≡◌, ℕ, Bool, true, false, cond, List, length, refl}
 use Rattle.std.specs.Prelude.{Ok, Err}
 use Rattle.vf_ber.specs.declared.fault.Fault.TheVariants as faults
-use Rattle.vf_ber.specs.Reader.{Reads, then_read, checked, as_verdict}
+use Rattle.vf_ber.specs.Reader.{Reads, then_read, checked, as_reading}
 use Rattle.vf_ber.specs.Tree.{Tree}
-use Rattle.vf_ber.specs.Verdict.{Limits, bounded, free, shallow}
+use Rattle.vf_ber.specs.Reading.{Limits, bounded, free, shallow}
 use Rattle.vf_ber_scan.specs.Outlook.{Outlook, Whole, Faulty, outlook_of, then_outlook}
 
 -- how many octets are left behind what is read
@@ -40,13 +40,13 @@ outlook_checked {X} test octets next f = by (test bounded) (test free) (test sha
     by false true false = refl
     by false false d = refl
 
-pub outlook_verdict : (octets : List ℕ) (r : Reads Tree) → outlook_of (as_verdict octets r) ≡ then_outlook r (λ tree rest. Whole)
-outlook_verdict octets (Ok x) = refl
-outlook_verdict octets (Err faults.Short) = refl
-outlook_verdict octets (Err (faults.Bad left)) = refl
-outlook_verdict octets (Err (faults.Deep left)) = refl
-outlook_verdict octets (Err (faults.Long left)) = refl
-outlook_verdict octets (Err faults.NoMemory) = refl
+pub outlook_reading : (octets : List ℕ) (r : Reads Tree) → outlook_of (as_reading octets r) ≡ then_outlook r (λ tree rest. Whole)
+outlook_reading octets (Ok x) = refl
+outlook_reading octets (Err faults.Short) = refl
+outlook_reading octets (Err (faults.Bad left)) = refl
+outlook_reading octets (Err (faults.Deep left)) = refl
+outlook_reading octets (Err (faults.Long left)) = refl
+outlook_reading octets (Err faults.NoMemory) = refl
 
 pub read_same : {X Y : Type 0} (P : ℕ → Type 0) (r : Reads X) (f g : X → List ℕ → Reads Y) → Leaves P r
     → ((x : X) (rest : List ℕ) → P (length rest) → f x rest ≡ g x rest) → then_read r f ≡ then_read r g

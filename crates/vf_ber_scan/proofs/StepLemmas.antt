@@ -8,7 +8,7 @@ use Rattle.vf_ber.specs.declared.fitting.Around.{Around}
 use Rattle.vf_ber.specs.declared.room.Room.{Room}
 use Rattle.vf_ber.specs.Reader.{digits_at, end_at, ended_at, parts_at, value_at}
 use Rattle.vf_ber.specs.Steps.{first_fits, length_fits, reaches, grown}
-use Rattle.vf_ber.specs.Verdict.{bounded}
+use Rattle.vf_ber.specs.Reading.{bounded}
 use Rattle.vf_ber.proofs.Digits.{grown_step, grown_few, grown_more}
 use Rattle.vf_ber.proofs.NameSteps.{first_parts}
 use Rattle.vf_ber.proofs.SizeSteps.{long_parts}

@@ -6,7 +6,7 @@ use Rattle.vf_ber.specs.declared.room.Room.TheVariants.{Exact}
 use Rattle.vf_ber.specs.Reader.{Reads, Reader, then_read, digits_at, size_at, parts_at, end_at, ended_at}
 use Rattle.vf_ber.specs.Steps.{Values, length_fits, less, reaches}
 use Rattle.vf_ber.specs.Tree.{Tree, Trees, more}
-use Rattle.vf_ber.specs.Verdict.{bounded}
+use Rattle.vf_ber.specs.Reading.{bounded}
 use Rattle.vf_ber.proofs.Fits.{exact_rest}
 use Rattle.vf_ber.proofs.OneTree.{spelling_long}
 use Rattle.vf_ber.proofs.Plain.{Answers, IsReader}

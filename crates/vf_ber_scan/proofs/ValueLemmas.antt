@@ -8,7 +8,7 @@ use Rattle.vf_ber.specs.declared.room.Room.TheVariants.{Exact}
 use Rattle.vf_ber.specs.Reader.{Reads, Reader, then_read, name_from, third_at, second_at, name_at, digits_at, size_at, parts_at, end_at, ended_at, contents_at, value_with, value_at}
 use Rattle.vf_ber.specs.Steps.{Name, first_fits, second_fits, length_fits, reaches, less}
 use Rattle.vf_ber.specs.Tree.{Tag, Tree, Trees, plain, built, none, more}
-use Rattle.vf_ber.specs.Verdict.{bounded}
+use Rattle.vf_ber.specs.Reading.{bounded}
 use Rattle.vf_ber.proofs.NameSteps.{first_parts}
 use Rattle.vf_ber.proofs.Plain.{IsReader, value_answers}
 use Rattle.vf_ber_scan.specs.declared.frames.Frame.{Frame}
@@ -223,10 +223,10 @@ second_is frames first (second ∷ octets) =
     by false = ap (λ k. then_outlook (third_at first second octets) (name_by (value_at (32 - suc (length frames))) frames k)) (omega arith) ∙ third_is frames first second octets
 
 -- the reading of a value, whatever reads its parts
-reading : (most : ℕ) → (inner : Reader) × ((room : Room) (octets : List ℕ) → value_at most room octets ≡ value_with inner most room octets) × (0 < most → inner ≡ value_at (most - 1))
+read_by : (most : ℕ) → (inner : Reader) × ((room : Room) (octets : List ℕ) → value_at most room octets ≡ value_with inner most room octets) × (0 < most → inner ≡ value_at (most - 1))
 unfolding value_at
-reading zero = (λ room octets. Err faults.Short, λ room octets. refl, λ some. absurd (omega arith))
-reading (suc most) = (value_at most, λ room octets. refl, λ some. ap value_at (omega arith))
+read_by zero = (λ room octets. Err faults.Short, λ room octets. refl, λ some. absurd (omega arith))
+read_by (suc most) = (value_at most, λ room octets. refl, λ some. ap value_at (omega arith))
 
 first_by : (inner : Reader) (frames : List Frame) (first : ℕ) (octets : List ℕ)
     → then_outlook (value_with inner (depth_in frames) (room_in frames) (first ∷ octets)) (λ tree rest. after (less_in frames (suc (length octets) - length rest)) rest)
@@ -245,7 +245,7 @@ first_by inner frames first octets =
 
 pub value_none : (frames : List Frame) (first : ℕ) (octets : List ℕ) → first_fits bounded (depth_in frames) (room_in frames) first ≡ false → value_outlook frames (first ∷ octets) ≡ Faulty
 value_none frames first octets fails =
-    let r = reading (depth_in frames) in
+    let r = read_by (depth_in frames) in
     ap (λ (v : Reads Tree). then_outlook v (λ tree rest. after (less_in frames (suc (length octets) - length rest)) rest)) (r.1 (room_in frames) (first ∷ octets))
     ∙ first_by r.0 frames first octets
     ∙ cond-false _ _ Faulty (and_right_false (nat_lt first 256) (first_fits bounded (depth_in frames) (room_in frames) first) fails)
@@ -257,7 +257,7 @@ value_none frames first octets fails =
 pub value_some : (frames : List Frame) (first : ℕ) (octets : List ℕ) → first < 256 → first_fits bounded (depth_in frames) (room_in frames) first ≡ true
     → value_outlook frames (first ∷ octets) ≡ cond (nat_lt (first % 32) 31) (length_outlook frames (nat_eq (first / 32 % 2) 1) 1 octets) (second_outlook frames (nat_eq (first / 32 % 2) 1) octets)
 value_some frames first octets small fits =
-    let r = reading (depth_in frames) in
+    let r = read_by (depth_in frames) in
     let deep : 0 < depth_in frames = ltb-true 0 (depth_in frames) (first_parts bounded (depth_in frames) (room_in frames) first fits).deep in
     let inner : r.0 ≡ value_at (32 - suc (length frames)) = r.2 deep ∙ ap value_at (omega arith) in
     ap (λ (v : Reads Tree). then_outlook v (λ tree rest. after (less_in frames (suc (length octets) - length rest)) rest)) (r.1 (room_in frames) (first ∷ octets))

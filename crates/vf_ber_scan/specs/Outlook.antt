@@ -4,7 +4,7 @@ use Rattle.std.specs.Prelude.{◌≡◌, ℕ, zero, suc, ◌+◌, ◌-◌, Bool,
 use Rattle.vf_ber.specs.declared.fault.Fault.TheVariants as faults
 use Rattle.vf_ber.specs.Reader.{Reads, digits_at, end_at, ended_at, parts_at, size_at, value_at}
 use Rattle.vf_ber.specs.Steps.{less, second_fits}
-use Rattle.vf_ber.specs.Verdict.{bounded, Verdict, Read, Short, Bad, Deep, Long}
+use Rattle.vf_ber.specs.Reading.{bounded, Reading, Read, Short, Bad, Deep, Long}
 use Rattle.vf_ber_scan.specs.declared.frames.Frame.{Frame}
 use Rattle.vf_ber_scan.specs.declared.frames.Frame.TheVariants.{Definite, Indefinite}
 use Rattle.vf_ber_scan.specs.declared.place.Next.{Next}
@@ -22,7 +22,7 @@ pub data Outlook : Type 0 where
   -- no value goes on with them
   Faulty : Outlook
 
-abbrev pub outlook_of : Verdict → Outlook
+abbrev pub outlook_of : Reading → Outlook
 outlook_of (Read tree n) = Whole
 outlook_of Short = Wanting
 outlook_of (Bad at) = Faulty

@@ -1,6 +1,6 @@
 //! Whole values at the front of octets.
 ghost use Rattle.std.specs.Prelude.{◌≡◌, ◌≤◌, IfSome, length};
-ghost use Rattle.vf_ber.specs.Reader.{verdict};
+ghost use Rattle.vf_ber.specs.Reader.{reading};
 ghost use Rattle.vf_ber_scan.specs.Scanned.{length_read};
 
 use crate::scan::Scan;
@@ -8,7 +8,7 @@ use crate::scan::Scan;
 /// How many octets the value takes that these begin with; `None` where they begin with none: some are wanting, or there
 /// is a fault. A value takes 1,048,576 octets at most (profile). Takes no memory.
 pub fn whole_in(octets: &[u8]) -> Option<usize>
-    ensures value { result ≡ length_read (verdict octets.now) }
+    ensures value { result ≡ length_read (reading octets.now) }
     ensures within { IfSome result (λ n. n ≤ length octets.now) }
     ensures small { IfSome result (λ n. n ≤ 1048576) }
 {

@@ -4,9 +4,9 @@ use Rattle.std.specs.Prelude.{if◌then◌else◌}
 use Rattle.std.specs.List.{flat_map, list_any}
 use Rattle.std.proofs.lemmas.List.Folds.{list_any-append}
 use Rattle.std.proofs.lemmas.Grind.{flat_map-append}
-use Rattle.vf_ber.specs.Reader.{verdict}
+use Rattle.vf_ber.specs.Reader.{reading}
 use Rattle.vf_ber.specs.Tree.{Tree}
-use Rattle.vf_ber.specs.Verdict.{Read, Short}
+use Rattle.vf_ber.specs.Reading.{Read, Short}
 use Rattle.vf_elements.specs.Messages.{message_in}
 use Rattle.vf_elements.specs.declared.message.Message.{Message}
 use Rattle.vf_elements.specs.declared.message.Said.{Said}
@@ -87,7 +87,7 @@ module _ (old new : State) (octets rest : List ℕ) where
 
 -- a message in front is taken by the one party
 pub says_message : (state : State) (party : StandingParty) (octets : List ℕ) (tree : Tree) (n : ℕ) (message : Message)
-    → state.parties ≡ party ∷ [] → party.link ≡ link → verdict octets ≡ Read tree n → message_in tree ≡ Ok message
+    → state.parties ≡ party ∷ [] → party.link ≡ link → reading octets ≡ Read tree n → message_in tree ≡ Ok message
     → Says state (after_transition state link (transition state party 0 message)) octets (drop n octets) (transition state party 0 message).said
 says_message state party octets tree n message one here read means = λ more.
     ap (said_to state) (received-read octets more tree n read ∙ ap (λ o. heard o ∷ received (drop n octets ++ more)) means)
@@ -136,5 +136,5 @@ continues_gone state octets rest gone = record {
 pub quiet_gone : (state : State) (pending : List ℕ) → state.parties ≡ [] → IsQuiet state pending
 quiet_gone state pending gone = said_to-gone state (received pending) gone
 
-pub quiet_short : (state : State) (pending : List ℕ) → verdict pending ≡ Short → IsQuiet state pending
+pub quiet_short : (state : State) (pending : List ℕ) → reading pending ≡ Short → IsQuiet state pending
 quiet_short state pending short = ap (said_to state) (received_front pending ∙ ap (received_first received pending) short)

@@ -2,35 +2,35 @@
 use Rattle.std.proofs.Common.{◌≡◌, ℕ, ◌+◌, ◌<◌, ◌≤◌, List, [], ◌++◌, length, take, sym, subst, ◌∙◌, arith, length-append, inl, inr}
 use Rattle.std.proofs.lemmas.Bool.{cases_lt}
 use Rattle.std.proofs.lemmas.List.{append-nil, length-take-le, take-append-le}
-use Rattle.vf_ber.specs.Reader.{verdict}
-use Rattle.vf_ber.specs.Verdict.{free, shallow, bounded, IsSpelling, Begins, IsFirstFault, Verdict, Short, Bad, Deep, Long, Read, IsVerdict}
+use Rattle.vf_ber.specs.Reader.{reading}
+use Rattle.vf_ber.specs.Reading.{free, shallow, bounded, IsSpelling, Begins, IsFirstFault, Reading, Short, Bad, Deep, Long, Read, IsReading}
 use Rattle.vf_ber.proofs.OneTree.{spelling_long}
-use Rattle.vf_ber.proofs.Plain.{verdict_found}
-use Rattle.vf_ber.proofs.Verdicts.{begins_less, none_short, one_verdict, take_less}
+use Rattle.vf_ber.proofs.Plain.{reading_found}
+use Rattle.vf_ber.proofs.Readings.{begins_less, none_short, one_reading, take_less}
 
-pub verdict_is : (octets : List ℕ) (v : Verdict) → IsVerdict octets v → verdict octets ≡ v
-verdict_is octets v is = one_verdict octets (verdict octets) v (verdict_found octets) is
+pub reading_is : (octets : List ℕ) (v : Reading) → IsReading octets v → reading octets ≡ v
+reading_is octets v is = one_reading octets (reading octets) v (reading_found octets) is
 
-pub verdict_none : verdict [] ≡ Short
-verdict_none = verdict_is [] Short none_short
+pub reading_none : reading [] ≡ Short
+reading_none = reading_is [] Short none_short
 
 -- a value is two octets at least, and all of it is there
-abbrev pub Takes : List ℕ → Verdict → Type 0
+abbrev pub Takes : List ℕ → Reading → Type 0
 Takes octets (Read tree n) = (1 < n) × (n ≤ length octets)
 Takes octets _ = Unit {0}
 
-takes_by : (octets : List ℕ) (v : Verdict) → IsVerdict octets v → Takes octets v
+takes_by : (octets : List ℕ) (v : Reading) → IsReading octets v → Takes octets v
 takes_by octets (Read tree n) (le, (spelled, within)) = (omega (arith, spelling_long (take n octets) tree spelled, length-take-le n octets le), le)
 takes_by octets Short is = tt
 takes_by octets (Bad at) is = tt
 takes_by octets (Deep at) is = tt
 takes_by octets (Long at) is = tt
 
-pub verdict-takes : (octets : List ℕ) → Takes octets (verdict octets)
-verdict-takes octets = takes_by octets (verdict octets) (verdict_found octets)
+pub reading-takes : (octets : List ℕ) → Takes octets (reading octets)
+reading-takes octets = takes_by octets (reading octets) (reading_found octets)
 
--- a verdict that what follows can't change
-abbrev pub IsSettled : Verdict → Type 0
+-- a reading that what follows can't change
+abbrev pub IsSettled : Reading → Type 0
 IsSettled Short = ⊥
 IsSettled _ = Unit {0}
 
@@ -56,7 +56,7 @@ first_stays octets more at f =
 upto_stays : (octets more : List ℕ) (at : ℕ) → IsFirstFault octets at → take (at + 1) octets ≡ take (at + 1) (octets ++ more)
 upto_stays octets more at f = let there = f.there in sym (take-append-le (at + 1) octets more (omega arith))
 
-stays : (octets more : List ℕ) (v : Verdict) → IsVerdict octets v → IsSettled v → IsVerdict (octets ++ more) v
+stays : (octets more : List ℕ) (v : Reading) → IsReading octets v → IsSettled v → IsReading (octets ++ more) v
 stays octets more (Read tree n) (le, s) settled =
     (omega (arith, length-append octets more), subst (λ (o : List ℕ). IsSpelling bounded o tree) (sym (take-append-le n octets more le)) s)
 stays octets more Short is settled = absurd settled
@@ -67,5 +67,5 @@ stays octets more (Deep at) (first, some, none) settled =
     (first_stays octets more at first, subst (Begins free) upto some, subst (λ (o : List ℕ). ¬ Begins shallow o) upto none)
 stays octets more (Long at) (first, some) settled = (first_stays octets more at first, subst (Begins shallow) (upto_stays octets more at first) some)
 
-pub verdict-append : (octets more : List ℕ) → IsSettled (verdict octets) → verdict (octets ++ more) ≡ verdict octets
-verdict-append octets more settled = verdict_is (octets ++ more) (verdict octets) (stays octets more (verdict octets) (verdict_found octets) settled)
+pub reading-append : (octets more : List ℕ) → IsSettled (reading octets) → reading (octets ++ more) ≡ reading octets
+reading-append octets more settled = reading_is (octets ++ more) (reading octets) (stays octets more (reading octets) (reading_found octets) settled)

@@ -1,17 +1,17 @@
 -- What a stream of octets is received as, one message after another, whatever follows.
 use Rattle.std.proofs.Common.{◌≡◌, ℕ, zero, suc, ◌<◌, ◌≤◌, List, [], ◌∷◌, ◌++◌, length, drop, refl, ap, sym, subst, ◌∙◌, arith, length-drop}
 use Rattle.std.proofs.lemmas.List.{drop-append-le}
-use Rattle.vf_ber.specs.Reader.{verdict}
+use Rattle.vf_ber.specs.Reader.{reading}
 use Rattle.vf_ber.specs.Tree.{Tree}
-use Rattle.vf_ber.specs.Verdict.{Verdict, Short, Bad, Deep, Long, Read}
+use Rattle.vf_ber.specs.Reading.{Reading, Short, Bad, Deep, Long, Read}
 use Rattle.vf_elements.specs.Messages.{message_in}
 use Rattle.vf_cli.specs.Dialogue.{received, received_first, received_within, heard}
-use Rattle.vf_cli.proofs.ReadingLemmas.{IsSettled, Takes, verdict-append, verdict-takes, verdict_none}
+use Rattle.vf_cli.proofs.ReadingLemmas.{IsSettled, Takes, reading-append, reading-takes, reading_none}
 
 received_none : (n : ℕ) → received_within n [] ≡ []
 unfolding received_within
 received_none zero = refl
-received_none (suc n) = ap (received_first (received_within n) []) verdict_none
+received_none (suc n) = ap (received_first (received_within n) []) reading_none
 
 -- any two bounds that are enough give the same
 pub received_enough : (m n : ℕ) (octets : List ℕ) → length octets ≤ m → length octets ≤ n → received_within m octets ≡ received_within n octets
@@ -22,9 +22,9 @@ received_enough zero (suc n) (octet ∷ octets) p q = absurd (omega arith)
 received_enough (suc m) zero [] p q = received_none (suc m)
 received_enough (suc m) zero (octet ∷ octets) p q = absurd (omega arith)
 received_enough (suc m) (suc n) octets p q =
-    by (verdict octets) (verdict-takes octets) (λ k fits. received_enough m n (drop k octets) (omega (arith, length-drop k octets)) (omega (arith, length-drop k octets)))
+    by (reading octets) (reading-takes octets) (λ k fits. received_enough m n (drop k octets) (omega (arith, length-drop k octets)) (omega (arith, length-drop k octets)))
   where
-    by : (r : Verdict) → Takes octets r → ((k : ℕ) → 1 < k → received_within m (drop k octets) ≡ received_within n (drop k octets))
+    by : (r : Reading) → Takes octets r → ((k : ℕ) → 1 < k → received_within m (drop k octets) ≡ received_within n (drop k octets))
         → received_first (received_within m) octets r ≡ received_first (received_within n) octets r
     by Short takes rest = refl
     by (Bad at) takes rest = refl
@@ -33,13 +33,13 @@ received_enough (suc m) (suc n) octets p q =
     by (Read tree k) takes rest = ap (λ l. heard (message_in tree) ∷ l) (rest k takes.0)
 
 -- what is received begins with what stands in front
-pub received_front : (octets : List ℕ) → received octets ≡ received_first received octets (verdict octets)
+pub received_front : (octets : List ℕ) → received octets ≡ received_first received octets (reading octets)
 unfolding received_within
-received_front [] = sym (ap (received_first received []) verdict_none)
+received_front [] = sym (ap (received_first received []) reading_none)
 received_front (octet ∷ octets) =
-    by (verdict (octet ∷ octets)) (verdict-takes (octet ∷ octets))
+    by (reading (octet ∷ octets)) (reading-takes (octet ∷ octets))
   where
-    by : (r : Verdict) → Takes (octet ∷ octets) r → received_first (received_within (length octets)) (octet ∷ octets) r ≡ received_first received (octet ∷ octets) r
+    by : (r : Reading) → Takes (octet ∷ octets) r → received_first (received_within (length octets)) (octet ∷ octets) r ≡ received_first received (octet ∷ octets) r
     by Short takes = refl
     by (Bad at) takes = refl
     by (Deep at) takes = refl
@@ -50,14 +50,14 @@ received_front (octet ∷ octets) =
         ap (λ l. heard (message_in tree) ∷ l) (received_enough (length octets) (length rest) rest shorter (omega arith))
 
 -- a front that is settled is received as it is, and then what is behind it
-pub received-settled : (octets more : List ℕ) (r : Verdict) → verdict octets ≡ r → IsSettled r → received (octets ++ more) ≡ received_first received (octets ++ more) r
+pub received-settled : (octets more : List ℕ) (r : Reading) → reading octets ≡ r → IsSettled r → received (octets ++ more) ≡ received_first received (octets ++ more) r
 received-settled octets more r is settled =
     received_front (octets ++ more)
-    ∙ ap (received_first received (octets ++ more)) (verdict-append octets more (subst IsSettled (sym is) settled) ∙ is)
+    ∙ ap (received_first received (octets ++ more)) (reading-append octets more (subst IsSettled (sym is) settled) ∙ is)
 
-pub received-read : (octets more : List ℕ) (tree : Tree) (n : ℕ) → verdict octets ≡ Read tree n
+pub received-read : (octets more : List ℕ) (tree : Tree) (n : ℕ) → reading octets ≡ Read tree n
     → received (octets ++ more) ≡ heard (message_in tree) ∷ received (drop n octets ++ more)
 received-read octets more tree n read =
-    let takes = subst (Takes octets) read (verdict-takes octets) in
+    let takes = subst (Takes octets) read (reading-takes octets) in
     received-settled octets more (Read tree n) read tt
     ∙ ap (λ l. heard (message_in tree) ∷ received l) (drop-append-le n octets more takes.1)

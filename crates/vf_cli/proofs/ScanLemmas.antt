@@ -2,27 +2,27 @@
 use Rattle.std.proofs.Common.{◌≡◌, true, false, ◌++◌, ℕ, List, [], ◌∷◌, subst, sym, append-nil, append_assoc}
 use Rattle.std.proofs.lemmas.List.{take-append-drop}
 use Rattle.std.specs.Prelude.{Option, Some, None, OnSome, is_some, take, drop}
-use Rattle.vf_ber.proofs.Plain.{verdict_found}
-use Rattle.vf_ber.proofs.Verdicts.{one_verdict}
-use Rattle.vf_ber.specs.Reader.{verdict}
-use Rattle.vf_ber.specs.Verdict.{IsVerdict, IsSpelling, Short, bounded}
+use Rattle.vf_ber.proofs.Plain.{reading_found}
+use Rattle.vf_ber.proofs.Readings.{one_reading}
+use Rattle.vf_ber.specs.Reader.{reading}
+use Rattle.vf_ber.specs.Reading.{IsReading, IsSpelling, Short, bounded}
 use Rattle.vf_ber_scan.specs.Scanned.{HasTaken, IsFed}
 use Rattle.vf_ber_scan.specs.declared.scan.Scan.{Scan}
 
 -- where octets are wanting behind some, they are behind those in front
-prefix_short : (octets more : List ℕ) → verdict (octets ++ more) ≡ Short → verdict octets ≡ Short
-prefix_short octets [] e = subst (λ (l : List ℕ). verdict l ≡ Short) (append-nil octets) e
+prefix_short : (octets more : List ℕ) → reading (octets ++ more) ≡ Short → reading octets ≡ Short
+prefix_short octets [] e = subst (λ (l : List ℕ). reading l ≡ Short) (append-nil octets) e
 prefix_short octets (next ∷ more) e =
-    let whole : IsVerdict (octets ++ next ∷ more) Short =
-    subst (λ v. IsVerdict (octets ++ next ∷ more) v) e (verdict_found (octets ++ next ∷ more)) in
-    let front : IsVerdict octets Short =
+    let whole : IsReading (octets ++ next ∷ more) Short =
+    subst (λ v. IsReading (octets ++ next ∷ more) v) e (reading_found (octets ++ next ∷ more)) in
+    let front : IsReading octets Short =
     (next, more ++ whole.0 ∷ whole.1, whole.2, subst (λ (l : List ℕ). IsSpelling bounded l whole.2) (append_assoc octets (next ∷ more) (whole.0 ∷ whole.1)) whole.3) in
-    one_verdict octets (verdict octets) Short (verdict_found octets) front
+    one_reading octets (reading octets) Short (reading_found octets) front
 
-pub scanned : (rest : List ℕ) (result : Option ℕ) (scan : Scan) → verdict rest ≡ Short → IsFed [] rest result scan → HasTaken scan rest
+pub scanned : (rest : List ℕ) (result : Option ℕ) (scan : Scan) → reading rest ≡ Short → IsFed [] rest result scan → HasTaken scan rest
 scanned rest None scan short fed = fed
 scanned rest (Some n) scan short fed =
-    absurd (fed.ended (prefix_short (take n rest) (drop n rest) (subst (λ (l : List ℕ). verdict l ≡ Short) (sym (take-append-drop n rest)) short)))
+    absurd (fed.ended (prefix_short (take n rest) (drop n rest) (subst (λ (l : List ℕ). reading l ≡ Short) (sym (take-append-drop n rest)) short)))
 
 pub still_wanting : (octets piece : List ℕ) (result : Option ℕ) (scan : Scan) → is_some result ≡ false → IsFed octets piece result scan → HasTaken scan (octets ++ piece)
 still_wanting octets piece None scan some fed = fed

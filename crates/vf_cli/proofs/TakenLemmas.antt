@@ -3,8 +3,8 @@ use Rattle.std.proofs.Common.{◌≡◌, ℕ, ◌+◌, List, [], ◌∷◌, ◌+
 use Rattle.std.specs.List.{flat_map}
 use Rattle.std.proofs.lemmas.List.{drop-drop}
 use Rattle.vf_ber.specs.Tree.{Tree}
-use Rattle.vf_ber.specs.Reader.{verdict}
-use Rattle.vf_ber.specs.Verdict.{Verdict, Short, Bad, Deep, Long, Read}
+use Rattle.vf_ber.specs.Reader.{reading}
+use Rattle.vf_ber.specs.Reading.{Reading, Short, Bad, Deep, Long, Read}
 use Rattle.vf_elements.specs.Messages.{message_in, place_of}
 use Rattle.vf_elements.specs.declared.message.Message.{Message}
 use Rattle.vf_elements.specs.declared.message.Said.TheVariants as answers
@@ -33,10 +33,10 @@ with_tables-same tables state same = λ i. record { users = state.users; files =
 same_fault : (things later : List Received) (place at : ℕ) → place ≡ at → things ≡ Faulty at ∷ later → things ≡ Faulty place ∷ later
 same_fault things later place at there is = is ∙ ap (λ k. Faulty k ∷ later) (sym there)
 
-faulty : (rest more : List ℕ) (place : ℕ) → IsFront (verdict rest) (Ok (front.Fault place)) → (later : List Received) × (received (rest ++ more) ≡ Faulty place ∷ later)
-faulty rest more place found = by (verdict rest) refl found
+faulty : (rest more : List ℕ) (place : ℕ) → IsFront (reading rest) (Ok (front.Fault place)) → (later : List Received) × (received (rest ++ more) ≡ Faulty place ∷ later)
+faulty rest more place found = by (reading rest) refl found
   where
-    by : (r : Verdict) → verdict rest ≡ r → IsFront r (Ok (front.Fault place)) → (later : List Received) × (received (rest ++ more) ≡ Faulty place ∷ later)
+    by : (r : Reading) → reading rest ≡ r → IsFront r (Ok (front.Fault place)) → (later : List Received) × (received (rest ++ more) ≡ Faulty place ∷ later)
     by Short e found = absurd found
     by (Bad at) e found = ([], same_fault (received (rest ++ more)) [] place at found (received-settled rest more (Bad at) e tt))
     by (Deep at) e found = ([], same_fault (received (rest ++ more)) [] place at found (received-settled rest more (Deep at) e tt))
@@ -49,11 +49,11 @@ faulty rest more place found = by (verdict rest) refl found
         )
 
 -- a message in front was read
-read_message : (rest : List ℕ) (message : Message) (n : ℕ) → IsFront (verdict rest) (Ok (front.Heard message n))
-    → (tree : Tree) × (verdict rest ≡ Read tree n) × (message_in tree ≡ Ok message)
-read_message rest message n found = by (verdict rest) refl found
+read_message : (rest : List ℕ) (message : Message) (n : ℕ) → IsFront (reading rest) (Ok (front.Heard message n))
+    → (tree : Tree) × (reading rest ≡ Read tree n) × (message_in tree ≡ Ok message)
+read_message rest message n found = by (reading rest) refl found
   where
-    by : (r : Verdict) → verdict rest ≡ r → IsFront r (Ok (front.Heard message n)) → (tree : Tree) × (verdict rest ≡ Read tree n) × (message_in tree ≡ Ok message)
+    by : (r : Reading) → reading rest ≡ r → IsFront r (Ok (front.Heard message n)) → (tree : Tree) × (reading rest ≡ Read tree n) × (message_in tree ≡ Ok message)
     by Short e found = absurd found
     by (Bad at) e found = absurd found
     by (Deep at) e found = absurd found
@@ -87,7 +87,7 @@ module _ (first state next : State) (octets between rest said : List ℕ) (conse
 
 module _ (first state : State) (party : Party) (tables : Tables) (octets said old : List ℕ) (at : ℕ)
     (holds : Holds (Some party) tables state) (before : Continues first octets said state (drop at octets)) where
-  pub takes_fault : (place : ℕ) → IsFront (verdict (drop at octets)) (Ok (front.Fault place)) → Aborts first octets (said ++ reply (answers.Abort outside place))
+  pub takes_fault : (place : ℕ) → IsFront (reading (drop at octets)) (Ok (front.Fault place)) → Aborts first octets (said ++ reply (answers.Abort outside place))
   takes_fault place found =
       let rest = drop at octets in
       continues-aborts first state state octets rest [] said (reply (answers.Abort outside place)) before
@@ -95,7 +95,7 @@ module _ (first state : State) (party : Party) (tables : Tables) (octets said ol
 
   -- what is printed goes on with the consequence of a message in front
   pub takes_message : (message : Message) (n : ℕ) (new replies : List ℕ) (made : Tables) (rest : After) → replies ≡ old ++ said
-      → IsFront (verdict (drop at octets)) (Ok (front.Heard message n))
+      → IsFront (reading (drop at octets)) (Ok (front.Heard message n))
       → Makes (transition (with_tables tables state) holds.0 0 message) replies new tables made rest
       → Appends first octets old new made rest (drop (at + n) octets)
   takes_message message n new replies made rest so_far found makes =

@@ -2,9 +2,9 @@
 use Rattle.std.specs.Prelude.{◌≡◌, ◌<◌, ◌≤◌, length as length_of, ℕ, Bool, true, false, List, [], ◌∷◌, ◌++◌, Option, None, Some, Result, Ok, Err}
 use Rattle.std.specs.List.{flat_map, list_any}
 use Rattle.vf_base.specs.declared.errors.NoMemory.{NoMemory}
-use Rattle.vf_ber.specs.Reader.{verdict}
+use Rattle.vf_ber.specs.Reader.{reading}
 use Rattle.vf_ber.specs.Tree.{Tree}
-use Rattle.vf_ber.specs.Verdict.{Verdict, Short, Bad, Deep, Long, Read}
+use Rattle.vf_ber.specs.Reading.{Reading, Short, Bad, Deep, Long, Read}
 use Rattle.vf_elements.specs.Messages.{message_in, place_of}
 use Rattle.vf_pdu_fields.specs.Fault.{Fault}
 use Rattle.vf_regime.specs.declared.party.Party.{Party}
@@ -29,17 +29,17 @@ use Rattle.vf_cli.specs.declared.dialogue.Interruption.{Interruption}
 use Rattle.vf_cli.specs.Ftam.{EndsDialogue}
 use Rattle.vf_cli.specs.Printed.{Printed, Wrote, WroteFront}
 
--- what stands in front of octets of this verdict
-abbrev pub IsFront : Verdict → Result Front NoMemory → Type 0
-IsFront verdict (Ok front.Nothing) = verdict ≡ Short
+-- what stands in front of octets of this reading
+abbrev pub IsFront : Reading → Result Front NoMemory → Type 0
+IsFront reading (Ok front.Nothing) = reading ≡ Short
 IsFront Short (Ok (front.Fault place)) = ⊥
 IsFront (Bad at) (Ok (front.Fault place)) = place ≡ at
 IsFront (Deep at) (Ok (front.Fault place)) = place ≡ at
 IsFront (Long at) (Ok (front.Fault place)) = place ≡ at
 IsFront (Read tree n) (Ok (front.Fault place)) = (fault : Fault) × (message_in tree ≡ Err fault) × (place ≡ place_of fault)
 IsFront (Read tree n) (Ok (front.Heard message length)) = (message_in tree ≡ Ok message) × (n ≡ length)
-IsFront verdict (Ok (front.Heard message length)) = ⊥
-IsFront verdict (Err error) = Unit {0}
+IsFront reading (Ok (front.Heard message length)) = ⊥
+IsFront reading (Err error) = Unit {0}
 
 -- what a value in front means
 abbrev pub MeansFront : Tree → ℕ → Result Front NoMemory → Type 0
@@ -74,7 +74,7 @@ Stands conversation state =
 
 -- where the party goes on, the octets that are left are a proper front of a message
 abbrev pub IsRest : After → List ℕ → Type 0
-IsRest (after.Goes party) rest = verdict rest ≡ Short
+IsRest (after.Goes party) rest = reading rest ≡ Short
 IsRest _ rest = Unit {0}
 
 -- the same printed behind some octets

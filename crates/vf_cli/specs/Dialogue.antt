@@ -2,9 +2,9 @@
 -- below, so a piece of the stream of messages is a line, and every message comes at moment 0.
 use Rattle.std.specs.Prelude.{ℕ, zero, suc, Bool, true, false, List, [], ◌∷◌, ◌++◌, length, drop, Option, None, Some, Result, Ok, Err, if◌then◌else◌}
 use Rattle.std.specs.List.{flat_map, list_any}
-use Rattle.vf_ber.specs.Reader.{verdict}
+use Rattle.vf_ber.specs.Reader.{reading}
 use Rattle.vf_ber.specs.Spelling.{spell}
-use Rattle.vf_ber.specs.Verdict.{Verdict, Short, Bad, Deep, Long, Read}
+use Rattle.vf_ber.specs.Reading.{Reading, Short, Bad, Deep, Long, Read}
 use Rattle.vf_elements.specs.ElementValue.{value as element_value}
 use Rattle.vf_elements.specs.Messages.{message_in, place_of}
 use Rattle.vf_elements.specs.declared.message.Message.{Message}
@@ -32,7 +32,7 @@ heard (Ok message) = Heard message
 heard (Err fault) = Faulty (place_of fault)
 
 -- what the octets in front are received as, and behind them what `behind` makes of the rest
-abbrev pub received_first : (List ℕ → List Received) → List ℕ → Verdict → List Received
+abbrev pub received_first : (List ℕ → List Received) → List ℕ → Reading → List Received
 received_first behind octets Short = []
 received_first behind octets (Bad at) = Faulty at ∷ []
 received_first behind octets (Deep at) = Faulty at ∷ []
@@ -43,7 +43,7 @@ received_first behind octets (Read tree n) = heard (message_in tree) ∷ behind 
 -- that begin no value nothing is read. The bound is on their number; the number of octets is always enough.
 unfoldable pub received_within : ℕ → List ℕ → List Received
 received_within zero octets = []
-received_within (suc most) octets = received_first (received_within most) octets (verdict octets)
+received_within (suc most) octets = received_first (received_within most) octets (reading octets)
 
 abbrev pub received : List ℕ → List Received
 received octets = received_within (length octets) octets

@@ -1,7 +1,7 @@
 //! Messages in front of octets, and replies as lines.
 ghost use Rattle.std.specs.Prelude.{◌≡◌, ◌++◌, OnOk};
 ghost use Rattle.vf_ber.specs.Limits.{IsTooLarge};
-ghost use Rattle.vf_ber.specs.Reader.{verdict};
+ghost use Rattle.vf_ber.specs.Reader.{reading};
 ghost use Rattle.vf_ber.specs.Spelling.{spell};
 ghost use Rattle.vf_ber.specs.Views.{tree_of};
 ghost use Rattle.vf_cli.specs.Conversation.{Advances, IsFront, MeansFront};
@@ -34,7 +34,7 @@ pub(crate) enum Front {
 
 /// What stands in front of the octets.
 pub(crate) fn front_of(alloc: Global, octets: &[u8]) -> Result<Front, NoMemory>
-    ensures front { IsFront (verdict octets.now) result }
+    ensures front { IsFront (reading octets.now) result }
     ensures advances { Advances octets.now result }
 {
     let (value, length) = match vf_ber::read(alloc, octets) {

@@ -2,6 +2,7 @@
 -- string are profile).
 use Rattle.std.specs.Prelude.{ℕ, Bool, true, false, ◌&&◌, ◌||◌, not, nat_eq, nat_le, length, Option, Some, None, if◌then◌else◌}
 use Rattle.std.specs.List.{list_all}
+use Rattle.vf_base.specs.declared.limits.TheConstants.{MOST_STRING_OCTETS}
 use Rattle.vf_base.specs.declared.element.Element.{Element}
 use Rattle.vf_base.specs.declared.element.Element.TheVariants.{Descriptor, Enter, Exit, Text, Binary}
 use Rattle.vf_doctype.specs.declared.doc_type.DocType.{DocType}
@@ -40,7 +41,7 @@ takes doc (Binary octets) = not (takes_text doc.kind)
 -- significance each has that length
 abbrev pub fits : DocType → ℕ → Bool
 fits doc count =
-    nat_le count 65536 && (nat_eq doc.longest 0 || nat_le count doc.longest)
+    nat_le count MOST_STRING_OCTETS && (nat_eq doc.longest 0 || nat_le count doc.longest)
     && (not doc.is_fixed || nat_eq count doc.longest)
 
 abbrev pub has_length : DocType → Element → Bool

@@ -2,6 +2,7 @@
 -- takes.
 use Rattle.std.specs.Prelude.{ℕ, Bool, ◌&&◌, ◌||◌, not, nat_eq, nat_le, List, [], ◌∷◌, Option, Some, None, option_map, if◌then◌else◌}
 use Rattle.std.specs.Str.{bytes_eq}
+use Rattle.vf_base.specs.declared.limits.TheConstants.{MOST_STRING_OCTETS}
 use Rattle.vf_base.specs.declared.access.Constraint.{Constraint}
 use Rattle.vf_base.specs.declared.access.Constraint.TheVariants.{Unstructured, SequentialFlat}
 use Rattle.vf_base.specs.declared.contents.Contents.{Contents}
@@ -30,7 +31,7 @@ is_fixed contents = nat_eq contents.significance 1
 -- strings of a fixed length have one
 abbrev pub has_parameters : Contents → Bool
 has_parameters contents =
-    is_class contents.class && nat_le contents.longest 65536 && nat_le contents.significance 2
+    is_class contents.class && nat_le contents.longest MOST_STRING_OCTETS && nat_le contents.significance 2
     && not (is_fixed contents && nat_eq contents.longest 0)
 
 -- the document type of a contents type, where it is one

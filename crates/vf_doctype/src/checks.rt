@@ -4,7 +4,7 @@ ghost use Rattle.vf_doctype.specs.Checks.{fault, fits as fits_meant, has_length 
 
 use crate::DocError;
 use crate::doc_type::{DocType, Kind};
-use vf_base::{Element, Octets};
+use vf_base::{Element, MOST_STRING_OCTETS, Octets};
 
 impl DocType {
     /// Whether an element is one of the document type, alone.
@@ -67,5 +67,7 @@ fn fits(doc: &DocType, octets: &Octets) -> bool
 {
     let count = octets.len();
     let longest = doc.longest as usize;
-    count <= 65_536 && (longest == 0 || count <= longest) && (!doc.is_fixed || count == longest)
+    count <= MOST_STRING_OCTETS as usize
+        && (longest == 0 || count <= longest)
+        && (!doc.is_fixed || count == longest)
 }

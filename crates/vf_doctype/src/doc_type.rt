@@ -1,7 +1,7 @@
 ghost use Rattle.std.specs.Prelude.{◌≡◌};
 ghost use Rattle.vf_doctype.specs.DocumentTypes.{constraint_of, doc_type, has_parameters as parameters_meant, is_class as class_meant, kind_of as kind_meant};
 
-use vf_base::{Constraint, Contents};
+use vf_base::{Constraint, Contents, MOST_STRING_OCTETS};
 
 /// The document types of this profile.
 #[derive(Clone, Copy, Debug, PartialEq, Eq)]
@@ -60,7 +60,7 @@ fn has_parameters(contents: &Contents) -> bool
     ensures { result ≡ parameters_meant contents.now }
 {
     is_class(contents.class)
-        && contents.longest <= 65_536
+        && contents.longest <= MOST_STRING_OCTETS
         && contents.significance <= 2
         && !(contents.significance == 1 && contents.longest == 0)
 }

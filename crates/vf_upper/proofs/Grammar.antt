@@ -22,18 +22,18 @@ use Rattle.vf_upper.proofs.TypesRead.{acse_data-reads, all_data-reads, aru-reads
 use Rattle.vf_upper.proofs.WrittenTrees.{acse_id-fits, sequence-tree, written-tree}
 use Rattle.vf_upper_grammar.specs.declared.labels.NumberLabel.{NumberLabel}
 use Rattle.vf_upper_grammar.specs.declared.labels.NumberLabel.TheVariants.{AnyContext, PciContext}
-use Rattle.vf_upper_grammar.specs.Forms.{has_tag, Reading, Tags}
+use Rattle.vf_upper_grammar.specs.Forms.{has_tag, Finding, Tags}
 use Rattle.vf_upper_grammar.specs.Marks.{Mark}
 use Rattle.vf_upper_grammar.specs.Texts.{typed}
 use Rattle.vf_upper_grammar.specs.Types as types
 use Rattle.vf_upper_grammar.specs.Types.{cargo_of, found_in}
 
-read-alone : (tags : Tags) (read : Reading) (tree : Tree) (marks : List Mark) → has_tag tags (first_of tree) ≡ true → is_low (root tree) ≡ true → Reads read tree marks → IsSound tree
+read-alone : (tags : Tags) (read : Finding) (tree : Tree) (marks : List Mark) → has_tag tags (first_of tree) ≡ true → is_low (root tree) ≡ true → Reads read tree marks → IsSound tree
     → typed tags read (spell tree) [] ≡ Ok marks
 read-alone tags read tree marks has low reads sound = let all = typed-reads tags read has low reads in all.finds [] sound
 
 -- where values are one PDU, what is read of a list of one is read of them
-pdu-reads : (read : Reading) (tree : List Carried → Tree) (marks : List Carried → List Mark) → ((v : Carried) → IsCarried v → Reads read (tree (v ∷ [])) (marks (v ∷ [])))
+pdu-reads : (read : Finding) (tree : List Carried → Tree) (marks : List Carried → List Mark) → ((v : Carried) → IsCarried v → Reads read (tree (v ∷ [])) (marks (v ∷ [])))
     → (standing : List Standing) (contexts : List ContextEntry) (label : NumberLabel) (values : List Carried) → has_pdu standing contexts label values ≡ true → AreCarried values
     → Reads read (tree values) (marks values)
 pdu-reads read tree marks reads standing contexts label [] has are = absurd (cc)
@@ -41,7 +41,7 @@ pdu-reads read tree marks reads standing contexts label (v ∷ []) has are = rea
 pdu-reads read tree marks reads standing contexts label (v ∷ other ∷ values) has are = absurd (cc)
 
 -- the same of a primitive with these values
-pdu-found : (tags : Tags) (read : Reading) (primitive : List Carried → Primitive) (contexts : List ContextEntry)
+pdu-found : (tags : Tags) (read : Finding) (primitive : List Carried → Primitive) (contexts : List ContextEntry)
     → ((v : Carried) → IsCarried v → Reads read (written (primitive (v ∷ [])) contexts) (marks_of (primitive (v ∷ [])) contexts))
     → (standing : List Standing) (label : NumberLabel) (values : List Carried) → has_pdu standing contexts label values ≡ true → AreCarried values
     → has_tag tags (first_of (written (primitive values) contexts)) ≡ true → is_low (root (written (primitive values) contexts)) ≡ true

@@ -8,15 +8,15 @@ use Rattle.std.proofs.lemmas.List.{append-nil, drop_at, take_at}
 use Rattle.std.proofs.lemmas.List.Elements.{All-cons, All-head, All-nil, All-tail}
 use Rattle.vf_ber.proofs.Canonical.{length_is}
 use Rattle.vf_ber.proofs.Names.{identifier-short, low-first}
-use Rattle.vf_ber.proofs.Plain.{verdict_found}
-use Rattle.vf_ber.proofs.Verdicts.{read_again}
+use Rattle.vf_ber.proofs.Plain.{reading_found}
+use Rattle.vf_ber.proofs.Readings.{read_again}
 use Rattle.vf_ber.specs.Limits.{IsTooLarge}
-use Rattle.vf_ber.specs.Reader.{verdict}
+use Rattle.vf_ber.specs.Reader.{reading}
 use Rattle.vf_ber.specs.Spelling.{first_octet, header, length_octets, spell, spells}
 use Rattle.vf_ber.specs.Spellings.{IsLength, number_in}
 use Rattle.vf_ber.specs.Tags.{AreTrees, IsTag, IsTree}
 use Rattle.vf_ber.specs.Tree.{built, depth_in, plain, root, Tag, Tree}
-use Rattle.vf_ber.specs.Verdict.{Read}
+use Rattle.vf_ber.specs.Reading.{Read}
 use Rattle.vf_upper.specs.Written.{holding, trees}
 use Rattle.vf_upper_grammar.specs.Parts.{behind_length, ends, Header, header_at, long_form, next, number_of, Part, part_with, Parts, parts_by, parts_in, parts_of, Piece, piece_of, place_in, Taken, taken, taken_at, taken_by, Text}
 
@@ -209,14 +209,14 @@ pub trees-are : (ts : List Tree) → All IsTree ts → AreTrees (trees ts)
 trees-are [] are = tt
 trees-are (tree ∷ ts) are = (All-head IsTree tree ts are, trees-are ts (All-tail IsTree tree ts are))
 
--- ---- verdicts
+-- ---- readings
 
 -- a spelling is read as its tree, whatever follows it
-pub verdict-spelled : (tree : Tree) (rest : List ℕ) → IsTree tree → ¬ IsTooLarge tree → verdict (spell tree ++ rest) ≡ Read tree (length (spell tree))
-verdict-spelled tree rest is small =
+pub reading-spelled : (tree : Tree) (rest : List ℕ) → IsTree tree → ¬ IsTooLarge tree → reading (spell tree ++ rest) ≡ Read tree (length (spell tree))
+reading-spelled tree rest is small =
     let octets = spell tree ++ rest in
-    (read_again tree rest (verdict octets) is small).1 (verdict_found octets)
+    (read_again tree rest (reading octets) is small).1 (reading_found octets)
 
-pub verdict-alone : (tree : Tree) → IsTree tree → ¬ IsTooLarge tree → verdict (spell tree) ≡ Read tree (length (spell tree))
-verdict-alone tree is small =
-    ap verdict (sym (append-nil (spell tree))) ∙ verdict-spelled tree [] is small
+pub reading-alone : (tree : Tree) → IsTree tree → ¬ IsTooLarge tree → reading (spell tree) ≡ Read tree (length (spell tree))
+reading-alone tree is small =
+    ap reading (sym (append-nil (spell tree))) ∙ reading-spelled tree [] is small

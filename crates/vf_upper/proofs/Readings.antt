@@ -17,10 +17,10 @@ use Rattle.vf_ber.proofs.Integers.{integer-read}
 use Rattle.vf_ber.proofs.Oids.{oid-read}
 use Rattle.vf_upper.specs.Laws.{IsIdentifier}
 use Rattle.vf_upper.specs.Written.{context, holding, trees}
-use Rattle.vf_upper.proofs.Parts.{AreParts, first_of, is_low, IsLow, IsPart, low-by, parts-are, small-contents, small-parts, small-spelled, value-octets, verdict-alone}
+use Rattle.vf_upper.proofs.Parts.{AreParts, first_of, is_low, IsLow, IsPart, low-by, parts-are, small-contents, small-parts, small-spelled, value-octets, reading-alone}
 use Rattle.vf_upper_grammar.specs.declared.labels.NameLabel.{NameLabel}
 use Rattle.vf_upper_grammar.specs.declared.labels.NumberLabel.{NumberLabel}
-use Rattle.vf_upper_grammar.specs.Forms.{◌>>=◌, constructed, due, Due, each, exactly, Field, found_name, found_number, has_tag, in_order, integer, is_allowed, is_allowed_name, is_known, lacking, leading, leads, object_identifier, ordered, Reading, sequence, sequence_of, set, step, Tags}
+use Rattle.vf_upper_grammar.specs.Forms.{◌>>=◌, constructed, due, Due, each, exactly, Field, found_name, found_number, has_tag, in_order, integer, is_allowed, is_allowed_name, is_known, lacking, leading, leads, object_identifier, ordered, Finding, sequence, sequence_of, set, step, Tags}
 use Rattle.vf_upper_grammar.specs.Marks.{Found, Mark, name, number, value}
 use Rattle.vf_upper_grammar.specs.Parts.{ends, is_constructed, next, number_of, Part, Parts, parts_of, Text}
 use Rattle.vf_upper_grammar.specs.Texts.{Cargo, carried, carried_by, explicit_held, front, Held, held_in, landed, nothing, one, segments, then_read, typed, typed_by, unless}
@@ -57,7 +57,7 @@ low-trees (tree ∷ ts) low =
 -- ---- what readings find, whatever was found before
 
 -- in a part that is the tree's
-pub record Reads (read : Reading) (tree : Tree) (marks : List Mark) : Type 0 where
+pub record Reads (read : Finding) (tree : Tree) (marks : List Mark) : Type 0 where
   pub finds : (part : Part) (found : List Mark) → IsSound tree → IsPart tree part → read part found ≡ Ok (found ++ marks)
 
 -- in its octets
@@ -120,12 +120,12 @@ last_field {field} {left} {after} {tree} {marks} is_due none reads = record { fi
 abbrev due_if : Bool → Field → Option Due
 due_if b field = if b then Some (record { field = field; left = [] }) else None
 
-due-one : (tags : Tags) (read : Reading) (first : ℕ) → has_tag tags first ≡ true → due first (required tags read ∷ []) ≡ Some (record { field = required tags read; left = [] })
+due-one : (tags : Tags) (read : Finding) (first : ℕ) → has_tag tags first ≡ true → due first (required tags read ∷ []) ≡ Some (record { field = required tags read; left = [] })
 due-one tags read first has = ap (λ b. due_if b (required tags read)) has
 
 -- ---- values in turn
 
-each-found : {X : Type 0} (P : X → Type 0) (tags : Tags) (read : Reading) (tree : X → Tree) (marks : X → List Mark)
+each-found : {X : Type 0} (P : X → Type 0) (tags : Tags) (read : Finding) (tree : X → Tree) (marks : X → List Mark)
     → ((x : X) → has_tag tags (first_of (tree x)) ≡ true) → ((x : X) → P x → Reads read (tree x) (marks x)) → (xs : List X) → All P xs
     → (parts : Parts) (found : List Mark) → AreSound (map tree xs) → AreParts (map tree xs) parts → each parts tags read found ≡ Ok (found ++ flat_map marks xs)
 each-found P tags read tree marks tag reads [] all (ends place) found sound are = ap Ok (sym (append-nil found))
@@ -169,12 +169,12 @@ pub exactly-reads : {fields : List Field} {tag : Tag} {ts : List Tree} {marks : 
     → is_constructed (first_of (holding tag ts)) ≡ true → are_low ts ≡ true → Orders fields ts marks → Reads (exactly fields) (holding tag ts) marks
 exactly-reads {fields} {tag} {ts} {marks} built low orders = constructed-reads built low (in_order-reads false fields ts marks orders)
 
-pub explicit-reads : (tags : Tags) (read : Reading) {tag : Tag} {tree : Tree} {marks : List Mark}
+pub explicit-reads : (tags : Tags) (read : Finding) {tag : Tag} {tree : Tree} {marks : List Mark}
     → is_constructed (first_of (holding tag (tree ∷ []))) ≡ true → is_low (root tree) ≡ true → has_tag tags (first_of tree) ≡ true → Reads read tree marks
     → Reads (explicit tags read) (holding tag (tree ∷ [])) marks
 explicit-reads tags read {tag} {tree} {marks} built low has reads = exactly-reads built (ap (λ b. b && true) low) (last_field (due-one tags read (first_of tree) has) refl reads)
 
-pub sequence_of-reads : {X : Type 0} (P : X → Type 0) (tags : Tags) (read : Reading) (tree : X → Tree) (marks : X → List Mark) {tag : Tag} (xs : List X)
+pub sequence_of-reads : {X : Type 0} (P : X → Type 0) (tags : Tags) (read : Finding) (tree : X → Tree) (marks : X → List Mark) {tag : Tag} (xs : List X)
     → is_constructed (first_of (holding tag (map tree xs))) ≡ true → ((x : X) → is_low (root (tree x)) ≡ true) → ((x : X) → has_tag tags (first_of (tree x)) ≡ true)
     → ((x : X) → P x → Reads read (tree x) (marks x)) → All P xs
     → Reads (sequence_of tags read) (holding tag (map tree xs)) (flat_map marks xs)
@@ -252,7 +252,7 @@ unfolding one
 one-found tree found sound =
     let n = length (spell tree) in
     let marks : List Mark = found ++ value tree ∷ [] in
-    ap (then_read 0 (spell tree) nothing found) (verdict-alone tree sound.is_tree sound.small)
+    ap (then_read 0 (spell tree) nothing found) (reading-alone tree sound.is_tree sound.small)
     ∙ ap (λ o. nothing (0 + n) o marks) (drop_all n (spell tree) (omega arith))
 
 pub one-reads : {tree : Tree} → ReadsOctets one tree (value tree ∷ [])
@@ -261,7 +261,7 @@ one-reads {tree} = record { finds = one-found tree }
 abbrev behind_if : Bool → ℕ → Option ℕ
 behind_if b n = if b then None else Some n
 
-typed-found : (tags : Tags) (read : Reading) (tree : Tree) (marks : List Mark) → has_tag tags (first_of tree) ≡ true → is_low (root tree) ≡ true → Reads read tree marks
+typed-found : (tags : Tags) (read : Finding) (tree : Tree) (marks : List Mark) → has_tag tags (first_of tree) ≡ true → is_low (root tree) ≡ true → Reads read tree marks
     → (found : List Mark) → IsSound tree → typed tags read (spell tree) found ≡ Ok (found ++ marks)
 unfolding typed
 typed-found tags read tree marks has low reads found sound =
@@ -269,13 +269,13 @@ typed-found tags read tree marks has low reads found sound =
     let n = length octets in
     let fields = required tags read ∷ [] in
     let orders : Orders fields (tree ∷ []) marks = last_field (due-one tags read (first_of tree) has) refl reads in
-    ap (λ v. typed_by tags read (front octets v) found) (verdict-alone tree sound.is_tree sound.small)
+    ap (λ v. typed_by tags read (front octets v) found) (reading-alone tree sound.is_tree sound.small)
     ∙ ap (λ o. in_order (parts_of (text_of o 0 true)) false fields fields found >>= unless (behind_if (nat_eq n n) n)) (take_all n octets (omega arith))
     ∙ ap (λ y. y >>= unless (behind_if (nat_eq n n) n))
     (orders.finds false fields (parts_of (text_of octets 0 true)) found (sound, tt) (value-octets tree 0 (low-by tree low) (small-spelled tree sound.small)))
     ∙ ap (λ b. unless (behind_if b n) (found ++ marks)) (eq-eqb n n refl)
 
-pub typed-reads : (tags : Tags) (read : Reading) {tree : Tree} {marks : List Mark} → has_tag tags (first_of tree) ≡ true → is_low (root tree) ≡ true → Reads read tree marks
+pub typed-reads : (tags : Tags) (read : Finding) {tree : Tree} {marks : List Mark} → has_tag tags (first_of tree) ≡ true → is_low (root tree) ≡ true → Reads read tree marks
     → ReadsOctets (typed tags read) tree marks
 typed-reads tags read {tree} {marks} has low reads = record { finds = typed-found tags read tree marks has low reads }
 

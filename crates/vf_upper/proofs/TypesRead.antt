@@ -17,7 +17,7 @@ use Rattle.vf_upper.proofs.WrittenTrees.{one_fits, two_fits, zero_fits}
 use Rattle.vf_upper_grammar.specs.declared.labels.NameLabel.TheVariants.{Abstract, Application, Stated, Transfer}
 use Rattle.vf_upper_grammar.specs.declared.labels.NumberLabel.{NumberLabel}
 use Rattle.vf_upper_grammar.specs.declared.labels.NumberLabel.TheVariants.{AcseContext, AnyContext, Fixed, Outcome, PciContext, Proposal}
-use Rattle.vf_upper_grammar.specs.Forms.{Field, has_tag, in_order, Reading, sequence_of, Tags}
+use Rattle.vf_upper_grammar.specs.Forms.{Field, has_tag, in_order, Finding, sequence_of, Tags}
 use Rattle.vf_upper_grammar.specs.Marks.{Found, Mark, name, number, value}
 use Rattle.vf_upper_grammar.specs.Parts.{ends, is_constructed, next, number_of, Part, Parts}
 use Rattle.vf_upper_grammar.specs.Syntaxes as syntaxes
@@ -26,7 +26,7 @@ use Rattle.vf_upper_grammar.specs.Types as types
 
 -- ---- values in contexts
 
-pdv_list-reads : (label : NumberLabel) (read : Reading) (id : ℤ) (tree : Tree) (marks : List Mark) → IsIdentifier id → Reads read (holding (context 0) (tree ∷ [])) marks
+pdv_list-reads : (label : NumberLabel) (read : Finding) (id : ℤ) (tree : Tree) (marks : List Mark) → IsIdentifier id → Reads read (holding (context 0) (tree ∷ [])) marks
     → Reads (types.pdv_list label read) (pdv_list id tree) (number label id ∷ marks)
 pdv_list-reads label read id tree marks fits reads = exactly-reads refl refl (then_field refl (integer-reads None label refl refl fits) (last_field refl refl reads))
 
@@ -84,7 +84,7 @@ rlre-reads v is = sequence-reads refl refl (last_field refl refl (user_informati
 abrt-reads : (v : Carried) → IsCarried v → Reads types.abrt (abrt (v ∷ [])) (number Fixed (pos 0) ∷ values_marks AnyContext (v ∷ []))
 abrt-reads v is = sequence-reads refl refl (then_field refl (integer-reads (Some 0) Fixed refl refl zero_fits) (last_field refl refl (user_information-reads AnyContext v is)))
 
-pub acse_data-reads : (tags : Tags) (read : Reading) (contexts : List ContextEntry) (tree : Tree) (marks : List Mark) → IsIdentifier (acse_id contexts)
+pub acse_data-reads : (tags : Tags) (read : Finding) (contexts : List ContextEntry) (tree : Tree) (marks : List Mark) → IsIdentifier (acse_id contexts)
     → has_tag tags (first_of tree) ≡ true → is_low (root tree) ≡ true → Reads read tree marks → Reads (types.acse_data tags read) (acse_data contexts tree) (acse_marks contexts marks)
 acse_data-reads tags read contexts tree marks fits has low reads = one_data-reads AcseContext (typed tags read) (acse_id contexts) tree marks fits (typed-reads tags read has low reads)
 

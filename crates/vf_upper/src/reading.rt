@@ -1,4 +1,4 @@
-//! Reading of user data.
+//! Finding of user data.
 ghost use Rattle.std.specs.Prelude.{◌≡◌};
 ghost use Rattle.vf_upper.specs.Conclusions.{Answers};
 ghost use Rattle.vf_upper.specs.Primitives.{is_bare as bare, may_lack as may_be_absent, reading};

@@ -3,10 +3,10 @@ use Rattle.std.proofs.Common.{◌≡◌, ℕ, zero, suc, ◌+◌, ◌<◌, ◌�
 use Rattle.std.specs.Prelude.{nat_lt, take, Ok, Err}
 use Rattle.std.proofs.lemmas.Bool.Decides.{nat_tests}
 use Rattle.std.proofs.lemmas.List.{drop-drop, length-drop, length-take-le}
-use Rattle.vf_ber.specs.Reader.{verdict}
-use Rattle.vf_ber.specs.Verdict.{IsVerdict, Verdict, Read, Short, Bad, Deep, Long}
+use Rattle.vf_ber.specs.Reader.{reading}
+use Rattle.vf_ber.specs.Reading.{IsReading, Reading, Read, Short, Bad, Deep, Long}
 use Rattle.vf_ber.proofs.OneTree.{spelling_long}
-use Rattle.vf_ber.proofs.Plain.{verdict_found}
+use Rattle.vf_ber.proofs.Plain.{reading_found}
 use Rattle.vf_upper_grammar.specs.declared.marks.Stop.{Stop}
 use Rattle.vf_upper_grammar.specs.declared.marks.Stop.TheVariants.{At, NoMemory}
 use Rattle.vf_upper_grammar.specs.CargoViews.{IsNext}
@@ -16,11 +16,11 @@ use Rattle.vf_upper_grammar.specs.Texts.{go_on, some, some_in, then_read}
 use Rattle.vf_upper_grammar.proofs.Readings.{Others}
 
 -- a value takes an octet at least
-abbrev Takes : List ℕ → Verdict → Type 0
+abbrev Takes : List ℕ → Reading → Type 0
 Takes octets (Read tree n) = (0 < n) × (n ≤ length octets)
 Takes octets other = Unit {0}
 
-takes_by : (octets : List ℕ) (v : Verdict) → IsVerdict octets v → Takes octets v
+takes_by : (octets : List ℕ) (v : Reading) → IsReading octets v → Takes octets v
 takes_by octets (Read tree n) (le, (spells, within)) =
     let long = spelling_long (take n octets) tree spells in
     let len = length-take-le n octets le in
@@ -30,8 +30,8 @@ takes_by octets (Bad at) is = tt
 takes_by octets (Deep at) is = tt
 takes_by octets (Long at) is = tt
 
-takes : (octets : List ℕ) → Takes octets (verdict octets)
-takes octets = takes_by octets (verdict octets) (verdict_found octets)
+takes : (octets : List ℕ) → Takes octets (reading octets)
+takes octets = takes_by octets (reading octets) (reading_found octets)
 
 -- equal on shorter octets
 abbrev Agree : ℕ → Others → Others → Type 0
@@ -41,7 +41,7 @@ go-same : (n : ℕ) (f g : Others) → Agree n f g → Agree n (go_on f) (go_on 
 go-same n f g agree at [] found lt = refl
 go-same n f g agree at (octet ∷ octets) found lt = agree at (octet ∷ octets) found lt
 
-then-same : (at : ℕ) (octets : List ℕ) (f g : Others) (found : List Mark) (v : Verdict) → Takes octets v → Agree (length octets) f g
+then-same : (at : ℕ) (octets : List ℕ) (f g : Others) (found : List Mark) (v : Reading) → Takes octets v → Agree (length octets) f g
     → then_read at octets f found v ≡ then_read at octets g found v
 then-same at octets f g found (Read tree n) t agree = let some = t.0 in let few = t.1 in agree (at + n) (drop n octets) _ (omega (arith, length-drop n octets))
 then-same at octets f g found Short t agree = refl
@@ -54,7 +54,7 @@ unfolding some_in
 some-same zero u at octets found a b = absurd (omega arith)
 some-same (suc t) zero at octets found a b = absurd (omega arith)
 some-same (suc t) (suc u) at octets found a b =
-    then-same at octets (go_on (some_in t)) (go_on (some_in u)) found (verdict octets) (takes octets)
+    then-same at octets (go_on (some_in t)) (go_on (some_in u)) found (reading octets) (takes octets)
     (go-same (length octets) (some_in t) (some_in u) (λ p o f lt. some-same t u p o f (omega arith) (omega arith)))
 
 -- the values from a place on
@@ -65,10 +65,10 @@ pub some-at : (octets : List ℕ) (found : List Mark) → some octets found ≡ 
 unfolding some some_at
 some-at octets found = refl
 
-pub some-step : (at : ℕ) (octets : List ℕ) (found : List Mark) → some_at at octets found ≡ then_read at octets (go_on some_at) found (verdict octets)
+pub some-step : (at : ℕ) (octets : List ℕ) (found : List Mark) → some_at at octets found ≡ then_read at octets (go_on some_at) found (reading octets)
 unfolding some_at some_in
 some-step at octets found =
-    then-same at octets (go_on (some_in (length octets))) (go_on some_at) found (verdict octets) (takes octets)
+    then-same at octets (go_on (some_in (length octets))) (go_on some_at) found (reading octets) (takes octets)
     (go-same (length octets) (some_in (length octets)) some_at (λ p o f lt. some-same (length octets) (suc (length o)) p o f (omega arith) (omega arith)))
 
 -- ---- the loop over values

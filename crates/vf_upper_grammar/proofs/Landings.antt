@@ -4,8 +4,8 @@ use Rattle.std.specs.Prelude.{min, nat_eq, Option, None, Some, Ok, Err, if◌the
 use Rattle.std.proofs.lemmas.Bool.{cases_lt}
 use Rattle.std.proofs.lemmas.Bool.Decides.{nat_tests}
 use Rattle.std.proofs.lemmas.List.{length-take}
-use Rattle.vf_ber.specs.Reader.{verdict}
-use Rattle.vf_ber.specs.Verdict.{Verdict, Read, Short, Bad, Deep, Long}
+use Rattle.vf_ber.specs.Reader.{reading}
+use Rattle.vf_ber.specs.Reading.{Reading, Read, Short, Bad, Deep, Long}
 use Rattle.vf_upper_grammar.specs.HeldViews.{broken_at}
 use Rattle.vf_upper_grammar.specs.Marks.{Mark, Found}
 use Rattle.vf_upper_grammar.specs.Parts.{is_constructed, number_of, Part, Text}
@@ -67,7 +67,7 @@ within-if : (b : Bool) (n : ℕ) (x y : List ℕ) → length x ≤ n → length 
 within-if true n x y p q = p
 within-if false n x y p q = q
 
-end-within : (octets : List ℕ) (v : Verdict) → length (without_end octets v) ≤ length octets
+end-within : (octets : List ℕ) (v : Reading) → length (without_end octets v) ≤ length octets
 end-within octets (Read tree n) = within-if (is_begun_end (drop n octets)) (length octets) (take n octets) octets (omega (arith, length-take n octets)) (omega arith)
 end-within octets Short = omega arith
 end-within octets (Bad at) = omega arith
@@ -75,7 +75,7 @@ end-within octets (Deep at) = omega arith
 end-within octets (Long at) = omega arith
 
 pub explicit-within : (text : Text) → length (explicit_in text) ≤ length text.octets
-explicit-within text = within-if text.whole (length text.octets) text.octets (without_end text.octets (verdict text.octets)) (omega arith) (end-within text.octets (verdict text.octets))
+explicit-within text = within-if text.whole (length text.octets) text.octets (without_end text.octets (reading text.octets)) (omega arith) (end-within text.octets (reading text.octets))
 
 pub explicit-place : (text : Text) (o : ℕ) → place_of (explicit_held text) o ≡ text.at + min o (length (explicit_in text))
 explicit-place text o =

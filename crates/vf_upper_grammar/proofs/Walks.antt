@@ -8,11 +8,11 @@ use Rattle.vf_upper_grammar.specs.declared.form.Field.{Field}
 use Rattle.vf_upper_grammar.specs.declared.marks.Stop.{Stop}
 use Rattle.vf_upper_grammar.specs.declared.marks.Stop.TheVariants.{At, NoMemory}
 use Rattle.vf_upper_grammar.specs.Forms as forms
-use Rattle.vf_upper_grammar.specs.Forms.{◌>>=◌, constructed, each, exactly, has_tag, in_order, Reading, sequence, Tags}
+use Rattle.vf_upper_grammar.specs.Forms.{◌>>=◌, constructed, each, exactly, has_tag, in_order, Finding, sequence, Tags}
 use Rattle.vf_upper_grammar.specs.Marks.{Mark, Found}
 use Rattle.vf_upper_grammar.specs.MarkViews.{Gives, Stops}
 use Rattle.vf_upper_grammar.specs.Parts.{closing, ends, is_constructed, next, Part, Parts, parts_by, parts_of, Taken, taken, Text}
-use Rattle.vf_ber.specs.Reader.{verdict}
+use Rattle.vf_ber.specs.Reader.{reading}
 use Rattle.vf_upper_grammar.specs.Rows.{are_below, rank, read_of, tags_of}
 use Rattle.vf_upper_grammar.specs.Texts.{Front, front, typed, typed_by, unless}
 use Rattle.vf_upper_grammar.specs.WalkViews.{fields_of, IsLacking, most, StepsTo, StepStops}
@@ -69,7 +69,7 @@ order-ends carrier skips fields left text marks result e lacks =
 if_found : Bool → Found → Found → Found
 if_found b x y = if b then x else y
 
-pub each-next : (tags : Tags) (read : Reading) (text : Text) (t : Taken) (old new : List Mark) → Some t ≡ taken text → has_tag tags t.part.first ≡ true
+pub each-next : (tags : Tags) (read : Finding) (text : Text) (t : Taken) (old new : List Mark) → Some t ≡ taken text → has_tag tags t.part.first ≡ true
     → read t.part old ≡ Ok new → each (parts_of text) tags read old ≡ each (parts_of t.rest) tags read new
 unfolding if_found
 each-next tags read text t old new e tag good =
@@ -77,7 +77,7 @@ each-next tags read text t old new e tag good =
     ∙ ap (λ b. if_found b (read t.part old >>= each (parts_of t.rest) tags read) (Err t.part.at)) tag
     ∙ then_ok (read t.part old) (each (parts_of t.rest) tags read) new good
 
-pub each-stops : (tags : Tags) (read : Reading) (text : Text) (t : Taken) (old : List Mark) (stop : Stop) → Some t ≡ taken text → has_tag tags t.part.first ≡ true
+pub each-stops : (tags : Tags) (read : Finding) (text : Text) (t : Taken) (old : List Mark) (stop : Stop) → Some t ≡ taken text → has_tag tags t.part.first ≡ true
     → Stops stop (read t.part old) → Stops stop (each (parts_of text) tags read old)
 unfolding if_found
 each-stops tags read text t old stop e tag bad =
@@ -86,14 +86,14 @@ each-stops tags read text t old stop e tag bad =
     ∙ ap (λ b. if_found b (read t.part old >>= each (parts_of t.rest) tags read) (Err t.part.at)) tag)
     (then_stops (read t.part old) (each (parts_of t.rest) tags read) stop bad)
 
-pub each-wrong : (tags : Tags) (read : Reading) (text : Text) (t : Taken) (old : List Mark) → Some t ≡ taken text → has_tag tags t.part.first ≡ false
+pub each-wrong : (tags : Tags) (read : Finding) (text : Text) (t : Taken) (old : List Mark) → Some t ≡ taken text → has_tag tags t.part.first ≡ false
     → each (parts_of text) tags read old ≡ Err t.part.at
 unfolding if_found
 each-wrong tags read text t old e tag =
     ap (λ parts. each parts tags read old) (parts-next text t e)
     ∙ ap (λ b. if_found b (read t.part old >>= each (parts_of t.rest) tags read) (Err t.part.at)) tag
 
-pub each-ends : (tags : Tags) (read : Reading) (text : Text) (found : List Mark) → None ≡ taken text → each (parts_of text) tags read found ≡ Ok found
+pub each-ends : (tags : Tags) (read : Finding) (text : Text) (found : List Mark) → None ≡ taken text → each (parts_of text) tags read found ≡ Ok found
 each-ends tags read text found e = ap (λ parts. each parts tags read found) (parts-none text e)
 
 -- ---- the leading part
@@ -144,7 +144,7 @@ most-below bound (field ∷ fields) e =
 
 -- ---- one value with a tag
 
-pub typed-order : (carrier : SpduKind) (field : Field) (octets : List ℕ) (found : List Mark) (seen : Front) → field.is_required ≡ true → seen ≡ front octets (verdict octets)
+pub typed-order : (carrier : SpduKind) (field : Field) (octets : List ℕ) (found : List Mark) (seen : Front) → field.is_required ≡ true → seen ≡ front octets (reading octets)
     → typed (tags_of field) (read_of carrier field.form) octets found
     ≡ (in_order (parts_of (record { octets = seen.octets; at = 0; whole = seen.whole })) false (fields_of carrier (field ∷ [])) (fields_of carrier (field ∷ [])) found >>= unless seen.fault)
 unfolding typed

@@ -1,8 +1,8 @@
 -- What readings of values answer, in the words of texts.
 use Rattle.std.specs.Prelude.{◌≡◌, ℕ, ◌+◌, ◌≤◌, List, drop, length, take, Result, Ok, Err}
 use Rattle.vf_ber.specs.declared.value.Value.{Value}
-use Rattle.vf_ber.specs.Reader.{verdict}
-use Rattle.vf_ber.specs.Verdict.{Verdict, Read}
+use Rattle.vf_ber.specs.Reader.{reading}
+use Rattle.vf_ber.specs.Reading.{Reading, Read}
 use Rattle.vf_ber.specs.Views.{tree_of}
 use Rattle.vf_upper_grammar.specs.declared.cargo.Front.{Front}
 use Rattle.vf_upper_grammar.specs.declared.marks.Stop.{Stop}
@@ -14,7 +14,7 @@ abbrev pub front_of : List ℕ → Front → texts.Front
 front_of octets front = record { octets = take front.len octets; whole = front.whole; fault = front.fault }
 
 -- so many octets are no value, by a fault at this place
-abbrev pub IsMisread : Verdict → ℕ → ℕ → Type 0
+abbrev pub IsMisread : Reading → ℕ → ℕ → Type 0
 IsMisread (Read tree n) len place = ⊥
 IsMisread other len place = place ≡ texts.fault_in other len
 
@@ -23,12 +23,12 @@ IsSmall n len = (n ≤ len) × (n ≤ 1048576)
 
 -- a value and its length, or the fault
 abbrev pub IsValueIn : List ℕ → Result (Value × ℕ) Stop → Type 0
-IsValueIn octets (Ok x) = (verdict octets ≡ Read (tree_of x.0) x.1) × IsSmall x.1 (length octets) × (1 ≤ x.1)
-IsValueIn octets (Err (At place)) = IsMisread (verdict octets) (length octets) place × IsSmall place (length octets)
+IsValueIn octets (Ok x) = (reading octets ≡ Read (tree_of x.0) x.1) × IsSmall x.1 (length octets) × (1 ≤ x.1)
+IsValueIn octets (Err (At place)) = IsMisread (reading octets) (length octets) place × IsSmall place (length octets)
 IsValueIn octets (Err NoMemory) = Unit {0}
 
 -- what is found behind a first value, or the fault
 abbrev pub IsNext : ℕ → List ℕ → List Mark → Result ℕ Stop → List Mark → Type 0
-IsNext at octets old (Ok n) new = (others : ℕ → List ℕ → List Mark → Found) → texts.then_read at octets others old (verdict octets) ≡ others (at + n) (drop n octets) new
-IsNext at octets old (Err (At place)) new = (others : ℕ → List ℕ → List Mark → Found) → texts.then_read at octets others old (verdict octets) ≡ Err place
+IsNext at octets old (Ok n) new = (others : ℕ → List ℕ → List Mark → Found) → texts.then_read at octets others old (reading octets) ≡ others (at + n) (drop n octets) new
+IsNext at octets old (Err (At place)) new = (others : ℕ → List ℕ → List Mark → Found) → texts.then_read at octets others old (reading octets) ≡ Err place
 IsNext at octets old (Err NoMemory) new = Unit {0}

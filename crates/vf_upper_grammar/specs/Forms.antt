@@ -11,8 +11,8 @@ use Rattle.vf_upper_grammar.specs.declared.labels.NumberLabel.{NumberLabel}
 use Rattle.vf_upper_grammar.specs.Marks.{Mark, number, name, Found}
 use Rattle.vf_upper_grammar.specs.Parts.{class_of, is_constructed, number_of, Part, Parts, ends, next, parts_of}
 
-abbrev pub Reading : Type 0
-Reading = Part → List Mark → Found
+abbrev pub Finding : Type 0
+Finding = Part → List Mark → Found
 
 infixl 10 ◌>>=◌
 abbrev pub ◌>>=◌ : Found → (List Mark → Found) → Found
@@ -32,7 +32,7 @@ found_number only label at found None = Err at
 found_number only label at found (Some n) = if is_allowed only n then Ok (found ++ number label n ∷ []) else Err at
 
 -- INTEGER of at most eight octets
-abbrev pub integer : Option ℕ → NumberLabel → Reading
+abbrev pub integer : Option ℕ → NumberLabel → Finding
 integer only label part found =
     if is_constructed part.first then Err part.at
     else (if part.contents.whole then found_number only label part.at found (integer_at part.contents.octets) else Ok found)
@@ -49,12 +49,12 @@ found_name only label at found None = Err at
 found_name only label at found (Some arcs) = if is_allowed_name only arcs then Ok (found ++ name label arcs ∷ []) else Err at
 
 -- OBJECT IDENTIFIER within this profile's limits
-abbrev pub object_identifier : Option (List ℕ) → NameLabel → Reading
+abbrev pub object_identifier : Option (List ℕ) → NameLabel → Finding
 object_identifier only label part found =
     if is_constructed part.first then Err part.at
     else (if part.contents.whole then found_name only label part.at found (option_and_then oid_with (arcs_at part.contents.octets)) else Ok found)
 
-abbrev pub anything : Reading
+abbrev pub anything : Finding
 anything part found = Ok found
 
 -- ---- constructed types
@@ -72,7 +72,7 @@ has_tag tags first = nat_eq (class_of first) tags.class && nat_le tags.from (num
 pub record Field : Type 0 where
   pub tags : Tags
   pub is_required : Bool
-  pub read : Reading
+  pub read : Finding
 
 abbrev pub is_known : List Field → ℕ → Bool
 is_known fields first = list_any (λ field. has_tag field.tags first) fields
@@ -107,23 +107,23 @@ abbrev pub in_order : Parts → Bool → List Field → Walk
 in_order (ends place) skips fields left found = lacking (list_any (λ field. field.is_required) left) place found
 in_order (next part parts) skips fields left found = step skips fields part (in_order parts skips fields) left found (due part.first left)
 
-abbrev pub constructed : (Parts → List Mark → Found) → Reading
+abbrev pub constructed : (Parts → List Mark → Found) → Finding
 constructed read part found = if is_constructed part.first then read (parts_of part.contents) found else Err part.at
 
 -- SEQUENCE, of which other fields are skipped
-abbrev pub sequence : List Field → Reading
+abbrev pub sequence : List Field → Finding
 sequence fields = constructed (λ parts. in_order parts true fields fields)
 
 -- exactly these parts: a SEQUENCE without other fields, or what stands within an explicit tag
-abbrev pub exactly : List Field → Reading
+abbrev pub exactly : List Field → Finding
 exactly fields = constructed (λ parts. in_order parts false fields fields)
 
 -- SEQUENCE OF
-abbrev pub each : Parts → Tags → Reading → List Mark → Found
+abbrev pub each : Parts → Tags → Finding → List Mark → Found
 each (ends place) tags read found = Ok found
 each (next part parts) tags read found = if has_tag tags part.first then read part found >>= each parts tags read else Err part.at
 
-abbrev pub sequence_of : Tags → Reading → Reading
+abbrev pub sequence_of : Tags → Finding → Finding
 sequence_of tags read = constructed (λ parts. each parts tags read)
 
 -- the first part that is one of the fields
@@ -140,5 +140,5 @@ abbrev pub ordered : Field → Field → Parts → List Field
 ordered one other parts = if leads other.tags (leading (one ∷ other ∷ []) parts) then other ∷ one ∷ [] else one ∷ other ∷ []
 
 -- SET of two fields, in either order; other fields are skipped
-abbrev pub set : Field → Field → Reading
+abbrev pub set : Field → Field → Finding
 set one other = constructed (λ parts. in_order parts true (ordered one other parts) (ordered one other parts))

@@ -50,7 +50,7 @@ apdu_type FN = types.Release
 apdu_type DN = types.Release
 apdu_type kind = types.Abrt
 
-abbrev pub apdu_in : SpduKind → grammar.Reading
+abbrev pub apdu_in : SpduKind → grammar.Finding
 apdu_in CN = aarq
 apdu_in AC = aare 0
 apdu_in RF = aare 1
@@ -60,7 +60,7 @@ apdu_in kind = abrt
 
 -- ---- names and types
 
-abbrev pub type_of : SpduKind → TypeName → grammar.Reading
+abbrev pub type_of : SpduKind → TypeName → grammar.Finding
 type_of kind types.Mode = mode_selector
 type_of kind types.Parameters = grammar.sequence (
     required (context 4) (grammar.sequence_of (universal 16) proposal) ∷
@@ -108,11 +108,11 @@ skips types.Release = true
 skips types.Abrt = true
 skips kind = false
 
-abbrev pub pair_of : SpduKind → Pair → grammar.Reading
+abbrev pub pair_of : SpduKind → Pair → grammar.Finding
 pair_of kind pairs.Cp = grammar.set (required (context 0) mode_selector) (required (context 2) (type_of kind types.Parameters))
 pair_of kind pairs.Cpa = grammar.set (required (context 0) mode_selector) (required (context 2) (type_of kind types.Response))
 
-abbrev pub cargo_read : SpduKind → Cargo → grammar.Reading
+abbrev pub cargo_read : SpduKind → Cargo → grammar.Finding
 cargo_read kind cargos.One = carried one
 cargo_read kind cargos.Some = carried_data
 cargo_read kind cargos.Apdu = carried (typed (apdu_tags kind) (apdu_in kind))
@@ -123,13 +123,13 @@ cargo_within kind cargos.One number = one
 cargo_within kind cargos.Some number = if nat_eq number 0 then one else some
 cargo_within kind cargos.Apdu number = typed (apdu_tags kind) (apdu_in kind)
 
-abbrev pub listing_of : Listing → grammar.Reading
+abbrev pub listing_of : Listing → grammar.Finding
 listing_of listings.Proposals = grammar.sequence_of (universal 16) proposal
 listing_of listings.Transfers = transfer_syntaxes
 listing_of listings.Outcomes = grammar.sequence_of (universal 16) outcome
 listing_of listings.Data = all_data
 
-abbrev pub read_of : SpduKind → Form → grammar.Reading
+abbrev pub read_of : SpduKind → Form → grammar.Finding
 read_of kind (forms.Number only label) = grammar.integer only label
 read_of kind forms.AareResult = fixed (result_in kind)
 read_of kind forms.PduContext = grammar.integer None (label_in kind)
@@ -149,7 +149,7 @@ abbrev pub field_of : SpduKind → Field → grammar.Field
 field_of kind field = record { tags = tags_of field; is_required = field.is_required; read = read_of kind field.form }
 
 -- a type by its fields
-abbrev pub fields_read : TypeName → List grammar.Field → grammar.Reading
+abbrev pub fields_read : TypeName → List grammar.Field → grammar.Finding
 fields_read name fields = if skips name then grammar.sequence fields else grammar.exactly fields
 
 -- ---- what the user data of each SPDU is

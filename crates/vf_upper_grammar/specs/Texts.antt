@@ -1,8 +1,8 @@
 -- Octets that are read as values: user data, and what stands within the [0] or [1] of a PDV-list or an EXTERNAL.
 use Rattle.std.specs.Prelude.{ℕ, zero, suc, ◌+◌, Bool, true, false, nat_eq, nat_lt, List, [], ◌∷◌, ◌++◌, length, take, drop, get_or, Option, None, Some, Ok, Err, if◌then◌else◌}
-use Rattle.vf_ber.specs.Reader.{verdict}
-use Rattle.vf_ber.specs.Verdict.{Verdict, Read, Short, Bad, Deep, Long}
-use Rattle.vf_upper_grammar.specs.Forms.{◌>>=◌, Reading, Tags, in_order}
+use Rattle.vf_ber.specs.Reader.{reading}
+use Rattle.vf_ber.specs.Reading.{Reading, Read, Short, Bad, Deep, Long}
+use Rattle.vf_upper_grammar.specs.Forms.{◌>>=◌, Finding, Tags, in_order}
 use Rattle.vf_upper_grammar.specs.Marks.{Mark, value, Found}
 use Rattle.vf_upper_grammar.specs.Parts.{is_constructed, number_of, header_at, parts_of, Header, Part, Text, Taken, taken, place_in}
 
@@ -12,7 +12,7 @@ abbrev pub Cargo : Type 0
 Cargo = List ℕ → List Mark → Found
 
 -- where octets are no value: the place of the fault
-abbrev pub fault_in : Verdict → ℕ → ℕ
+abbrev pub fault_in : Reading → ℕ → ℕ
 fault_in (Read tree n) len = n
 fault_in Short len = len
 fault_in (Bad at) len = at
@@ -32,7 +32,7 @@ behind n len = if nat_eq n len then None else Some n
 abbrev pub cut_at : ℕ → List ℕ → Front
 cut_at place octets = record { octets = take place octets; whole = false; fault = Some place }
 
-abbrev pub front : List ℕ → Verdict → Front
+abbrev pub front : List ℕ → Reading → Front
 front octets (Read tree n) = record { octets = take n octets; whole = true; fault = behind n (length octets) }
 front octets other = cut_at (fault_in other (length octets)) octets
 
@@ -41,17 +41,17 @@ unless None found = Ok found
 unless (Some place) found = Err place
 
 -- One value with this tag, read so. Faults of its parts come in front of the octet at which it is no value.
-abbrev pub typed_by : Tags → Reading → Front → List Mark → Found
+abbrev pub typed_by : Tags → Finding → Front → List Mark → Found
 typed_by tags read front found =
     in_order (parts_of (record { octets = front.octets; at = 0; whole = front.whole })) false
     (record { tags = tags; is_required = true; read = read } ∷ []) (record { tags = tags; is_required = true; read = read } ∷ []) found
     >>= unless front.fault
 
-unfoldable pub typed : Tags → Reading → Cargo
-typed tags read octets found = typed_by tags read (front octets (verdict octets)) found
+unfoldable pub typed : Tags → Finding → Cargo
+typed tags read octets found = typed_by tags read (front octets (reading octets)) found
 
 -- a value and what is found behind it
-abbrev pub then_read : ℕ → List ℕ → (ℕ → List ℕ → List Mark → Found) → List Mark → Verdict → Found
+abbrev pub then_read : ℕ → List ℕ → (ℕ → List ℕ → List Mark → Found) → List Mark → Reading → Found
 then_read at octets others found (Read tree n) = others (at + n) (drop n octets) (found ++ value tree ∷ [])
 then_read at octets others found other = Err (at + fault_in other (length octets))
 
@@ -62,7 +62,7 @@ nothing at (octet ∷ octets) found = Err at
 
 -- one value, whatever it is
 unfoldable pub one : Cargo
-one octets found = then_read 0 octets nothing found (verdict octets)
+one octets found = then_read 0 octets nothing found (reading octets)
 
 abbrev pub go_on : (ℕ → List ℕ → List Mark → Found) → ℕ → List ℕ → List Mark → Found
 go_on others at [] found = Ok found
@@ -71,7 +71,7 @@ go_on others at (octet ∷ octets) found = others at (octet ∷ octets) found
 -- values in turn, of which the first begins at this place; turns bound their number
 unfoldable pub some_in : ℕ → ℕ → List ℕ → List Mark → Found
 some_in zero at octets found = Err at
-some_in (suc turns) at octets found = then_read at octets (go_on (some_in turns)) found (verdict octets)
+some_in (suc turns) at octets found = then_read at octets (go_on (some_in turns)) found (reading octets)
 
 -- one value or more
 unfoldable pub some : Cargo
@@ -140,13 +140,13 @@ is_begun_end (first ∷ []) = nat_eq first 0
 is_begun_end (first ∷ other ∷ octets) = false
 
 -- octets without the begun end behind a value
-abbrev pub without_end : List ℕ → Verdict → List ℕ
+abbrev pub without_end : List ℕ → Reading → List ℕ
 without_end octets (Read tree n) = if is_begun_end (drop n octets) then take n octets else octets
 without_end octets other = octets
 
 -- Contents of an explicit tag. A begun end behind their value isn't of them, where they are cut off.
 abbrev pub explicit_in : Text → List ℕ
-explicit_in text = if text.whole then text.octets else without_end text.octets (verdict text.octets)
+explicit_in text = if text.whole then text.octets else without_end text.octets (reading text.octets)
 
 abbrev pub explicit_held : Text → Held
 explicit_held text = held_in (record { octets = explicit_in text; at = text.at; whole = text.whole }) (text.at + length (explicit_in text))
@@ -172,9 +172,9 @@ abbrev pub carried_by : Cargo → ℕ → List Mark → Option Held → Found
 carried_by cargo at found None = Err at
 carried_by cargo at found (Some held) = landed held (cargo held.octets found)
 
-abbrev pub carried : Cargo → Reading
+abbrev pub carried : Cargo → Finding
 carried cargo part found = carried_by cargo part.at found (held part)
 
 -- one value in [0], one or more in [1]
-abbrev pub carried_data : Reading
+abbrev pub carried_data : Finding
 carried_data part found = if nat_eq (number_of part.first) 0 then carried one part found else carried some part found

@@ -6,7 +6,7 @@ use Rattle.vf_base.specs.declared.spdu_kind.SpduKind.TheVariants.{CN, AC, RF, FN
 use Rattle.vf_upper_grammar.specs.declared.labels.NameLabel.TheVariants.{Stated, Abstract, Transfer, Application}
 use Rattle.vf_upper_grammar.specs.declared.labels.NumberLabel.{NumberLabel}
 use Rattle.vf_upper_grammar.specs.declared.labels.NumberLabel.TheVariants.{Fixed, Proposal, Outcome, AcseContext, PciContext, AnyContext}
-use Rattle.vf_upper_grammar.specs.Forms.{anything, constructed, exactly, Field, in_order, integer, leading, object_identifier, Reading, sequence, sequence_of, set, Tags}
+use Rattle.vf_upper_grammar.specs.Forms.{anything, constructed, exactly, Field, in_order, integer, leading, object_identifier, Finding, sequence, sequence_of, set, Tags}
 use Rattle.vf_upper_grammar.specs.Marks.{Found}
 use Rattle.vf_upper_grammar.specs.Parts.{is_constructed, Part, Parts}
 use Rattle.vf_upper_grammar.specs.Syntaxes.{ber}
@@ -25,58 +25,58 @@ context number = record { class = 2; from = number; to = number }
 abbrev pub zero_or_one : Tags
 zero_or_one = record { class = 2; from = 0; to = 1 }
 
-abbrev pub required : Tags → Reading → Field
+abbrev pub required : Tags → Finding → Field
 required tags read = record { tags = tags; is_required = true; read = read }
 
-abbrev pub optional : Tags → Reading → Field
+abbrev pub optional : Tags → Finding → Field
 optional tags read = record { tags = tags; is_required = false; read = read }
 
 -- an explicit tag, which holds one value
-abbrev pub explicit : Tags → Reading → Reading
+abbrev pub explicit : Tags → Finding → Finding
 explicit tags read = exactly (required tags read ∷ [])
 
 -- ---- values in contexts
 
 -- PDV-list: a transfer syntax, a context, and what stands in [0], one value, or in [1], octets with values
-abbrev pub pdv_list : NumberLabel → Reading → Reading
+abbrev pub pdv_list : NumberLabel → Finding → Finding
 pdv_list label read = exactly (
     optional (universal 6) (object_identifier None Stated) ∷
     required (universal 2) (integer None label) ∷
     required zero_or_one read ∷ [])
 
 -- user data: fully encoded, any number of PDV-lists
-abbrev pub all_data : Reading
+abbrev pub all_data : Finding
 all_data = sequence_of (universal 16) (pdv_list AnyContext carried_data)
 
 -- the same with one PDV-list and one value
-abbrev pub one_data : NumberLabel → Cargo → Reading
+abbrev pub one_data : NumberLabel → Cargo → Finding
 one_data label cargo = exactly (required (universal 16) (pdv_list label (carried cargo)) ∷ [])
 
 -- EXTERNAL: a value by the context that it stands in
-abbrev pub external : NumberLabel → Reading
+abbrev pub external : NumberLabel → Finding
 external label = exactly (
     required (universal 2) (integer None label) ∷
     required zero_or_one (carried one) ∷ [])
 
 -- user information: one EXTERNAL, the PDU
-abbrev pub user_information : NumberLabel → Reading
+abbrev pub user_information : NumberLabel → Finding
 user_information label = exactly (required (universal 8) (external label) ∷ [])
 
 -- ---- ACSE
 
-abbrev pub application_context_name : Reading
+abbrev pub application_context_name : Finding
 application_context_name = explicit (universal 6) (object_identifier None Application)
 
-abbrev pub fixed : ℕ → Reading
+abbrev pub fixed : ℕ → Finding
 fixed number = integer (Some number) Fixed
 
-abbrev pub aarq : Reading
+abbrev pub aarq : Finding
 aarq = sequence (
     required (context 1) application_context_name ∷
     required (context 30) (user_information PciContext) ∷ [])
 
 -- the result: accepted 0, rejected 1; the source of its diagnostic: the ACSE user, with no reason
-abbrev pub aare : ℕ → Reading
+abbrev pub aare : ℕ → Finding
 aare result = sequence (
     required (context 1) application_context_name ∷
     required (context 2) (explicit (universal 2) (fixed result)) ∷
@@ -84,30 +84,30 @@ aare result = sequence (
     required (context 30) (user_information PciContext) ∷ [])
 
 -- RLRQ and RLRE
-abbrev pub release : Reading
+abbrev pub release : Finding
 release = sequence (required (context 30) (user_information AnyContext) ∷ [])
 
 -- the source: the ACSE user
-abbrev pub abrt : Reading
+abbrev pub abrt : Finding
 abrt = sequence (
     required (context 0) (fixed 0) ∷
     required (context 30) (user_information AnyContext) ∷ [])
 
 -- user data with an ACSE value
-abbrev pub acse_data : Tags → Reading → Reading
+abbrev pub acse_data : Tags → Finding → Finding
 acse_data tags read = one_data AcseContext (typed tags read)
 
 -- ---- presentation
 
 -- normal mode
-abbrev pub mode_selector : Reading
+abbrev pub mode_selector : Finding
 mode_selector = sequence (required (context 0) (fixed 1) ∷ [])
 
-abbrev pub transfer_syntaxes : Reading
+abbrev pub transfer_syntaxes : Finding
 transfer_syntaxes = sequence_of (universal 6) (object_identifier None Transfer)
 
 -- an entry of the context definition list
-abbrev pub proposal : Reading
+abbrev pub proposal : Finding
 proposal = exactly (
     required (universal 2) (integer None Proposal) ∷
     required (universal 6) (object_identifier None Abstract) ∷
@@ -135,15 +135,15 @@ refuses (Some part) = if is_constructed part.first then false else is_two part.c
 abbrev pub outcome_fields : Parts → List Field
 outcome_fields parts = if refuses (leading refused_outcome parts) then refused_outcome else accepted_outcome
 
-abbrev pub outcome : Reading
+abbrev pub outcome : Finding
 outcome = constructed (λ parts. in_order parts true (outcome_fields parts) (outcome_fields parts))
 
-abbrev pub cp_parameters : Reading
+abbrev pub cp_parameters : Finding
 cp_parameters = sequence (
     required (context 4) (sequence_of (universal 16) proposal) ∷
     required (application 1) (acse_data (application 0) aarq) ∷ [])
 
-abbrev pub cp : Reading
+abbrev pub cp : Finding
 cp = set (required (context 0) mode_selector) (required (context 2) cp_parameters)
 
 -- the fields of a CPR, and of the parameters of a CPA
@@ -152,17 +152,17 @@ response result =
     required (context 5) (sequence_of (universal 16) outcome) ∷
     required (application 1) (acse_data (application 1) (aare result)) ∷ []
 
-abbrev pub cpa : Reading
+abbrev pub cpa : Finding
 cpa = set (required (context 0) mode_selector) (required (context 2) (sequence (response 0)))
 
-abbrev pub cpr : Reading
+abbrev pub cpr : Finding
 cpr = sequence (response 1)
 
-abbrev pub aru : Reading
+abbrev pub aru : Finding
 aru = sequence (required (application 1) (acse_data (application 4) abrt) ∷ [])
 
 -- RS and RSA: a list of contexts that nobody uses here, and one PDU
-abbrev pub resynchronization : Reading
+abbrev pub resynchronization : Finding
 resynchronization = sequence (
     optional (context 0) anything ∷
     required (application 1) (one_data AnyContext one) ∷ [])

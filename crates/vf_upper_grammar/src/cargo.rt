@@ -1,6 +1,6 @@
 //! Octets that are read as values. Places are offsets in them.
 ghost use Rattle.std.specs.Prelude.{◌≡◌, ◌+◌, ◌<◌, ◌≤◌, ◌^◌, IfOk, drop, length};
-ghost use Rattle.vf_ber.specs.Reader.{verdict};
+ghost use Rattle.vf_ber.specs.Reader.{reading};
 ghost use Rattle.vf_ber.specs.Results.{IsAnswer};
 ghost use Rattle.vf_upper_grammar.specs.HeldViews.{octets_of};
 ghost use Rattle.vf_upper_grammar.specs.MarkViews.{Gives, marks_of};
@@ -58,7 +58,7 @@ fn value_at(alloc: Global, held: &Held<'_>, at: usize) -> Result<(Value, usize),
 
 /// What is seen of octets that are to be one value.
 pub(crate) fn seen(alloc: Global, octets: &[u8]) -> Result<Front, NoMemory>
-    ensures front { IfOk result (λ front. front_of octets.now front ≡ front_by octets.now (verdict octets.now)) }
+    ensures front { IfOk result (λ front. front_of octets.now front ≡ front_by octets.now (reading octets.now)) }
     ensures within { IfOk result (λ front. front.len ≤ length octets.now) }
     ensures small { IfOk result (λ front. front.len ≤ 1048576) }
 {

@@ -1,4 +1,4 @@
-//! Reading of user data.
+//! Finding of user data.
 ghost use Rattle.std.specs.Prelude.{◌≡◌, []};
 ghost use Rattle.vf_upper_grammar.specs.MarkViews.{Gives, marks_of};
 ghost use Rattle.vf_upper_grammar.specs.Types.{cargo_of, found_in};

@@ -1,7 +1,7 @@
 use Rattle.std.proofs.Common.{◌≡◌, ℕ, ◌+◌, ◌<◌, ◌%◌, List, [], ◌∷◌, length, refl, ap, sym, subst, ◌∙◌, arith, inl, inr}
 use Rattle.vf_ber.specs.declared.fault.Fault.TheVariants as faults
 use Rattle.vf_ber.specs.Steps.{Names, Failed, first_fits, second_fits}
-use Rattle.vf_ber.specs.Verdict.{free, bounded}
+use Rattle.vf_ber.specs.Reading.{free, bounded}
 use Rattle.vf_ber.proofs.Chains.{test_failed, through}
 use Rattle.vf_ber.proofs.NameSteps.{first_parts, first_tells, second_tells, third_rules, first_short, second_short}
 use Rattle.vf_ber.proofs.header.name_of.Goals as goal

@@ -2,7 +2,7 @@ use Rattle.std.proofs.Common.{ℕ, ◌-◌, List, [], length, refl, ap, sym, sub
 use Rattle.std.specs.Prelude.{Some}
 use Rattle.vf_ber.specs.declared.fault.Fault.TheVariants as faults
 use Rattle.vf_ber.specs.Steps.{Sizes, Failed, Got, length_fits}
-use Rattle.vf_ber.specs.Verdict.{bounded}
+use Rattle.vf_ber.specs.Reading.{bounded}
 use Rattle.vf_ber.proofs.Chains.{test_failed, through}
 use Rattle.vf_ber.proofs.Digits.{grown_few}
 use Rattle.vf_ber.proofs.SizeSteps.{length_tells, sizes_some, got_short, got_long, long_failed, long_parts}

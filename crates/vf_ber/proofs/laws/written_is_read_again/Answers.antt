@@ -1,4 +1,4 @@
-use Rattle.vf_ber.proofs.Verdicts.{read_again}
+use Rattle.vf_ber.proofs.Readings.{read_again}
 use Rattle.vf_ber.proofs.laws.written_is_read_again.Goals as goal
 
 pub returns : goal.returns

@@ -4,7 +4,7 @@ use Rattle.std.proofs.lemmas.Result.{IfOk-weaker, IfErr-weaker}
 use Rattle.vf_ber.specs.declared.room.Room.{Room}
 use Rattle.vf_ber.specs.declared.room.Room.TheVariants.{Exact}
 use Rattle.vf_ber.specs.Steps.{Contents, Ended, Ends, Failed, Got, less as less_of, Names, size_fits, Sizes, Values as ValuesIn}
-use Rattle.vf_ber.specs.Verdict.{bounded}
+use Rattle.vf_ber.specs.Reading.{bounded}
 use Rattle.vf_ber.specs.Views.{name_of as said, tag_of, tree_of}
 use Rattle.vf_ber.proofs.Chains.{through}
 use Rattle.vf_ber.proofs.Kept.{ends_behind}

@@ -1,6 +1,6 @@
 use Rattle.std.proofs.Common.{◌≡◌, true, false, arith}
 use Rattle.vf_ber.specs.Steps.{first_fits}
-use Rattle.vf_ber.specs.Verdict.{bounded}
+use Rattle.vf_ber.specs.Reading.{bounded}
 use Rattle.vf_ber_scan.specs.Frames.{depth_in, room_in}
 use Rattle.vf_ber_scan.proofs.StepLemmas.{first_none, first_short, first_long}
 use Rattle.vf_ber_scan.proofs.step.behind_first.Goals as goal

@@ -1,5 +1,5 @@
 use Rattle.std.proofs.Common.{sym, []}
-use Rattle.vf_ber_scan.proofs.VerdictLemmas.{fault_unread, read_small, whole_read}
+use Rattle.vf_ber_scan.proofs.ReadingLemmas.{fault_unread, read_small, whole_read}
 use Rattle.vf_ber_scan.proofs.whole.whole_in.Goals as goal
 
 pub returns-then-end-clause-value : goal.returns-then-end-clause-value

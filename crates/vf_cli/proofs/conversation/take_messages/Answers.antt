@@ -1,5 +1,5 @@
 use Rattle.std.proofs.Common.{◌≡◌, ◌+◌, ◌<◌, ◌≤◌, ◌++◌, List, ℕ, Ok, drop, length, ap, sym, subst, ◌∙◌, append_assoc, arith, refl}
-use Rattle.vf_ber.specs.Reader.{verdict}
+use Rattle.vf_ber.specs.Reader.{reading}
 use Rattle.vf_elements.specs.declared.message.Message.{Message}
 use Rattle.vf_elements.specs.declared.message.Said.TheVariants as answers
 use Rattle.vf_regime.specs.declared.party.Party.{Party}
@@ -17,10 +17,10 @@ use Rattle.vf_cli.proofs.TakenLemmas.{takes_fault, takes_message, with_tables-sa
 use Rattle.vf_cli.proofs.conversation.take_messages.Goals as goal
 
 -- what stands in front of the octets from a place on
-found_at : (octets rest : List ℕ) (at : ℕ) (found is : Front) → rest ≡ drop at octets → found ≡ is → IsFront (verdict rest) (Ok found)
-    → IsFront (verdict (drop at octets)) (Ok is)
+found_at : (octets rest : List ℕ) (at : ℕ) (found is : Front) → rest ≡ drop at octets → found ≡ is → IsFront (reading rest) (Ok found)
+    → IsFront (reading (drop at octets)) (Ok is)
 found_at octets rest at found is behind same front =
-    subst (λ l. IsFront (verdict l) (Ok is)) behind (subst (λ (f : Front). IsFront (verdict rest) (Ok f)) same front)
+    subst (λ l. IsFront (reading l) (Ok is)) behind (subst (λ (f : Front). IsFront (reading rest) (Ok f)) same front)
 
 within_rest : (rest octets : List ℕ) (at n : ℕ) (message : Message) (found : Front) → length rest + at ≡ length octets → found ≡ front.Heard message n
     → Advances rest (Ok found) → (0 < n) × (at + n ≤ length octets)

@@ -1,30 +1,30 @@
 use Rattle.std.proofs.Common.{◌≡◌, ℕ, List, Ok, Err, refl, sym, subst}
 use Rattle.vf_ber.specs.declared.errors.BerError.{BerError}
 use Rattle.vf_ber.specs.declared.errors.BerError.TheVariants as ber
-use Rattle.vf_ber.specs.Reader.{verdict}
+use Rattle.vf_ber.specs.Reader.{reading}
 use Rattle.vf_ber.specs.Results.{IsAnswer}
-use Rattle.vf_ber.specs.Verdict.{Verdict, Short, Bad, Deep, Long, Read, IsVerdict}
+use Rattle.vf_ber.specs.Reading.{Reading, Short, Bad, Deep, Long, Read, IsReading}
 use Rattle.vf_ber.specs.Views.{tree_of}
 use Rattle.vf_cli.specs.declared.message.Front.{Front}
 use Rattle.vf_cli.specs.declared.message.Front.TheVariants as front
 use Rattle.vf_cli.specs.Conversation.{IsFront}
-use Rattle.vf_cli.proofs.ReadingLemmas.{verdict_is}
+use Rattle.vf_cli.proofs.ReadingLemmas.{reading_is}
 use Rattle.vf_cli.proofs.message.front_of.Goals as goal
 
--- what stands in front, by the verdict
-by_verdict : (octets : List ℕ) (v : Verdict) (found : Front) → IsVerdict octets v → IsFront v (Ok found) → IsFront (verdict octets) (Ok found)
-by_verdict octets v found is stands = subst (λ (x : Verdict). IsFront x (Ok found)) (sym (verdict_is octets v is)) stands
+-- what stands in front, by the reading
+by_reading : (octets : List ℕ) (v : Reading) (found : Front) → IsReading octets v → IsFront v (Ok found) → IsFront (reading octets) (Ok found)
+by_reading octets v found is stands = subst (λ (x : Reading). IsFront x (Ok found)) (sym (reading_is octets v is)) stands
 
 answered : (octets : List ℕ) (error other : BerError) → error ≡ other → IsAnswer (Err error) octets → IsAnswer (Err other) octets
 answered octets error other same is = subst (λ (e : BerError). IsAnswer (Err e) octets) same is
 
-fault_at : (octets : List ℕ) (v : Verdict) (at : ℕ) (found : Front) → found ≡ front.Fault at → IsVerdict octets v → IsFront v (Ok (front.Fault at)) → IsFront (verdict octets) (Ok found)
-fault_at octets v at found same is stands = subst (λ (f : Front). IsFront (verdict octets) (Ok f)) (sym same) (by_verdict octets v (front.Fault at) is stands)
+fault_at : (octets : List ℕ) (v : Reading) (at : ℕ) (found : Front) → found ≡ front.Fault at → IsReading octets v → IsFront v (Ok (front.Fault at)) → IsFront (reading octets) (Ok found)
+fault_at octets v at found same is stands = subst (λ (f : Front). IsFront (reading octets) (Ok f)) (sym same) (by_reading octets v (front.Fault at) is stands)
 
 pub returns-in-Err-Short-clause-front : goal.returns-in-Err-Short-clause-front
 returns-in-Err-Short-clause-front c =
     let same : c.in-Err-Short.field-0 ≡ ber.Short = cc in
-    verdict_is c.args.octets.now Short (answered c.args.octets.now _ _ same c.in-Err-Short.ensures)
+    reading_is c.args.octets.now Short (answered c.args.octets.now _ _ same c.in-Err-Short.ensures)
 
 pub returns-in-Err-Bad-clause-front : goal.returns-in-Err-Bad-clause-front
 returns-in-Err-Bad-clause-front c =
@@ -46,4 +46,4 @@ returns-in-Err-Long-clause-front c =
 
 pub returns-clause-front : goal.returns-clause-front
 returns-clause-front c =
-    by_verdict c.args.octets.now (Read (tree_of c.in-Ok.read.0) c.in-Ok.read.1) c.in_ok-front.front c.in-Ok.ensures c.in_ok-front.ensures
+    by_reading c.args.octets.now (Read (tree_of c.in-Ok.read.0) c.in-Ok.read.1) c.in_ok-front.front c.in-Ok.ensures c.in_ok-front.ensures

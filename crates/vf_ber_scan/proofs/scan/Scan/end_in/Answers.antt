@@ -1,7 +1,7 @@
 use Rattle.std.proofs.Common.{arith, subst, take, ◌++◌}
 use Rattle.vf_ber_scan.specs.declared.place.Next.{Next}
 use Rattle.vf_ber_scan.specs.Outlook.{outlook_at, Leads}
-use Rattle.vf_ber_scan.proofs.VerdictLemmas.{fed_ended, fed_more, new_ahead, new_short}
+use Rattle.vf_ber_scan.proofs.ReadingLemmas.{fed_ended, fed_more, new_ahead, new_short}
 use Rattle.vf_ber_scan.proofs.scan.Scan.end_in.Goals as goal
 
 pub returns-in-Ended-clause-ended : goal.returns-in-Ended-clause-ended

@@ -1,5 +1,5 @@
 use Rattle.std.proofs.Common.{◌≤◌, ◌-◌, length}
-use Rattle.vf_ber_scan.proofs.VerdictLemmas.{Fed}
+use Rattle.vf_ber_scan.proofs.ReadingLemmas.{Fed}
 use Rattle.vf_ber_scan.proofs.scan.Scan.end_in.Given as goal
 
 abbrev pub invariant-loop-taken : goal.invariant-loop-taken

@@ -1,4 +1,4 @@
-use Rattle.vf_ber_scan.proofs.VerdictLemmas.{new_ahead, new_short}
+use Rattle.vf_ber_scan.proofs.ReadingLemmas.{new_ahead, new_short}
 use Rattle.vf_ber_scan.proofs.scan.Scan.new.Goals as goal
 
 pub returns : goal.returns

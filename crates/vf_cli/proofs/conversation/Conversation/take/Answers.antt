@@ -2,8 +2,8 @@ use Rattle.std.proofs.Common.{◌≡◌, ◌++◌, List, ℕ, [], Option, None, 
 use Rattle.std.specs.Prelude.{not}
 use Rattle.vf_regime.specs.declared.party.Party.{Party}
 use Rattle.vf_files.specs.declared.tables.Tables.{Tables}
-use Rattle.vf_ber.specs.Reader.{verdict}
-use Rattle.vf_ber.specs.Verdict.{Short}
+use Rattle.vf_ber.specs.Reader.{reading}
+use Rattle.vf_ber.specs.Reading.{Short}
 use Rattle.vf_regime.specs.State.{State}
 use Rattle.vf_cli.specs.declared.conversation.After.{After}
 use Rattle.vf_cli.specs.declared.conversation.After.TheVariants as after
@@ -69,7 +69,7 @@ returns-in-Goes c = λ state holds.
     let rest = c.drop_front.ensures ∙ ap (drop c.in_ok-after.used) c.in_ok-extend_from_slice.ensures.items in
     let left : drop c.in_ok-after.used c.as_slice.result.now ≡ c.drop_front.new.octets.items =
     ap (drop c.in_ok-after.used) octets ∙ sym rest in
-    let short = subst (λ l. verdict l ≡ Short) left (subst (λ (a : After). IsRest a (drop c.in_ok-after.used c.as_slice.result.now)) c.in-Goes.is c.in_ok-after.ensures.rest) in
+    let short = subst (λ l. reading l ≡ Short) left (subst (λ (a : After). IsRest a (drop c.in_ok-after.used c.as_slice.result.now)) c.in-Goes.is c.in_ok-after.ensures.rest) in
     let anew = on_some c.feed.result (HasTaken c.feed.new.self []) (c.is_none.ensures ∙ ap not c.if-is_none.false) c.feed.ensures.anew in
     let fed = subst (λ (l : List ℕ). IsFed [] l c.feed-in-Goes.result c.feed-in-Goes.new.self) c.as_slice-in-Goes.ensures.value (c.feed-in-Goes.ensures.fed [] anew) in
     let again : HasTaken c.feed-in-Goes.new.self c.drop_front.new.octets.items =

@@ -30,25 +30,25 @@ pub record IsFirstFault (octets : List ℕ) (at : ℕ) : Type 0 where
   -- and the octets don't begin with a whole spelling
   pub unread : (n : ℕ) (tree : Tree) → ¬ IsSpelling bounded (take n octets) tree
 
-pub data Verdict : Type 0 where
+pub data Reading : Type 0 where
   -- a tree, spelled by so many octets
-  Read : Tree → ℕ → Verdict
+  Read : Tree → ℕ → Reading
   -- octets are wanting
-  Short : Verdict
+  Short : Reading
   -- the octet at a place is a fault
-  Bad : ℕ → Verdict
-  Deep : ℕ → Verdict
-  Long : ℕ → Verdict
+  Bad : ℕ → Reading
+  Deep : ℕ → Reading
+  Long : ℕ → Reading
 
-abbrev pub IsVerdict : List ℕ → Verdict → Type 0
+abbrev pub IsReading : List ℕ → Reading → Type 0
 -- they begin with a spelling within the limits
-IsVerdict octets (Read tree n) = (n ≤ length octets) × IsSpelling bounded (take n octets) tree
+IsReading octets (Read tree n) = (n ≤ length octets) × IsSpelling bounded (take n octets) tree
 -- they are a proper prefix of one
-IsVerdict octets Short = (next : ℕ) × (rest : List ℕ) × (tree : Tree) × IsSpelling bounded (octets ++ next ∷ rest) tree
+IsReading octets Short = (next : ℕ) × (rest : List ℕ) × (tree : Tree) × IsSpelling bounded (octets ++ next ∷ rest) tree
 -- no spelling at all begins with the octets up to and with this one
-IsVerdict octets (Bad at) = IsFirstFault octets at × ¬ Begins free (take (at + 1) octets)
+IsReading octets (Bad at) = IsFirstFault octets at × ¬ Begins free (take (at + 1) octets)
 -- some does, but none that is shallow enough
-IsVerdict octets (Deep at) =
+IsReading octets (Deep at) =
     IsFirstFault octets at × Begins free (take (at + 1) octets) × ¬ Begins shallow (take (at + 1) octets)
 -- a shallow one does, but none that is also short enough
-IsVerdict octets (Long at) = IsFirstFault octets at × Begins shallow (take (at + 1) octets)
+IsReading octets (Long at) = IsFirstFault octets at × Begins shallow (take (at + 1) octets)

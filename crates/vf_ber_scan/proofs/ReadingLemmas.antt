@@ -5,11 +5,11 @@ use Rattle.std.proofs.Math.Seq.{take-add}
 use Rattle.std.proofs.lemmas.Bool.{cases_lt}
 use Rattle.std.proofs.lemmas.List.{append-nil, length-take-le, take-append-drop, take-take}
 use Rattle.vf_ber.specs.declared.room.Room.TheVariants.{Within}
-use Rattle.vf_ber.specs.Reader.{value_at, verdict}
+use Rattle.vf_ber.specs.Reader.{value_at, reading}
 use Rattle.vf_ber.specs.Tree.{Tree}
-use Rattle.vf_ber.specs.Verdict.{bounded, Verdict, IsVerdict, IsSpelling, Read, Short, Bad, Deep, Long}
-use Rattle.vf_ber.proofs.Plain.{verdict_found}
-use Rattle.vf_ber.proofs.Verdicts.{one_verdict}
+use Rattle.vf_ber.specs.Reading.{bounded, Reading, IsReading, IsSpelling, Read, Short, Bad, Deep, Long}
+use Rattle.vf_ber.proofs.Plain.{reading_found}
+use Rattle.vf_ber.proofs.Readings.{one_reading}
 use Rattle.vf_ber_scan.specs.declared.frames.Frame.{Frame}
 use Rattle.vf_ber_scan.specs.declared.place.Next.{Next}
 use Rattle.vf_ber_scan.specs.declared.place.Next.TheVariants as nexts
@@ -20,35 +20,35 @@ use Rattle.vf_ber_scan.specs.declared.scan.Scan.{Scan}
 use Rattle.vf_ber_scan.specs.Places.{IsOpen}
 use Rattle.vf_ber_scan.specs.Scanned.{HasTaken, IsEnd, length_read}
 use Rattle.vf_ber_scan.specs.Outlook.{Wanting, Whole, Faulty, ended, goes_on, outlook_of, left_outlook, outlook_at, Leads}
-use Rattle.vf_ber_scan.proofs.ReadLemmas.{outlook_verdict}
+use Rattle.vf_ber_scan.proofs.ReadLemmas.{outlook_reading}
 use Rattle.vf_ber_scan.proofs.StepLemmas.{none_wants}
 
-short_is : (v : Verdict) → outlook_of v ≡ Wanting → v ≡ Short
+short_is : (v : Reading) → outlook_of v ≡ Wanting → v ≡ Short
 short_is (Read tree n) e = absurd cc
 short_is Short e = refl
 short_is (Bad at) e = absurd cc
 short_is (Deep at) e = absurd cc
 short_is (Long at) e = absurd cc
 
-not_short : (v : Verdict) (whole : Bool) → outlook_of v ≡ ended whole → v ≢ Short
+not_short : (v : Reading) (whole : Bool) → outlook_of v ≡ ended whole → v ≢ Short
 not_short v true e short = let same : Wanting ≡ Whole = ap outlook_of (sym short) ∙ e in absurd cc
 not_short v false e short = let same : Wanting ≡ Faulty = ap outlook_of (sym short) ∙ e in absurd cc
 
 -- what a place says of all octets that may follow
 abbrev pub Ahead : Place → List Frame → List ℕ → Type 0
-Ahead place frames octets = (more : List ℕ) → outlook_of (verdict (octets ++ more)) ≡ outlook_at place frames more
+Ahead place frames octets = (more : List ℕ) → outlook_of (reading (octets ++ more)) ≡ outlook_at place frames more
 
-ahead_short : (place : Place) (frames : List Frame) (octets more : List ℕ) → Ahead place frames octets → outlook_at place frames more ≡ Wanting → verdict (octets ++ more) ≡ Short
-ahead_short place frames octets more ahead wants = short_is (verdict (octets ++ more)) (ahead more ∙ wants)
+ahead_short : (place : Place) (frames : List Frame) (octets more : List ℕ) → Ahead place frames octets → outlook_at place frames more ≡ Wanting → reading (octets ++ more) ≡ Short
+ahead_short place frames octets more ahead wants = short_is (reading (octets ++ more)) (ahead more ∙ wants)
 
-open_short : (place : Place) (frames : List Frame) (octets : List ℕ) → IsOpen place frames → Ahead place frames octets → verdict octets ≡ Short
-open_short place frames octets is_open ahead = ap verdict (sym (append-nil octets)) ∙ ahead_short place frames octets [] ahead (none_wants place frames is_open)
+open_short : (place : Place) (frames : List Frame) (octets : List ℕ) → IsOpen place frames → Ahead place frames octets → reading octets ≡ Short
+open_short place frames octets is_open ahead = ap reading (sym (append-nil octets)) ∙ ahead_short place frames octets [] ahead (none_wants place frames is_open)
 
 pub new_ahead : (frames : List Frame) → frames ≡ [] → Ahead Start frames []
-unfolding verdict left_outlook
-new_ahead frames none more = outlook_verdict more (value_at 32 (Within 1048576) more) ∙ ap (λ fs. outlook_at Start fs more) (sym none)
+unfolding reading left_outlook
+new_ahead frames none more = outlook_reading more (value_at 32 (Within 1048576) more) ∙ ap (λ fs. outlook_at Start fs more) (sym none)
 
-pub new_short : (frames : List Frame) → frames ≡ [] → verdict [] ≡ Short
+pub new_short : (frames : List Frame) → frames ≡ [] → reading [] ≡ Short
 new_short frames none = open_short Start [] [] tt (new_ahead [] refl)
 
 -- ---- more octets
@@ -56,7 +56,7 @@ new_short frames none = open_short Start [] [] tt (new_ahead [] refl)
 -- so many octets of the piece are taken, and with none of them nor with fewer is a value whole or faulty
 pub record Fed (old : Scan) (place : Place) (frames : List Frame) (piece : List ℕ) (taken : ℕ) : Type 0 where
   pub ahead : (octets : List ℕ) → HasTaken old octets → Ahead place frames (octets ++ take taken piece)
-  pub short : (octets : List ℕ) → HasTaken old octets → (m : ℕ) → m ≤ taken → verdict (octets ++ take m piece) ≡ Short
+  pub short : (octets : List ℕ) → HasTaken old octets → (m : ℕ) → m ≤ taken → reading (octets ++ take m piece) ≡ Short
 
 -- the octets behind those that are taken
 taken_then : (octets piece : List ℕ) (taken n : ℕ) → (octets ++ take taken piece) ++ take n (drop taken piece) ≡ octets ++ take (taken + n) piece
@@ -64,22 +64,22 @@ taken_then octets piece taken n = append_assoc octets (take taken piece) (take n
 
 -- with some of the octets behind them
 short_behind : (old : Scan) (place : Place) (frames : List Frame) (octets piece : List ℕ) (taken n m : ℕ) → Fed old place frames piece taken → HasTaken old octets
-    → ((m : ℕ) → m < n → outlook_at place frames (take m (drop taken piece)) ≡ Wanting) → m < taken + n → verdict (octets ++ take m piece) ≡ Short
+    → ((m : ℕ) → m < n → outlook_at place frames (take m (drop taken piece)) ≡ Wanting) → m < taken + n → reading (octets ++ take m piece) ≡ Short
 short_behind old place frames octets piece taken n m fed has short lt =
     elim (cases_lt m taken) [
       | inl few ↦ fed.short octets has m (omega arith)
       | inr le ↦
           let same : taken + (m - taken) ≡ m = omega arith in
-          ap (λ k. verdict (octets ++ take k piece)) (sym same) ∙ ap verdict (sym (taken_then octets piece taken (m - taken)))
+          ap (λ k. reading (octets ++ take k piece)) (sym same) ∙ ap reading (sym (taken_then octets piece taken (m - taken)))
           ∙ ahead_short place frames (octets ++ take taken piece) (take (m - taken) (drop taken piece)) (fed.ahead octets has) (short (m - taken) (omega arith))
     ]
 
 ahead_behind : (old : Scan) (place : Place) (frames new : List Frame) (next : Next) (octets piece : List ℕ) (taken n : ℕ) → Fed old place frames piece taken → HasTaken old octets
     → Leads (λ more. outlook_at place frames (take n (drop taken piece) ++ more)) next new
-    → (more : List ℕ) → outlook_of (verdict ((octets ++ take (taken + n) piece) ++ more)) ≡ goes_on next new more
+    → (more : List ℕ) → outlook_of (reading ((octets ++ take (taken + n) piece) ++ more)) ≡ goes_on next new more
 ahead_behind old place frames new next octets piece taken n fed has leads more =
-    ap (λ (o : List ℕ). outlook_of (verdict (o ++ more))) (sym (taken_then octets piece taken n))
-    ∙ ap (λ o. outlook_of (verdict o)) (append_assoc (octets ++ take taken piece) (take n (drop taken piece)) more)
+    ap (λ (o : List ℕ). outlook_of (reading (o ++ more))) (sym (taken_then octets piece taken n))
+    ∙ ap (λ o. outlook_of (reading o)) (append_assoc (octets ++ take taken piece) (take n (drop taken piece)) more)
     ∙ fed.ahead octets has (take n (drop taken piece) ++ more) ∙ leads.goes more
 
 pub fed_more : (old : Scan) (place next : Place) (frames new : List Frame) (piece rest : List ℕ) (taken n : ℕ) → Fed old place frames piece taken → rest ≡ drop taken piece
@@ -95,7 +95,7 @@ fed_more old place next frames new piece rest taken n fed is short leads =
         | inl lt ↦ short_behind old place frames octets piece taken n m fed has short_on lt
         | inr all ↦
             let same : m ≡ taken + n = omega arith in
-            ap (λ k. verdict (octets ++ take k piece)) same
+            ap (λ k. reading (octets ++ take k piece)) same
             ∙ open_short next new (octets ++ take (taken + n) piece) leads.is_open (λ more. ahead_behind old place frames new (nexts.At next) octets piece taken n fed has leads_on more)
       ];
     }
@@ -108,11 +108,11 @@ fed_ended old place frames new octets piece rest taken n whole fed is short lead
     subst (λ (r : List ℕ). Leads (λ more. outlook_at place frames (take n r ++ more)) (nexts.Ended whole) new) is leads in
     let short_on : (m : ℕ) → m < n → outlook_at place frames (take m (drop taken piece)) ≡ Wanting =
     λ m lt. ap (λ (r : List ℕ). outlook_at place frames (take m r)) (sym is) ∙ short m lt in
-    let ends : (more : List ℕ) → outlook_of (verdict ((octets ++ take (taken + n) piece) ++ more)) ≡ ended whole =
+    let ends : (more : List ℕ) → outlook_of (reading ((octets ++ take (taken + n) piece) ++ more)) ≡ ended whole =
     λ more. ahead_behind old place frames new (nexts.Ended whole) octets piece taken n fed has leads_on more in
     record {
       first = record {
-        ended = not_short (verdict (octets ++ take (taken + n) piece)) whole (ap (λ o. outlook_of (verdict o)) (sym (append-nil (octets ++ take (taken + n) piece))) ∙ ends []);
+        ended = not_short (reading (octets ++ take (taken + n) piece)) whole (ap (λ o. outlook_of (reading o)) (sym (append-nil (octets ++ take (taken + n) piece))) ∙ ends []);
         before = λ m lt. short_behind old place frames octets piece taken n m fed has short_on lt;
       };
       ends = ends;
@@ -120,14 +120,14 @@ fed_ended old place frames new octets piece rest taken n whole fed is short lead
 
 -- ---- octets of one value
 
-read_of : (v : Verdict) → outlook_of v ≡ Whole → (tree : Tree) × (n : ℕ) × (v ≡ Read tree n)
+read_of : (v : Reading) → outlook_of v ≡ Whole → (tree : Tree) × (n : ℕ) × (v ≡ Read tree n)
 read_of (Read tree n) e = (tree, n, refl)
 read_of Short e = absurd cc
 read_of (Bad at) e = absurd cc
 read_of (Deep at) e = absurd cc
 read_of (Long at) e = absurd cc
 
-fault_of : (v : Verdict) → outlook_of v ≡ Faulty → length_read v ≡ None
+fault_of : (v : Reading) → outlook_of v ≡ Faulty → length_read v ≡ None
 fault_of (Read tree n) e = absurd cc
 fault_of Short e = absurd cc
 fault_of (Bad at) e = refl
@@ -139,23 +139,23 @@ spelled_in : (octets : List ℕ) (tree : Tree) (m n : ℕ) → m ≤ n → IsSpe
 spelled_in octets tree m n le spelled = subst (λ (l : List ℕ). IsSpelling bounded l tree) (take-take m n octets le) spelled
 
 -- The value that is read of the first octets is that of all; it takes them all, since with fewer some are wanting.
-pub whole_read : (octets : List ℕ) (end : End) → IsEnd [] octets end → end.whole ≡ true → end.len ≤ length octets → length_read (verdict octets) ≡ Some end.len
+pub whole_read : (octets : List ℕ) (end : End) → IsEnd [] octets end → end.whole ≡ true → end.len ≤ length octets → length_read (reading octets) ≡ Some end.len
 whole_read octets end is whole within =
-    let front : outlook_of (verdict (take end.len octets)) ≡ Whole =
-    ap (λ (o : List ℕ). outlook_of (verdict o)) (sym (append-nil (take end.len octets))) ∙ is.ends [] ∙ ap ended whole in
-    let read = read_of (verdict (take end.len octets)) front in
+    let front : outlook_of (reading (take end.len octets)) ≡ Whole =
+    ap (λ (o : List ℕ). outlook_of (reading o)) (sym (append-nil (take end.len octets))) ∙ is.ends [] ∙ ap ended whole in
+    let read = read_of (reading (take end.len octets)) front in
     let tree : Tree = read.0 in
     let n : ℕ = read.1 in
-    let found : IsVerdict (take end.len octets) (Read tree n) =
-    subst (λ v. IsVerdict (take end.len octets) v) read.2 (verdict_found (take end.len octets)) in
+    let found : IsReading (take end.len octets) (Read tree n) =
+    subst (λ v. IsReading (take end.len octets) v) read.2 (reading_found (take end.len octets)) in
     let few : n ≤ end.len = omega (arith, found.0, length-take-le end.len octets within) in
     let spelled : IsSpelling bounded (take n octets) tree = spelled_in octets tree n end.len few found.1 in
-    let all : verdict octets ≡ Read tree n = one_verdict octets (verdict octets) (Read tree n) (verdict_found octets) (omega arith, spelled) in
+    let all : reading octets ≡ Read tree n = one_reading octets (reading octets) (Read tree n) (reading_found octets) (omega arith, spelled) in
     ap length_read all ∙ ap Some (elim (cases_lt n end.len) [
       | inl lt ↦
-          let own : IsVerdict (take n octets) (Read tree n) =
+          let own : IsReading (take n octets) (Read tree n) =
           (omega (arith, length-take-le n octets (omega arith)), subst (λ (l : List ℕ). IsSpelling bounded l tree) (sym (take-take n n octets (omega arith))) spelled) in
-          let same : verdict (take n octets) ≡ Read tree n = one_verdict (take n octets) (verdict (take n octets)) (Read tree n) (verdict_found (take n octets)) own in
+          let same : reading (take n octets) ≡ Read tree n = one_reading (take n octets) (reading (take n octets)) (Read tree n) (reading_found (take n octets)) own in
           absurd (read_not_short tree n (sym same ∙ is.first.before n lt))
       | inr le ↦ omega arith
     ])
@@ -163,15 +163,15 @@ whole_read octets end is whole within =
     read_not_short : (tree : Tree) (n : ℕ) → Read tree n ≢ Short
     read_not_short tree n e = absurd cc
 
-pub fault_unread : (octets : List ℕ) (end : End) → IsEnd [] octets end → end.whole ≡ false → length_read (verdict octets) ≡ None
+pub fault_unread : (octets : List ℕ) (end : End) → IsEnd [] octets end → end.whole ≡ false → length_read (reading octets) ≡ None
 fault_unread octets end is whole =
-    fault_of (verdict octets)
-    (ap (λ (o : List ℕ). outlook_of (verdict o)) (sym (take-append-drop end.len octets)) ∙ is.ends (drop end.len octets) ∙ ap ended whole)
+    fault_of (reading octets)
+    (ap (λ (o : List ℕ). outlook_of (reading o)) (sym (take-append-drop end.len octets)) ∙ is.ends (drop end.len octets) ∙ ap ended whole)
 
-pub read_small : (octets : List ℕ) (n : ℕ) → length_read (verdict octets) ≡ Some n → n ≤ 1048576
-read_small octets n read = by (verdict octets) (verdict_found octets) read
+pub read_small : (octets : List ℕ) (n : ℕ) → length_read (reading octets) ≡ Some n → n ≤ 1048576
+read_small octets n read = by (reading octets) (reading_found octets) read
   where
-    by : (v : Verdict) → IsVerdict octets v → length_read v ≡ Some n → n ≤ 1048576
+    by : (v : Reading) → IsReading octets v → length_read v ≡ Some n → n ≤ 1048576
     by (Read tree m) (le, (spells, within)) e =
         let same : m ≡ n = cc in
         let few = within.1 in
