@@ -10,8 +10,8 @@
 use std::alloc::Global;
 use std::env;
 use std::process::ExitCode;
-use vf_base::{NoMemory, ReadSource, Sink, WriteSink, read_up_to};
-use vf_ber::{BerError, WriteError, read, write};
+use vf_base::{NoMemory, Octets, ReadSource, Sink, WriteSink, read_up_to};
+use vf_ber::{BerError, WriteError, read, read_shared, write};
 
 /// The most octets of input.
 const LIMIT: usize = 1 << 26;
@@ -86,7 +86,8 @@ fn answers(alloc: Global, text: &[u8]) -> Result<Vec<u8>, Fault> {
 
 /// The value that the octets begin with: its canonical spelling where that is asked for, else how many octets it took.
 fn value(alloc: Global, octets: &[u8], spelled: bool) -> Result<Vec<u8>, Fault> {
-    let Ok((value, taken)) = read(alloc, octets) else {
+    let kept = Octets::of(alloc, octets)?;
+    let Ok((value, taken)) = read_shared(alloc, &kept) else {
         return Err(Fault::Octets);
     };
     if !spelled {

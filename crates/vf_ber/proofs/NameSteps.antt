@@ -7,10 +7,10 @@ use Rattle.vf_ber.specs.declared.fault.Fault.TheVariants as faults
 use Rattle.vf_ber.specs.declared.room.Room.{Room}
 use Rattle.vf_ber.specs.Spelling.{first_octet, identifier}
 use Rattle.vf_ber.specs.Reading.{Limits, bounded}
-use Rattle.vf_ber.specs.Steps.{Name, Names, Open, Ruled, Got, Failed, has_depth, is_roomy, first_fits, second_fits}
+use Rattle.vf_ber.specs.Steps.{Name, Names, Open, Ruled, Got, Failed, has_depth, is_roomy, first_fits, second_fits, named}
 use Rattle.vf_ber.proofs.Chains.{Tells}
 use Rattle.vf_ber.proofs.Fits.{depth_lift, roomy_le}
-use Rattle.vf_ber.proofs.Names.{tag, named, identifier-short, identifier-longer, identifier-longest}
+use Rattle.vf_ber.proofs.Names.{tag, identifier-short, identifier-longer, identifier-longest}
 
 -- ---- first octets
 

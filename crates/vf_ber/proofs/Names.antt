@@ -8,7 +8,7 @@ use Rattle.vf_ber.specs.Tree.{Tag}
 use Rattle.vf_ber.specs.Tags.{IsTag}
 use Rattle.vf_ber.specs.Spelling.{first_octet, identifier}
 use Rattle.vf_ber.specs.Spellings.{number_in}
-use Rattle.vf_ber.specs.Steps.{Name, IsSize}
+use Rattle.vf_ber.specs.Steps.{Name, IsSize, named}
 
 pub same_front : {X : Type 0} (a b r s : List X) → length a ≡ length b → a ++ r ≡ b ++ s → a ≡ b
 same_front a b r s n e = sym (take_at a r (length b) n) ∙ ap (take (length b)) e ∙ take_at b s (length b) refl
@@ -18,8 +18,6 @@ same_front a b r s n e = sym (take_at a r (length b) n) ∙ ap (take (length b))
 abbrev pub tag : ℕ → ℕ → Tag
 tag class number = record { class = class; number = number }
 
-abbrev pub named : Bool → Tag → Name
-named constructed tag = record { constructed = constructed; tag = tag }
 
 abbrev longer_at : List ℕ → ℕ
 longer_at [] = 0

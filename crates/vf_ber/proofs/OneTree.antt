@@ -5,8 +5,8 @@ use Rattle.std.proofs.lemmas.List.{append_cancel_left, append_cancel_right}
 use Rattle.vf_ber.specs.Tree.{Tag, Tree, plain, built, Trees, none, more}
 use Rattle.vf_ber.specs.Spelling.{identifier}
 use Rattle.vf_ber.specs.Spellings.{Spells, SpellInTurn}
-use Rattle.vf_ber.specs.Steps.{Name, IsSize}
-use Rattle.vf_ber.proofs.Names.{same_front, named, names_same, sizes_same, begins, identifier_some, size_some}
+use Rattle.vf_ber.specs.Steps.{Name, IsSize, named}
+use Rattle.vf_ber.proofs.Names.{same_front, names_same, sizes_same, begins, identifier_some, size_some}
 
 pub assoc3 : (a b c r : List ℕ) → (a ++ (b ++ c)) ++ r ≡ a ++ (b ++ (c ++ r))
 assoc3 a b c r = append_assoc a (b ++ c) r ∙ ap (λ o. a ++ o) (append_assoc b c r)

@@ -9,10 +9,10 @@ use Rattle.vf_ber.specs.declared.room.Room.{Room}
 use Rattle.vf_ber.specs.declared.room.Room.TheVariants.{Exact}
 use Rattle.vf_ber.specs.Tree.{Tag, Tree, plain, built, Trees, none, more, joined}
 use Rattle.vf_ber.specs.Reading.{Limits, free, bounded}
-use Rattle.vf_ber.specs.Steps.{Language, Name, Names, Sizes, Definite, Contents, Values, Parts, Ended, Ruled, Got, Failed, IsNoEnd, fits, is_roomy, less, has_depth, size_fits}
+use Rattle.vf_ber.specs.Steps.{Language, Name, Names, Sizes, Definite, Contents, Values, Parts, Ended, Ruled, Got, Failed, IsNoEnd, fits, is_roomy, less, has_depth, size_fits, named}
 use Rattle.vf_ber.proofs.Chains.{Carries, Anything, front_failed, behind_got, behind_failed, carried_failed}
 use Rattle.vf_ber.proofs.Fits.{depth_from, shallow_zero, exact_rest, end_behind, less_fits, size_parts}
-use Rattle.vf_ber.proofs.Names.{named}
+
 use Rattle.vf_ber.proofs.OneTree.{spelling_begins, spelling_long}
 use Rattle.vf_ber.proofs.ValueSteps.{parts_open, ended_open, depth_pos, Body, body_chain, value_chain, parts_chain, Others, ended_chain}
 

@@ -9,10 +9,10 @@ use Rattle.vf_ber.specs.Tree.{Tag, Tree, plain, built, Trees, none, more, depth,
 use Rattle.vf_ber.specs.Spelling.{identifier}
 use Rattle.vf_ber.specs.Spellings.{IsLength, Spells, SpellInTurn}
 use Rattle.vf_ber.specs.Reading.{Limits, bounded}
-use Rattle.vf_ber.specs.Steps.{Language, Name, Names, Sizes, Contents, Values, Parts, Ended, Open, fits, is_roomy, less, has_depth, IsShallow, size_fits}
+use Rattle.vf_ber.specs.Steps.{Language, Name, Names, Sizes, Contents, Values, Parts, Ended, Open, fits, is_roomy, less, has_depth, IsShallow, size_fits, named}
 use Rattle.vf_ber.proofs.Chains.{Chain}
 use Rattle.vf_ber.proofs.Fits.{depth_some, depth_lift, shallow_lift, shallow_le, shallow_zero, shallow_one, shallow_around, shallow_inside, shallow_both, fits_lift, roomy_lift, fits_roomy, fits_less, less_fits, fits_without, exact_front, exact_rest, end_behind, behind_end, front_of_end, size_lift, size_room, size_parts, size_from, size_plain}
-use Rattle.vf_ber.proofs.Names.{tag, named, names_same, sizes_same}
+use Rattle.vf_ber.proofs.Names.{tag, names_same, sizes_same}
 use Rattle.vf_ber.proofs.OneTree.{one_spelling, spelling_long, list_long}
 use Rattle.vf_ber.proofs.SizeSteps.{sizes_some}
 

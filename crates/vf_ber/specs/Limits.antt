@@ -1,11 +1,13 @@
 -- How deep and how long a value may be (profile).
 use Rattle.std.specs.Prelude.{ℕ, ◌<◌, ◌&&◌, nat_le, ◌⊎◌, length, Option, Some, None, if◌then◌else◌}
+use Rattle.vf_base.specs.declared.limits.TheConstants.{MOST_VALUE_OCTETS}
+use Rattle.vf_ber.specs.declared.limits.TheConstants.{MOST_DEPTH}
 use Rattle.vf_ber.specs.Tree.{Tree, Trees, depth, depth_in}
 use Rattle.vf_ber.specs.Spelling.{spell, spells}
 
 -- its canonical spelling passes a limit
 abbrev pub IsTooLarge : Tree → Type 0
-IsTooLarge tree = (32 < depth tree) ⊎ (1048576 < length (spell tree))
+IsTooLarge tree = (MOST_DEPTH < depth tree) ⊎ (MOST_VALUE_OCTETS < length (spell tree))
 
 -- a length within limits
 abbrev pub within : ℕ → ℕ → ℕ → ℕ → Option ℕ

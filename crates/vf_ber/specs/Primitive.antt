@@ -84,8 +84,11 @@ arcs_at octets = option_and_then arcs_of (subidentifiers_at octets)
 abbrev pub oid_with : List ℕ → Option (List ℕ)
 oid_with arcs = if is_oid arcs then Some arcs else None
 
+abbrev pub oid_at : List ℕ → Option (List ℕ)
+oid_at octets = option_and_then oid_with (arcs_at octets)
+
 abbrev pub oid_of : Tree → Option (List ℕ)
-oid_of (plain tag octets) = option_and_then oid_with (arcs_at octets)
+oid_of (plain tag octets) = oid_at octets
 oid_of (built tag parts) = None
 
 abbrev pub is_octet_string : Tag → Bool

@@ -1,6 +1,8 @@
 -- The reading on octets as a plain program finds it, octet by octet: at each it asks whether a value can still be
 -- completed behind it. A law says that it is the reading.
 use Rattle.std.specs.Prelude.{ℕ, zero, suc, ◌+◌, ◌-◌, ◌*◌, ◌/◌, ◌%◌, Bool, ◌&&◌, nat_eq, nat_lt, List, [], ◌∷◌, length, take, drop, Option, Some, None, Result, Ok, Err, if◌then◌else◌}
+use Rattle.vf_base.specs.declared.limits.TheConstants.{MOST_VALUE_OCTETS}
+use Rattle.vf_ber.specs.declared.limits.TheConstants.{MOST_DEPTH}
 use Rattle.vf_ber.specs.declared.fault.Fault.{Fault}
 use Rattle.vf_ber.specs.declared.fault.Fault.TheVariants as faults
 use Rattle.vf_ber.specs.declared.room.Room.{Room}
@@ -116,4 +118,4 @@ as_reading octets (Err (faults.Long left)) = Long (length octets - left)
 as_reading octets (Err faults.NoMemory) = Short
 
 unfoldable pub reading : List ℕ → Reading
-reading octets = as_reading octets (value_at 32 (Within 1048576) octets)
+reading octets = as_reading octets (value_at MOST_DEPTH (Within MOST_VALUE_OCTETS) octets)

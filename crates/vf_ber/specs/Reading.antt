@@ -1,5 +1,7 @@
 -- What octets are, to a reader of values: a question of which spellings exist.
 use Rattle.std.specs.Prelude.{ℕ, ◌+◌, ◌<◌, ◌≤◌, List, ◌∷◌, ◌++◌, length, take}
+use Rattle.vf_base.specs.declared.limits.TheConstants.{MOST_VALUE_OCTETS}
+use Rattle.vf_ber.specs.declared.limits.TheConstants.{MOST_DEPTH}
 use Rattle.vf_ber.specs.Tree.{Tree, depth}
 use Rattle.vf_ber.specs.Spellings.{Spells}
 
@@ -11,8 +13,8 @@ pub data Limits : Type 0 where
 
 abbrev pub IsWithin : Limits → List ℕ → Tree → Type 0
 IsWithin free octets tree = Unit {0}
-IsWithin shallow octets tree = depth tree ≤ 32
-IsWithin bounded octets tree = (depth tree ≤ 32) × (length octets ≤ 1048576)
+IsWithin shallow octets tree = depth tree ≤ MOST_DEPTH
+IsWithin bounded octets tree = (depth tree ≤ MOST_DEPTH) × (length octets ≤ MOST_VALUE_OCTETS)
 
 -- the octets are a spelling of the tree within these limits
 abbrev pub IsSpelling : Limits → List ℕ → Tree → Type 0

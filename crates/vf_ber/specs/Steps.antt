@@ -121,6 +121,9 @@ pub record Name : Type 0 where
   pub constructed : Bool
   pub tag : Tag
 
+abbrev pub named : Bool → Tag → Name
+named constructed tag = record { constructed = constructed; tag = tag }
+
 abbrev pub Names : ℕ → Room → Language Name
 Names most room limits octets name =
     (octets ≡ identifier name.constructed name.tag) × IsTag name.tag × (has_depth limits most ≡ true)

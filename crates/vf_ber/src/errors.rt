@@ -7,9 +7,9 @@ pub enum BerError {
     Short,
     /// No spelling of a value begins with the octets up to and with this one.
     Bad { at: u32 },
-    /// No spelling of a value of depth 32 or less begins with the octets up to and with this one.
+    /// No spelling of a value of depth `MOST_DEPTH` or less begins with the octets up to and with this one.
     Deep { at: u32 },
-    /// No spelling of 1,048,576 octets or less begins with the octets up to and with this one.
+    /// No spelling of `MOST_VALUE_OCTETS` octets or less begins with the octets up to and with this one.
     Long { at: u32 },
     /// Memory is wanting.
     NoMemory,
@@ -29,7 +29,7 @@ impl From<NoMemory> for BerError {
 /// Why a value was not written.
 #[derive(Clone, Copy, Debug, PartialEq, Eq)]
 pub enum WriteError {
-    /// It is deeper than 32 or takes more than 1,048,576 octets.
+    /// It is deeper than `MOST_DEPTH` or takes more than `MOST_VALUE_OCTETS` octets.
     TooLarge,
     /// Memory is wanting.
     NoMemory,

@@ -1,10 +1,10 @@
-//! Which octets may stand where: each function asks whether a value can still be completed behind an octet, by
-//! what is around it.
+//! Which octets may stand where: each function asks whether a value can still be completed after an octet, by what is
+//! around it. For readers that take octets in pieces, as `vf_ber_scan`; who has the octets needs `read` alone.
 ghost use Rattle.std.specs.Prelude.{◌≡◌, ◌≢◌, ◌+◌, ◌-◌, ◌*◌, ◌≤◌, ◌<◌, ◌^◌, IfErr, IfOk, true, false, Some, None};
 ghost use Rattle.vf_ber.specs.Steps.{fault_of, fills, first_fits, fits as room_fits, grown as grown_of, has_depth as depth_of, is_roomy as roomy_of, Judged, length_fits, less as less_of, limits_of, reaches, second_fits, shifted as shifted_of, size_fits};
 
 use crate::fault::Fault;
-use crate::room::{Asked, Room};
+pub use crate::room::{Asked, Room};
 
 /// What is left of the room when so many octets are taken, and nothing where it has fewer.
 pub fn less(room: Room, n: u64) -> Room
@@ -82,7 +82,7 @@ pub fn is_first(asked: Asked, depth: u32, room: Room, octet: u8) -> bool
 }
 
 /// Whether a value may begin with this identifier octet.
-pub fn check_first(depth: u32, room: Room, octet: u8, left: usize) -> Result<(), Fault>
+pub(crate) fn check_first(depth: u32, room: Room, octet: u8, left: usize) -> Result<(), Fault>
     ensures ok { IfOk result (λ _. first_fits (limits_of Asked.Bounded) depth room octet ≡ true) }
     ensures err { IfErr result (λ e. Judged (λ limits. first_fits limits depth room octet) left e) }
 {
@@ -103,7 +103,7 @@ pub fn is_second(asked: Asked, room: Room, octet: u8) -> bool
 }
 
 /// Whether the long form of an identifier may go on with this octet.
-pub fn check_second(room: Room, octet: u8, left: usize) -> Result<(), Fault>
+pub(crate) fn check_second(room: Room, octet: u8, left: usize) -> Result<(), Fault>
     ensures ok { IfOk result (λ _. second_fits (limits_of Asked.Bounded) room octet ≡ true) }
     ensures err { IfErr result (λ e. Judged (λ limits. second_fits limits room octet) left e) }
 {
@@ -119,7 +119,7 @@ pub fn check_second(room: Room, octet: u8, left: usize) -> Result<(), Fault>
 /// they are values.
 #[derive(Clone, Copy)]
 pub struct Around {
-    /// How deep the value may be: 32 for an outermost one.
+    /// How deep the value may be: `MOST_DEPTH` for an outermost one.
     pub depth: u32,
     /// How many octets the value may take.
     pub room: Room,
@@ -197,7 +197,7 @@ pub fn is_reached(asked: Asked, around: Around, more: u32, high: u64) -> bool
 }
 
 /// Whether a length may go on with these octets, with `more` others behind them.
-pub fn check_digit(around: Around, more: u32, high: u64, left: usize) -> Result<(), Fault>
+pub(crate) fn check_digit(around: Around, more: u32, high: u64, left: usize) -> Result<(), Fault>
     requires front { around.front ≤ 12 }
     requires small { grown_of more high < 2 ^ 64 }
     ensures ok { IfOk result (λ _. reaches (limits_of Asked.Bounded) around.depth around.room around.front around.constructed more high ≡ true) }
@@ -233,7 +233,7 @@ pub fn is_length(asked: Asked, around: Around, octet: u8) -> bool
 }
 
 /// Whether a length may begin with this octet, behind an identifier.
-pub fn check_length(around: Around, octet: u8, left: usize) -> Result<(), Fault>
+pub(crate) fn check_length(around: Around, octet: u8, left: usize) -> Result<(), Fault>
     requires { around.front ≤ 3 }
     ensures ok { IfOk result (λ _. length_fits (limits_of Asked.Bounded) around.depth around.room around.front around.constructed octet ≡ true) }
     ensures err { IfErr result (λ e. Judged (λ limits. length_fits limits around.depth around.room around.front around.constructed octet) left e) }

@@ -5,9 +5,10 @@ mod contents;
 mod contents_laws;
 mod errors;
 mod fault;
-mod fitting;
+pub mod fitting;
 mod header;
 mod laws;
+mod limits;
 mod measure;
 mod primitive;
 mod reader;
@@ -21,24 +22,14 @@ pub use contents_laws::{
     booleans_are_read, integers_are_read, integers_are_spelled, oids_are_read, oids_are_spelled,
 };
 pub use errors::{BerError, WriteError};
-pub use fitting::{Around, is_first, is_length, is_reached, is_second, less};
 pub use laws::{
     no_spelling_goes_on, octets_have_a_reading, octets_have_one_reading, octets_spell_one_value,
     written_is_read_again,
 };
-pub use primitive::{boolean, integer, oid};
+pub use limits::MOST_DEPTH;
+pub use primitive::{boolean, integer, integer_from, oid, oid_from};
 pub use reader::{read, read_shared};
-pub use room::{Asked, Room};
 pub use segments::octets;
 pub use tag::Tag;
 pub use value::{Value, Values};
 pub use writing::write;
-
-#[cfg(test)]
-mod contents_tests;
-#[cfg(test)]
-mod fitting_tests;
-#[cfg(test)]
-mod reader_tests;
-#[cfg(test)]
-mod tests;

@@ -5,6 +5,7 @@ ghost use Rattle.vf_ber.specs.Spelling.{identifier, length_octets, header};
 ghost use Rattle.vf_ber.specs.Views.{tag_of, tree_of, trees_in};
 
 use crate::{Tag, Value};
+use vf_base::MOST_VALUE_OCTETS;
 
 /// The number of octets of the identifier and the length in front of `len` octets of contents.
 fn header_len(constructed: bool, tag: Tag, len: u32) -> u32
@@ -47,7 +48,7 @@ fn length_len(len: u32) -> u32
 /// than `room`.
 #[cycle(measure)]
 pub fn measure(value: &Value, depth: u32, room: u32) -> Option<u32>
-    requires { room ≤ 1048576 }
+    requires { room ≤ MOST_VALUE_OCTETS }
     ensures { result ≡ measured depth room (tree_of value.now) }
 {
     if depth == 0 {
@@ -71,7 +72,7 @@ pub fn measure(value: &Value, depth: u32, room: u32) -> Option<u32>
 /// The same of the spellings of values, one after another.
 #[cycle(measure)]
 fn measure_parts(parts: &[Value], depth: u32, room: u32) -> Option<u32>
-    requires { room ≤ 1048576 }
+    requires { room ≤ MOST_VALUE_OCTETS }
     ensures { result ≡ measured_in depth room (trees_in parts.now) }
 {
     let mut total = 0;

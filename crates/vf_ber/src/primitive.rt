@@ -1,7 +1,7 @@
 //! What the contents of primitive values mean.
 ghost use Rattle.std.specs.Prelude.{◌≡◌, ◌≤◌, ◌<◌, ◌*◌, ◌∷◌, length, IfNone, IfOk, IfSome, if◌then◌else◌};
 ghost use Rattle.std.specs.Option.{option_map};
-ghost use Rattle.vf_ber.specs.Primitive.{arcs_at, boolean_at, boolean_of, extended, groups_of, in_front, integer_at, integer_of, is_integer as integer_test, is_padded as padded, oid_of, root_arc as root_of, subidentifier_of, subidentifiers_at};
+ghost use Rattle.vf_ber.specs.Primitive.{arcs_at, boolean_at, boolean_of, extended, groups_of, in_front, integer_at, integer_of, is_integer as integer_test, is_padded as padded, oid_at, oid_of, root_arc as root_of, subidentifier_of, subidentifiers_at};
 ghost use Rattle.vf_ber.specs.Views.{tree_of};
 
 use crate::Value;
@@ -15,12 +15,14 @@ pub fn integer(value: &Value) -> Option<i64>
     ensures { result ≡ integer_of (tree_of value.now) }
 {
     match value {
-        Value::Plain { octets, .. } => signed(octets.as_slice()),
+        Value::Plain { octets, .. } => integer_from(octets.as_slice()),
         Value::Built { .. } => None,
     }
 }
 
-fn signed(octets: &[u8]) -> Option<i64>
+/// The integer of the contents of a primitive value; `None` exactly where they aren't one to eight octets in the
+/// shortest two's complement (ISO 8825, 8.3).
+pub fn integer_from(octets: &[u8]) -> Option<i64>
     ensures { result ≡ integer_at octets.now }
 {
     if !is_integer(octets) {
@@ -73,10 +75,18 @@ fn truth(octets: &[u8]) -> Option<bool>
 pub fn oid(alloc: Global, value: &Value) -> Result<Option<Oid>, NoMemory>
     ensures { IfOk result (λ found. found ≡ oid_of (tree_of value.now)) }
 {
-    let Value::Plain { octets, .. } = value else {
-        return Ok(None);
-    };
-    let Some(arcs) = read_arcs(alloc, octets.as_slice())? else {
+    match value {
+        Value::Plain { octets, .. } => oid_from(alloc, octets.as_slice()),
+        Value::Built { .. } => Ok(None),
+    }
+}
+
+/// The object identifier of the contents of a primitive value; `None` exactly where they spell no object identifier of
+/// 2 to 16 arcs up to 268,435,455 with each subidentifier in the fewest octets (ISO 8825, 8.19).
+pub fn oid_from(alloc: Global, octets: &[u8]) -> Result<Option<Oid>, NoMemory>
+    ensures { IfOk result (λ found. found ≡ oid_at octets.now) }
+{
+    let Some(arcs) = read_arcs(alloc, octets)? else {
         return Ok(None);
     };
     match Oid::of(alloc, arcs.as_slice()) {

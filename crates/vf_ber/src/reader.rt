@@ -1,24 +1,24 @@
 //! Reading a value: octet by octet, each asked whether a value can still be completed behind it.
 ghost use Rattle.std.specs.Prelude.{◌≡◌, ◌≢◌, ◌+◌, ◌-◌, ◌*◌, ◌≤◌, ◌<◌, ◌^◌, ◌∷◌, IfErr, IfOk, IfSome, length, take, true, false, Some, None};
 ghost use Rattle.vf_ber.specs.Results.{IsAnswer};
-ghost use Rattle.vf_ber.specs.Steps.{Contents, Definite, Ended, Ends, Failed, fits, Got, has_depth, IsNoEnd, less as less_of, Parts, size_fits, Values as ValuesIn};
+ghost use Rattle.vf_ber.specs.Steps.{Contents, Definite, Ended, Ends, Failed, fits, Got, has_depth, IsNoEnd, less as less_of, named, Parts, size_fits, Values as ValuesIn};
 ghost use Rattle.vf_ber.specs.Reading.{bounded};
 ghost use Rattle.vf_ber.specs.Views.{name_of as said, tag_of, tree_of};
 
 use crate::fault::Fault;
 use crate::fitting::{Around, less};
-use crate::header::{Name, first_of, name_of, size_of};
+use crate::header::{first_of, name_of, size_of};
 use crate::room::Room;
-use crate::{BerError, Tag, Value, Values};
+use crate::{BerError, MOST_DEPTH, Tag, Value, Values};
 use std::alloc::Global;
-use vf_base::{NoMemory, Octets};
+use vf_base::{MOST_VALUE_OCTETS, NoMemory, Octets};
 
 /// Reads the value that the octets begin with, and says how many octets it took.
 ///
-/// A value's depth is at most 32, the outermost having depth 1, and its octets at most 1,048,576. `Short` exactly
-/// where the octets are a proper prefix of the spelling of such a value. Where neither comes, some octet is the
+/// A value's depth is at most `MOST_DEPTH`, the outermost having depth 1, and its octets at most `MOST_VALUE_OCTETS`.
+/// `Short` exactly where the octets are a proper prefix of the spelling of such a value. Where neither comes, some octet is the
 /// first after which there is no such spelling: the error names its place, and is `Bad` exactly where no spelling
-/// at all begins with the octets up to and with it, else `Deep` where none of a value of depth 32 or less does,
+/// at all begins with the octets up to and with it, else `Deep` where none of a value of that depth or less does,
 /// else `Long` (ISO 8825, 8.1; limits of this profile).
 pub fn read(alloc: Global, octets: &[u8]) -> Result<(Value, usize), BerError>
     ensures { IsAnswer result octets.now }
@@ -42,7 +42,8 @@ fn read_of(alloc: Global, kept: Option<&Octets>, octets: &[u8]) -> Result<(Value
     let Some((first, behind)) = first_of(octets) else {
         return Err(BerError::Short);
     };
-    match value_of(alloc, kept, first, behind, 32, Room::Within(1_048_576)) {
+    let most = Room::Within(MOST_VALUE_OCTETS as u64);
+    match value_of(alloc, kept, first, behind, MOST_DEPTH, most) {
         Ok((value, rest)) => Ok((value, octets.len() - rest.len())),
         Err(Fault::Short) => Err(BerError::Short),
         Err(Fault::Bad(left)) => Err(BerError::Bad {
@@ -81,7 +82,7 @@ fn value_of<'a>(
     };
     let (size, contents) = size_of(rest, around)?;
     let front = (behind.len() + 1 - contents.len()) as u64;
-    contents_of(alloc, kept, contents, depth, room, front, name, size)
+    contents_of(alloc, kept, contents, Around { front, ..around }, name.tag, size)
 }
 
 /// Reads the contents of a value behind its identifier and its length.
@@ -90,25 +91,22 @@ fn contents_of<'a>(
     alloc: Global,
     kept: Option<&Octets>,
     octets: &'a [u8],
-    depth: u32,
-    room: Room,
-    front: u64,
-    name: Name,
+    around: Around,
+    tag: Tag,
     size: Option<u64>,
 ) -> Result<(Value, &'a [u8]), Fault>
     requires kept { IfSome kept (λ all. Ends all.now octets.now) }
-    requires deep { has_depth bounded depth ≡ true }
-    requires fits { size_fits bounded depth room front name.constructed size ≡ true }
-    ensures got { IfOk result (λ x. Got (Contents depth room front (said name) size) octets.now (tree_of x.0) x.1.now) }
-    ensures failed { IfErr result (λ e. Failed (Contents depth room front (said name) size) octets.now e) }
+    requires deep { has_depth bounded around.depth ≡ true }
+    requires fits { size_fits bounded around.depth around.room around.front around.constructed size ≡ true }
+    ensures got { IfOk result (λ x. Got (Contents around.depth around.room around.front (named around.constructed (tag_of tag)) size) octets.now (tree_of x.0) x.1.now) }
+    ensures failed { IfErr result (λ e. Failed (Contents around.depth around.room around.front (named around.constructed (tag_of tag)) size) octets.now e) }
 {
-    let tag = name.tag;
     let Some(n) = size else {
-        let (ended, rest) = ended_of(alloc, kept, octets, depth - 1, less(room, front))?;
+        let (ended, rest) = ended_of(alloc, kept, octets, around.depth - 1, less(around.room, around.front))?;
         return Ok((Value::Built { tag, parts: ended }, rest));
     };
-    if name.constructed {
-        let (parts, rest) = parts_of(alloc, kept, octets, depth - 1, n)?;
+    if around.constructed {
+        let (parts, rest) = parts_of(alloc, kept, octets, around.depth - 1, n)?;
         return Ok((Value::Built { tag, parts }, rest));
     }
     plain_of(alloc, kept, octets, tag, n)

@@ -7,24 +7,19 @@ ghost use Rattle.vf_ber.specs.Spelling.{header, identifier, length_octets, spell
 ghost use Rattle.vf_ber.specs.Views.{tag_of, tree_of, trees_in};
 
 use crate::measure::measure;
-use crate::{Tag, Value, WriteError};
+use crate::{MOST_DEPTH, Tag, Value, WriteError};
 use std::alloc::Global;
-
-/// The most depth of a value.
-const MAX_DEPTH: u32 = 32;
-
-/// The most octets of a value.
-const MAX_OCTETS: u32 = 1_048_576;
+use vf_base::MOST_VALUE_OCTETS;
 
 /// Appends the canonical spelling of the value, which has definite lengths in the fewest octets.
 ///
-/// `TooLarge` exactly where the value is deeper than 32 or its spelling longer than 1,048,576 octets.
+/// `TooLarge` exactly where the value is deeper than `MOST_DEPTH` or its spelling longer than `MOST_VALUE_OCTETS`.
 pub fn write(_alloc: Global, value: &Value, out: &mut Vec<u8>) -> Result<(), WriteError>
     ensures written { OnOk result (out.new.items ≡ out.old.items ++ spell (tree_of value.now)) }
     ensures large { IsErrOf result WriteError.TooLarge ↔ IsTooLarge (tree_of value.now) }
     ensures err { OnErr result (out.new.items ≡ out.old.items) }
 {
-    let Some(len) = measure(value, MAX_DEPTH, MAX_OCTETS) else {
+    let Some(len) = measure(value, MOST_DEPTH, MOST_VALUE_OCTETS) else {
         return Err(WriteError::TooLarge);
     };
     let end = out.len() + len as usize;
@@ -38,7 +33,7 @@ pub fn write(_alloc: Global, value: &Value, out: &mut Vec<u8>) -> Result<(), Wri
 /// Writes the spelling of a value up to a place. Gives the place where it starts.
 #[cycle(put)]
 fn put_value(value: &Value, end: usize, out: &mut [u8]) -> usize
-    requires short { length (spell (tree_of value.now)) ≤ 1048576 }
+    requires short { length (spell (tree_of value.now)) ≤ MOST_VALUE_OCTETS }
     requires room { length (spell (tree_of value.now)) ≤ end }
     requires within { end ≤ length out.old }
     ensures start { result + length (spell (tree_of value.now)) ≡ end }
@@ -59,7 +54,7 @@ fn put_value(value: &Value, end: usize, out: &mut [u8]) -> usize
 /// The same of the spellings of values, one after another.
 #[cycle(put)]
 fn put_values(parts: &[Value], end: usize, out: &mut [u8]) -> usize
-    requires short { length (spells (trees_in parts.now)) ≤ 1048576 }
+    requires short { length (spells (trees_in parts.now)) ≤ MOST_VALUE_OCTETS }
     requires room { length (spells (trees_in parts.now)) ≤ end }
     requires within { end ≤ length out.old }
     ensures start { result + length (spells (trees_in parts.now)) ≡ end }
@@ -73,7 +68,7 @@ fn put_values(parts: &[Value], end: usize, out: &mut [u8]) -> usize
 }
 
 fn put_header(constructed: bool, tag: Tag, len: usize, end: usize, out: &mut [u8]) -> usize
-    requires small { len ≤ 1048576 }
+    requires small { len ≤ MOST_VALUE_OCTETS }
     requires room { length (header constructed (tag_of tag) len) ≤ end }
     requires within { end ≤ length out.old }
     ensures start { result + length (header constructed (tag_of tag) len) ≡ end }
@@ -102,7 +97,7 @@ fn put_identifier(constructed: bool, tag: Tag, end: usize, out: &mut [u8]) -> us
 }
 
 fn put_length(len: usize, end: usize, out: &mut [u8]) -> usize
-    requires small { len ≤ 1048576 }
+    requires small { len ≤ MOST_VALUE_OCTETS }
     requires room { length (length_octets len) ≤ end }
     requires within { end ≤ length out.old }
     ensures start { result + length (length_octets len) ≡ end }

@@ -3,7 +3,7 @@ use Rattle.std.specs.Prelude.{IfSome, Option, None}
 use Rattle.std.proofs.lemmas.Result.{IfOk-weaker, IfErr-weaker}
 use Rattle.vf_ber.specs.declared.room.Room.{Room}
 use Rattle.vf_ber.specs.declared.room.Room.TheVariants.{Exact}
-use Rattle.vf_ber.specs.Steps.{Contents, Ended, Ends, Failed, Got, less as less_of, Names, size_fits, Sizes, Values as ValuesIn}
+use Rattle.vf_ber.specs.Steps.{Contents, Ended, Ends, Failed, Got, less as less_of, named, Names, size_fits, Sizes, Values as ValuesIn}
 use Rattle.vf_ber.specs.Reading.{bounded}
 use Rattle.vf_ber.specs.Views.{name_of as said, tag_of, tree_of}
 use Rattle.vf_ber.proofs.Chains.{through}
@@ -14,39 +14,39 @@ use Rattle.vf_ber.proofs.reader.+read_value.Goals as goal
 pub contents_of-returns-in_err-ended-clause-failed :
     goal.contents_of-returns-in_err-ended-clause-failed
 contents_of-returns-in_err-ended-clause-failed t c =
-    let n = c.args.name in
+    let n = named c.args.around.constructed (tag_of c.args.tag) in
     let fault = c.in_err-ended.field-0.0 in
-    let fits : size_fits bounded c.args.depth c.args.room c.args.front n.constructed None ≡ true =
-    subst (λ (s : Option ℕ). size_fits bounded c.args.depth c.args.room c.args.front n.constructed s ≡ true) c.in_default.is c.requires.fits in
-    let inside : Failed (Ended (c.args.depth - 1) (less_of c.args.room c.args.front)) c.args.octets.now fault =
-    subst (λ (r : Room). Failed (Ended (c.args.depth - 1) r) c.args.octets.now fault) c.less.ensures c.in_err-ended.ensures.failed in
+    let fits : size_fits bounded c.args.around.depth c.args.around.room c.args.around.front c.args.around.constructed None ≡ true =
+    subst (λ (s : Option ℕ). size_fits bounded c.args.around.depth c.args.around.room c.args.around.front c.args.around.constructed s ≡ true) c.in_default.is c.requires.fits in
+    let inside : Failed (Ended (c.args.around.depth - 1) (less_of c.args.around.room c.args.around.front)) c.args.octets.now fault =
+    subst (λ (r : Room). Failed (Ended (c.args.around.depth - 1) r) c.args.octets.now fault) c.less.ensures c.in_err-ended.ensures.failed in
     through c.from_residual.result _ _ c.from_residual.ensures.1
-    (subst (λ (s : Option ℕ). Failed (Contents c.args.depth c.args.room c.args.front (said n) s) c.args.octets.now fault) (sym c.in_default.is)
-    (ended_failed c.args.depth c.args.room c.args.front (tag_of n.tag) n.constructed c.args.octets.now fault (open_room c.args.depth c.args.room c.args.front n.constructed fits).0 inside))
+    (subst (λ (s : Option ℕ). Failed (Contents c.args.around.depth c.args.around.room c.args.around.front n s) c.args.octets.now fault) (sym c.in_default.is)
+    (ended_failed c.args.around.depth c.args.around.room c.args.around.front (tag_of c.args.tag) c.args.around.constructed c.args.octets.now fault (open_room c.args.around.depth c.args.around.room c.args.around.front c.args.around.constructed fits).0 inside))
 
 pub contents_of-returns-in_err-parts-clause-failed :
     goal.contents_of-returns-in_err-parts-clause-failed
 contents_of-returns-in_err-parts-clause-failed t c =
-    let n = c.args.name in
+    let n = named c.args.around.constructed (tag_of c.args.tag) in
     let fault = c.in_err-parts.field-0.0 in
     through c.from_residual-in_err-parts.result _ _ c.from_residual-in_err-parts.ensures.1
-    (subst (λ (s : Option ℕ). Failed (Contents c.args.depth c.args.room c.args.front (said n) s) c.args.octets.now fault) (sym c.in-Some.is)
-    (parts_failed c.args.depth c.args.room c.args.front (tag_of n.tag) n.constructed c.in-Some.n c.args.octets.now fault c.if-name.true c.in_err-parts.ensures.failed))
+    (subst (λ (s : Option ℕ). Failed (Contents c.args.around.depth c.args.around.room c.args.around.front n s) c.args.octets.now fault) (sym c.in-Some.is)
+    (parts_failed c.args.around.depth c.args.around.room c.args.around.front (tag_of c.args.tag) c.args.around.constructed c.in-Some.n c.args.octets.now fault c.if-around.true c.in_err-parts.ensures.failed))
 
 pub contents_of-returns-clause-got : goal.contents_of-returns-clause-got
 contents_of-returns-clause-got t c =
-    let n = c.args.name in
+    let n = named c.args.around.constructed (tag_of c.args.tag) in
     IfOk-weaker c.plain_of.result _ _
-    (λ x g. subst (λ (s : Option ℕ). Got (Contents c.args.depth c.args.room c.args.front (said n) s) c.args.octets.now (tree_of x.0) x.1.now) (sym c.in-Some.is)
-    (contents_plain c.args.depth c.args.room c.args.front (tag_of n.tag) n.constructed c.in-Some.n c.args.octets.now x.1.now (tree_of x.0) c.if-name.false g))
+    (λ x g. subst (λ (s : Option ℕ). Got (Contents c.args.around.depth c.args.around.room c.args.around.front n s) c.args.octets.now (tree_of x.0) x.1.now) (sym c.in-Some.is)
+    (contents_plain c.args.around.depth c.args.around.room c.args.around.front (tag_of c.args.tag) c.args.around.constructed c.in-Some.n c.args.octets.now x.1.now (tree_of x.0) c.if-around.false g))
     c.plain_of.ensures.got
 
 pub contents_of-returns-clause-failed : goal.contents_of-returns-clause-failed
 contents_of-returns-clause-failed t c =
-    let n = c.args.name in
+    let n = named c.args.around.constructed (tag_of c.args.tag) in
     IfErr-weaker c.plain_of.result _ _
-    (λ e f. subst (λ (s : Option ℕ). Failed (Contents c.args.depth c.args.room c.args.front (said n) s) c.args.octets.now e) (sym c.in-Some.is)
-    (contents_wanting c.args.depth c.args.room c.args.front (tag_of n.tag) n.constructed c.in-Some.n c.args.octets.now e c.if-name.false f))
+    (λ e f. subst (λ (s : Option ℕ). Failed (Contents c.args.around.depth c.args.around.room c.args.around.front n s) c.args.octets.now e) (sym c.in-Some.is)
+    (contents_wanting c.args.around.depth c.args.around.room c.args.around.front (tag_of c.args.tag) c.args.around.constructed c.in-Some.n c.args.octets.now e c.if-around.false f))
     c.plain_of.ensures.failed
 
 pub ended_of-returns-in_err-after-clause-failed : goal.ended_of-returns-in_err-after-clause-failed

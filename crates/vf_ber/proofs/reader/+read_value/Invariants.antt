@@ -8,7 +8,7 @@ abbrev pub decreases-value_of : goal.decreases-value_of
 decreases-value_of l = 3 * l.depth + 1
 
 abbrev pub decreases-contents_of : goal.decreases-contents_of
-decreases-contents_of l = 3 * l.depth
+decreases-contents_of l = 3 * l.around.depth
 
 abbrev pub decreases-parts_of : goal.decreases-parts_of
 decreases-parts_of l = 3 * l.depth + 2
