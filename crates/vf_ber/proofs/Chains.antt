@@ -1,4 +1,4 @@
--- One language behind another, and how the answers on the first and on the second are answers on both.
+-- One language after another, and how the answers on the first and on the second are answers on both.
 use Rattle.std.proofs.Common.{◌≡◌, ℕ, Bool, true, false, List, [], ◌∷◌, ◌++◌, length, ap, sym, subst, ◌∙◌, append_assoc, inl, inr, ◌⊎◌}
 use Rattle.std.specs.Prelude.{Result, IfErr, IsErrAnd}
 use Rattle.std.proofs.lemmas.List.{append_cancel_left}
@@ -8,7 +8,7 @@ use Rattle.vf_ber.specs.declared.fault.Fault.TheVariants as faults
 use Rattle.vf_ber.specs.Reading.{Limits, free, shallow, bounded}
 use Rattle.vf_ber.specs.Steps.{Language, Open, Ruled, Got, FaultAt, Failed, Judged}
 
--- the words of H are a word of F, and one of G behind it
+-- the words of H are a word of F, and one of G after it
 pub record Chain {X Y Z : Type 0} (F : Language X) (G : X → List ℕ → Language Y) (H : Language Z) (make : X → Y → Z) : Type 0 where
   pub unique : (l k : Limits) (a b r s : List ℕ) (x y : X) → F l a x → F k b y → a ++ r ≡ b ++ s → (a ≡ b) × (x ≡ y)
   pub lift : (l : Limits) (a : List ℕ) (x : X) → F bounded a x → F l a x
@@ -32,13 +32,13 @@ fault_front : {X Y Z : Type 0} (F : Language X) (G : X → List ℕ → Language
     → (octets : List ℕ) (left : ℕ) (reason other : List ℕ → Type 0) → ((t : List ℕ) → reason t → other t) → FaultAt F octets left reason → FaultAt H octets left other
 fault_front F G H make chain octets left reason other to f =
     record {
-      front = f.front;
+      prefix = f.prefix;
       octet = f.octet;
       rest = f.rest;
       parts = f.parts;
       left_is = f.left_is;
-      before = elim f.before [ inl e ↦ inl e | inr o ↦ inr (open_front F G H make chain bounded f.front o) ];
-      after = to (f.front ++ (f.octet ∷ [])) f.after;
+      before = elim f.before [ inl e ↦ inl e | inr o ↦ inr (open_front F G H make chain bounded f.prefix o) ];
+      after = to (f.prefix ++ (f.octet ∷ [])) f.after;
     }
 
 pub front_failed : {X Y Z : Type 0} (F : Language X) (G : X → List ℕ → Language Y) (H : Language Z) (make : X → Y → Z) → Chain F G H make
@@ -57,7 +57,7 @@ front_failed F G H make chain octets (faults.Long left) f =
     fault_front F G H make chain octets left _ _ (λ t r. (open_front F G H make chain shallow t r.0, ruled_front F G H make chain bounded t r.1)) f
 front_failed F G H make chain octets faults.NoMemory f = tt
 
--- ---- the second behind the first
+-- ---- the second after the first
 
 open_behind : {X Y Z : Type 0} (F : Language X) (G : X → List ℕ → Language Y) (H : Language Z) (make : X → Y → Z) → Chain F G H make
     → (l : Limits) (a t : List ℕ) (x : X) → F bounded a x → Open (G x a) l t → Open H l (a ++ t)
@@ -86,16 +86,16 @@ fault_behind : {X Y Z : Type 0} (F : Language X) (G : X → List ℕ → Languag
     → FaultAt (G x a) rest left reason → FaultAt H octets left other
 fault_behind F G H make chain octets rest a x e f left reason other to at =
     record {
-      front = a ++ at.front;
+      prefix = a ++ at.prefix;
       octet = at.octet;
       rest = at.rest;
-      parts = e ∙ ap (λ o. a ++ o) at.parts ∙ sym (append_assoc a at.front (at.octet ∷ at.rest));
+      parts = e ∙ ap (λ o. a ++ o) at.parts ∙ sym (append_assoc a at.prefix (at.octet ∷ at.rest));
       left_is = at.left_is;
       before = inr (elim at.before [
-        | inl none ↦ open_behind F G H make chain bounded a at.front x f (subst (λ (o : List ℕ). Open (G x a) bounded o) (sym none) (chain.nonempty bounded a x f))
-        | inr o ↦ open_behind F G H make chain bounded a at.front x f o
+        | inl none ↦ open_behind F G H make chain bounded a at.prefix x f (subst (λ (o : List ℕ). Open (G x a) bounded o) (sym none) (chain.nonempty bounded a x f))
+        | inr o ↦ open_behind F G H make chain bounded a at.prefix x f o
       ]);
-      after = subst other (sym (append_assoc a at.front (at.octet ∷ []))) (to (at.front ++ (at.octet ∷ [])) at.after);
+      after = subst other (sym (append_assoc a at.prefix (at.octet ∷ []))) (to (at.prefix ++ (at.octet ∷ [])) at.after);
     }
 
 pub behind_failed : {X Y Z : Type 0} (F : Language X) (G : X → List ℕ → Language Y) (H : Language Z) (make : X → Y → Z) → Chain F G H make
@@ -115,30 +115,30 @@ behind_failed F G H make chain octets rest a x faults.NoMemory e f at = tt
 
 -- ---- an octet that doesn't pass a test
 
-judged_fault : {X : Type 0} (L : Language X) (octets front rest : List ℕ) (octet left : ℕ) (reason : List ℕ → Type 0) → octets ≡ front ++ (octet ∷ rest) → left ≡ length (octet ∷ rest)
-    → (front ≡ []) ⊎ Open L bounded front → reason (front ++ (octet ∷ [])) → FaultAt L octets left reason
-judged_fault L octets front rest octet left reason parts is before after =
-    record { front = front; octet = octet; rest = rest; parts = parts; left_is = is; before = before; after = after }
+judged_fault : {X : Type 0} (L : Language X) (octets prefix rest : List ℕ) (octet left : ℕ) (reason : List ℕ → Type 0) → octets ≡ prefix ++ (octet ∷ rest) → left ≡ length (octet ∷ rest)
+    → (prefix ≡ []) ⊎ Open L bounded prefix → reason (prefix ++ (octet ∷ [])) → FaultAt L octets left reason
+judged_fault L octets prefix rest octet left reason parts is before after =
+    record { prefix = prefix; octet = octet; rest = rest; parts = parts; left_is = is; before = before; after = after }
 
 -- a test that tells whether the octets up to and with one can be completed
 pub record Tells {X : Type 0} (L : Language X) (upto : List ℕ) (test : Limits → Bool) : Type 0 where
   pub opens : (l : Limits) → test l ≡ true → Open L l upto
   pub rules : (l : Limits) → test l ≡ false → Ruled L l upto
 
-pub test_failed : {X : Type 0} (L : Language X) (octets front rest : List ℕ) (octet left : ℕ) (test : Limits → Bool) (fault : Fault) → octets ≡ front ++ (octet ∷ rest) → left ≡ length (octet ∷ rest)
-    → (front ≡ []) ⊎ Open L bounded front → Tells L (front ++ (octet ∷ [])) test → Judged test left fault → Failed L octets fault
-test_failed L octets front rest octet left test faults.Short parts is before tells j = absurd j
-test_failed L octets front rest octet left test (faults.Bad n) parts is before tells (same, failed) =
-    judged_fault L octets front rest octet n _ parts (same ∙ is) before (tells.rules free failed)
-test_failed L octets front rest octet left test (faults.Deep n) parts is before tells (same, passed, failed) =
-    judged_fault L octets front rest octet n _ parts (same ∙ is) before (tells.opens free passed, tells.rules shallow failed)
-test_failed L octets front rest octet left test (faults.Long n) parts is before tells (same, passed, failed) =
-    judged_fault L octets front rest octet n _ parts (same ∙ is) before (tells.opens shallow passed, tells.rules bounded failed)
-test_failed L octets front rest octet left test faults.NoMemory parts is before tells j = absurd j
+pub test_failed : {X : Type 0} (L : Language X) (octets prefix rest : List ℕ) (octet left : ℕ) (test : Limits → Bool) (fault : Fault) → octets ≡ prefix ++ (octet ∷ rest) → left ≡ length (octet ∷ rest)
+    → (prefix ≡ []) ⊎ Open L bounded prefix → Tells L (prefix ++ (octet ∷ [])) test → Judged test left fault → Failed L octets fault
+test_failed L octets prefix rest octet left test faults.Short parts is before tells j = absurd j
+test_failed L octets prefix rest octet left test (faults.Bad n) parts is before tells (same, failed) =
+    judged_fault L octets prefix rest octet n _ parts (same ∙ is) before (tells.rules free failed)
+test_failed L octets prefix rest octet left test (faults.Deep n) parts is before tells (same, passed, failed) =
+    judged_fault L octets prefix rest octet n _ parts (same ∙ is) before (tells.opens free passed, tells.rules shallow failed)
+test_failed L octets prefix rest octet left test (faults.Long n) parts is before tells (same, passed, failed) =
+    judged_fault L octets prefix rest octet n _ parts (same ∙ is) before (tells.opens shallow passed, tells.rules bounded failed)
+test_failed L octets prefix rest octet left test faults.NoMemory parts is before tells j = absurd j
 
 -- ---- a language that says the same of the octets
 
--- The words of M are those of L, where the octets with what is behind them are as P says.
+-- The words of M are those of L, where the octets with what is after them are as P says.
 pub record Carries {X Y : Type 0} (L : Language X) (M : Language Y) (make : X → Y) (P : List ℕ → Type 0) : Type 0 where
   pub onto : (l : Limits) (word : List ℕ) (x : X) → L l word x → M l word (make x)
   pub back : (l : Limits) (word behind : List ℕ) (y : Y) → M l word y → P (word ++ behind) → (x : X) × L l word x
@@ -148,17 +148,17 @@ carried_open L M make P carries l t (w, x, h) = (w, make x, carries.onto l (t ++
 
 carried_fault : {X Y : Type 0} (L : Language X) (M : Language Y) (make : X → Y) (P : List ℕ → Type 0) → Carries L M make P
     → (octets : List ℕ) (left : ℕ) (reason other : List ℕ → Type 0)
-    → ((front rest more : List ℕ) (octet : ℕ) → octets ≡ front ++ (octet ∷ rest) → P ((front ++ (octet ∷ [])) ++ more))
+    → ((prefix rest more : List ℕ) (octet : ℕ) → octets ≡ prefix ++ (octet ∷ rest) → P ((prefix ++ (octet ∷ [])) ++ more))
     → ((t : List ℕ) → ((more : List ℕ) → P (t ++ more)) → reason t → other t) → FaultAt L octets left reason → FaultAt M octets left other
 carried_fault L M make P carries octets left reason other holds to f =
     record {
-      front = f.front;
+      prefix = f.prefix;
       octet = f.octet;
       rest = f.rest;
       parts = f.parts;
       left_is = f.left_is;
-      before = elim f.before [ inl e ↦ inl e | inr o ↦ inr (carried_open L M make P carries bounded f.front o) ];
-      after = to (f.front ++ (f.octet ∷ [])) (λ more. holds f.front f.rest more f.octet f.parts) f.after;
+      before = elim f.before [ inl e ↦ inl e | inr o ↦ inr (carried_open L M make P carries bounded f.prefix o) ];
+      after = to (f.prefix ++ (f.octet ∷ [])) (λ more. holds f.prefix f.rest more f.octet f.parts) f.after;
     }
 
 carried_ruled : {X Y : Type 0} (L : Language X) (M : Language Y) (make : X → Y) (P : List ℕ → Type 0) → Carries L M make P → (l : Limits) (t : List ℕ)
@@ -168,7 +168,7 @@ carried_ruled L M make P carries l t holds ruled word behind rest y m e =
     ruled word behind rest x.0 x.1 e
 
 pub carried_failed : {X Y : Type 0} (L : Language X) (M : Language Y) (make : X → Y) (P : List ℕ → Type 0) → Carries L M make P
-    → (octets : List ℕ) (fault : Fault) → ((front rest more : List ℕ) (octet : ℕ) → octets ≡ front ++ (octet ∷ rest) → P ((front ++ (octet ∷ [])) ++ more))
+    → (octets : List ℕ) (fault : Fault) → ((prefix rest more : List ℕ) (octet : ℕ) → octets ≡ prefix ++ (octet ∷ rest) → P ((prefix ++ (octet ∷ [])) ++ more))
     → Failed L octets fault → Failed M octets fault
 carried_failed L M make P carries octets faults.Short holds (next, w, x, h) = (next, w, make x, carries.onto bounded (octets ++ (next ∷ w)) x h)
 carried_failed L M make P carries octets (faults.Bad left) holds f = carried_fault L M make P carries octets left _ _ holds (carried_ruled L M make P carries free) f

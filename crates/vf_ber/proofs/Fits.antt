@@ -118,24 +118,24 @@ less_fits shallow (Within r) k n f = refl
 less_fits bounded (Within r) k n f = le-leb n (r - k) (omega (arith, leb-true (k + n) r f))
 
 -- what fits without its contents, which are not one octet
-pub fits_without : (l : Limits) (room : Room) (front n : ℕ) → n ≢ 1 → fits l room (front + n) ≡ true → fits l room front ≡ true
-fits_without l (Exact r) front n some f =
-    exact_from front r (elim (exact_cases (front + n) r f) [
+pub fits_without : (l : Limits) (room : Room) (prefix n : ℕ) → n ≢ 1 → fits l room (prefix + n) ≡ true → fits l room prefix ≡ true
+fits_without l (Exact r) prefix n some f =
+    exact_from prefix r (elim (exact_cases (prefix + n) r f) [
       | inl e ↦ elim (cases_eq n 0) [ inl none ↦ inl (omega arith) | inr more ↦ inr (omega arith) ]
       | inr g ↦ inr (omega arith)
     ])
-fits_without free (Within r) front n some f = refl
-fits_without shallow (Within r) front n some f = refl
-fits_without bounded (Within r) front n some f = le-leb front r (omega (arith, leb-true (front + n) r f))
+fits_without free (Within r) prefix n some f = refl
+fits_without shallow (Within r) prefix n some f = refl
+fits_without bounded (Within r) prefix n some f = le-leb prefix r (omega (arith, leb-true (prefix + n) r f))
 
--- a value in front of the rest of an exact room
+-- a value before the rest of an exact room
 pub exact_front : (l : Limits) (n m : ℕ) → m ≢ 1 → fits l (Exact (n + m)) n ≡ true
 exact_front l n m some = exact_from n (n + m) (elim (cases_eq m 0) [ inl none ↦ inl (omega arith) | inr more ↦ inr (omega arith) ])
 
 pub exact_rest : (l : Limits) (n r : ℕ) → fits l (Exact r) n ≡ true → (n ≤ r) × (r - n ≢ 1)
 exact_rest l n r f = elim (exact_cases n r f) [ inl e ↦ (omega arith, λ h. omega arith) | inr g ↦ (omega arith, λ h. omega arith) ]
 
--- a value, and the end of contents behind it
+-- a value, and the end of contents after it
 pub end_behind : (l : Limits) (room : Room) (n : ℕ) → 0 < n → fits l (less room 2) n ≡ true → fits l (less room n) 2 ≡ true
 end_behind l (Exact r) n some f =
     exact_from 2 (r - n) (elim (exact_cases n (r - 2) f) [ inl e ↦ inl (omega arith) | inr g ↦ inr (omega arith) ])
@@ -151,7 +151,7 @@ behind_end free (Within r) n m some f g = refl
 behind_end shallow (Within r) n m some f g = refl
 behind_end bounded (Within r) n m some f g = le-leb (n + m) r (omega (arith, leb-true n (r - 2) f, leb-true m (r - n) g))
 
--- a value in front of others and the end of contents
+-- a value before others and the end of contents
 pub front_of_end : (l : Limits) (room : Room) (n m : ℕ) → m ≢ 1 → fits l room (n + (m + 2)) ≡ true → fits l (less room 2) n ≡ true
 front_of_end l (Exact r) n m some f =
     exact_from n (r - 2) (elim (exact_cases (n + (m + 2)) r f) [
@@ -164,45 +164,45 @@ front_of_end bounded (Within r) n m some f = le-leb n (r - 2) (omega (arith, leb
 
 -- ---- sizes
 
-pub size_lift : (l : Limits) (most : ℕ) (room : Room) (front : ℕ) (constructed : Bool) (size : Option ℕ)
-    → size_fits bounded most room front constructed size ≡ true → size_fits l most room front constructed size ≡ true
-size_lift l most room front false (Some n) h =
-    let both = and_parts (fits bounded room (front + n)) true h in and_from (fits l room (front + n)) true (fits_lift l room (front + n) both.0) refl
-size_lift l most room front true (Some n) h =
+pub size_lift : (l : Limits) (most : ℕ) (room : Room) (prefix : ℕ) (constructed : Bool) (size : Option ℕ)
+    → size_fits bounded most room prefix constructed size ≡ true → size_fits l most room prefix constructed size ≡ true
+size_lift l most room prefix false (Some n) h =
+    let both = and_parts (fits bounded room (prefix + n)) true h in and_from (fits l room (prefix + n)) true (fits_lift l room (prefix + n) both.0) refl
+size_lift l most room prefix true (Some n) h =
     let inner = λ (k : Limits). not (nat_eq n 1) && (nat_eq n 0 || has_depth k (most - 1)) in
-    let both = and_parts (fits bounded room (front + n)) (inner bounded) h in
+    let both = and_parts (fits bounded room (prefix + n)) (inner bounded) h in
     let two = and_parts (not (nat_eq n 1)) (nat_eq n 0 || has_depth bounded (most - 1)) both.1 in
     let deep : (nat_eq n 0 || has_depth l (most - 1)) ≡ true =
     elim (or_cases (nat_eq n 0) (has_depth bounded (most - 1)) two.1) [
       | inl z ↦ or_left (nat_eq n 0) (has_depth l (most - 1)) z
       | inr d ↦ or_right (nat_eq n 0) (has_depth l (most - 1)) (depth_lift l (most - 1) d)
     ] in
-    and_from (fits l room (front + n)) (inner l) (fits_lift l room (front + n) both.0) (and_from (not (nat_eq n 1)) (nat_eq n 0 || has_depth l (most - 1)) two.0 deep)
-size_lift l most room front false None h = absurd cc
-size_lift l most room front true None h = fits_lift l room (front + 2) h
+    and_from (fits l room (prefix + n)) (inner l) (fits_lift l room (prefix + n) both.0) (and_from (not (nat_eq n 1)) (nat_eq n 0 || has_depth l (most - 1)) two.0 deep)
+size_lift l most room prefix false None h = absurd cc
+size_lift l most room prefix true None h = fits_lift l room (prefix + 2) h
 
-pub size_room : (l : Limits) (most : ℕ) (room : Room) (front : ℕ) (constructed : Bool) (n : ℕ) → size_fits l most room front constructed (Some n) ≡ true → fits l room (front + n) ≡ true
-size_room l most room front constructed n h = (and_parts (fits l room (front + n)) (not constructed || (not (nat_eq n 1) && (nat_eq n 0 || has_depth l (most - 1)))) h).0
+pub size_room : (l : Limits) (most : ℕ) (room : Room) (prefix : ℕ) (constructed : Bool) (n : ℕ) → size_fits l most room prefix constructed (Some n) ≡ true → fits l room (prefix + n) ≡ true
+size_room l most room prefix constructed n h = (and_parts (fits l room (prefix + n)) (not constructed || (not (nat_eq n 1) && (nat_eq n 0 || has_depth l (most - 1)))) h).0
 
-pub size_parts : (l : Limits) (most : ℕ) (room : Room) (front n : ℕ) → size_fits l most room front true (Some n) ≡ true → (n ≢ 1) × ((n ≡ 0) ⊎ (has_depth l (most - 1) ≡ true))
-size_parts l most room front n h =
-    let both = and_parts (fits l room (front + n)) (not (nat_eq n 1) && (nat_eq n 0 || has_depth l (most - 1))) h in
+pub size_parts : (l : Limits) (most : ℕ) (room : Room) (prefix n : ℕ) → size_fits l most room prefix true (Some n) ≡ true → (n ≢ 1) × ((n ≡ 0) ⊎ (has_depth l (most - 1) ≡ true))
+size_parts l most room prefix n h =
+    let both = and_parts (fits l room (prefix + n)) (not (nat_eq n 1) && (nat_eq n 0 || has_depth l (most - 1))) h in
     let two = and_parts (not (nat_eq n 1)) (nat_eq n 0 || has_depth l (most - 1)) both.1 in (
       eqb-false n 1 (not-true (nat_eq n 1) two.0),
       elim (or_cases (nat_eq n 0) (has_depth l (most - 1)) two.1) [ inl z ↦ inl (eqb-true n 0 z) | inr d ↦ inr d ],
     )
 
-pub size_from : (l : Limits) (most : ℕ) (room : Room) (front n : ℕ) → fits l room (front + n) ≡ true → n ≢ 1 → (n ≡ 0) ⊎ (has_depth l (most - 1) ≡ true)
-    → size_fits l most room front true (Some n) ≡ true
-size_from l most room front n f some deep =
-    and_from (fits l room (front + n)) (not (nat_eq n 1) && (nat_eq n 0 || has_depth l (most - 1))) f
+pub size_from : (l : Limits) (most : ℕ) (room : Room) (prefix n : ℕ) → fits l room (prefix + n) ≡ true → n ≢ 1 → (n ≡ 0) ⊎ (has_depth l (most - 1) ≡ true)
+    → size_fits l most room prefix true (Some n) ≡ true
+size_from l most room prefix n f some deep =
+    and_from (fits l room (prefix + n)) (not (nat_eq n 1) && (nat_eq n 0 || has_depth l (most - 1))) f
     (and_from (not (nat_eq n 1)) (nat_eq n 0 || has_depth l (most - 1)) (not_from_false (nat_eq n 1) (ne_eqb n 1 some))
     (elim deep [ inl z ↦ or_left (nat_eq n 0) (has_depth l (most - 1)) (eq-eqb n 0 z) | inr d ↦ or_right (nat_eq n 0) (has_depth l (most - 1)) d ]))
 
-pub size_plain : (l : Limits) (most : ℕ) (room : Room) (front n : ℕ) → fits l room (front + n) ≡ true → size_fits l most room front false (Some n) ≡ true
-size_plain l most room front n f = and_from (fits l room (front + n)) true f refl
+pub size_plain : (l : Limits) (most : ℕ) (room : Room) (prefix n : ℕ) → fits l room (prefix + n) ≡ true → size_fits l most room prefix false (Some n) ≡ true
+size_plain l most room prefix n f = and_from (fits l room (prefix + n)) true f refl
 
 -- no contents
-pub size_none : (l : Limits) (most : ℕ) (room : Room) (front : ℕ) (constructed : Bool) → fits l room (front + 0) ≡ true → size_fits l most room front constructed (Some 0) ≡ true
-size_none l most room front false f = size_plain l most room front 0 f
-size_none l most room front true f = size_from l most room front 0 f (λ e. absurd cc) (inl refl)
+pub size_none : (l : Limits) (most : ℕ) (room : Room) (prefix : ℕ) (constructed : Bool) → fits l room (prefix + 0) ≡ true → size_fits l most room prefix constructed (Some 0) ≡ true
+size_none l most room prefix false f = size_plain l most room prefix 0 f
+size_none l most room prefix true f = size_from l most room prefix 0 f (λ e. absurd cc) (inl refl)

@@ -23,7 +23,7 @@ redundant-sign a b octets e = grind (arith, nat_tests)
 sign-redundant : (b : ℕ) (octets : List ℕ) → is_redundant (sign_octet (b ∷ octets) ∷ b ∷ octets) ≡ true
 sign-redundant b octets = grind (arith, nat_tests)
 
--- it has the same sign as the octet behind it
+-- it has the same sign as the octet after it
 sign-same : (a b : ℕ) (octets : List ℕ) → is_redundant (a ∷ b ∷ octets) ≡ true → sign_octet (a ∷ b ∷ octets) ≡ sign_octet (b ∷ octets)
 sign-same a b octets e = grind (arith, nat_tests)
 
@@ -37,7 +37,7 @@ shortened-true a octets e = ap (λ b. cond b (shortened octets) (a ∷ octets)) 
 shortened-false : (a : ℕ) (octets : List ℕ) → is_redundant (a ∷ octets) ≡ false → shortened (a ∷ octets) ≡ a ∷ octets
 shortened-false a octets e = ap (λ b. cond b (shortened octets) (a ∷ octets)) e
 
--- What shortening leaves: nothing can be left out of it, it isn't empty, and the octets are it behind octets of its sign.
+-- What shortening leaves: nothing can be left out of it, it isn't empty, and the octets are it after octets of its sign.
 pub record Shortest (octets short : List ℕ) : Type 0 where
   pub needed : is_redundant short ≡ false
   pub some : 0 < length short

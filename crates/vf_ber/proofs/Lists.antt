@@ -33,7 +33,7 @@ pub take_one : (values : List Value) (place : ℕ) (value : Value) → value ≡
 take_one values place value e lt =
     rw (add-one, take-suc values place value lt, ← e) (trees_in-push (take place values) value)
 
--- a value and those behind it
+-- a value and those after it
 pub drop_one : (values : List Value) (place : ℕ) (value : Value) → value ≡ get_or values (place - 1) value → 0 < place → place ≤ length values
     → trees_in (drop (place - 1) values) ≡ more (tree_of value) (trees_in (drop place values))
 drop_one values zero value e some within = absurd (omega arith)
@@ -48,7 +48,7 @@ spells-drop-le values zero = omega arith
 spells-drop-le [] (suc place) = omega arith
 spells-drop-le (value ∷ values) (suc place) = omega (arith, spells-drop-le values place, length-append (spell (tree_of value)) (spells (trees_in values)))
 
--- how long the spellings are of a value and of those behind it
+-- how long the spellings are of a value and of those after it
 pub spells-one : (values : List Value) (place : ℕ) (value : Value) → value ≡ get_or values (place - 1) value → 0 < place → place ≤ length values
     → length (spell (tree_of value)) + length (spells (trees_in (drop place values))) ≤ length (spells (trees_in values))
 spells-one values place value e some within =

@@ -317,7 +317,7 @@ got_longest most room first second third behind small below h is g le lt =
       | inr r ↦ (first ∷ second ∷ third ∷ [], refl, longest_word bounded most room first second third small below is (first_parts bounded most room first h).deep r.0 lt r.1)
     ]
 
--- octets are wanting behind the first, or behind the second
+-- octets are wanting after the first, or after the second
 pub first_short : (most : ℕ) (room : Room) (first : ℕ) → first < 256 → first_fits bounded most room first ≡ true → first % 32 ≡ 31 → Failed (Names most room) (first ∷ []) faults.Short
 first_short most room first small h is =
     let f = first_parts bounded most room first h in (

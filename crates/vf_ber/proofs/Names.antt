@@ -18,7 +18,6 @@ same_front a b r s n e = sym (take_at a r (length b) n) ∙ ap (take (length b))
 abbrev pub tag : ℕ → ℕ → Tag
 tag class number = record { class = class; number = number }
 
-
 abbrev longer_at : List ℕ → ℕ
 longer_at [] = 0
 longer_at (a ∷ []) = a

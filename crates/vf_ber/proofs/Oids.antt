@@ -135,9 +135,9 @@ oid-read (first ∷ second ∷ arcs) is =
     let high : second ≤ 268435455 = leb-true second 268435455 small'.0 in
     let n = 40 * first + second in
     let read : subidentifiers_at (oid_octets all) ≡ Some (n ∷ arcs) = first-read n (flat_map arc_octets arcs) (omega arith) ∙ ap (option_map (λ ns. n ∷ ns)) (arcs-read arcs small'.1) in
-    let front : root_arc n ≡ first = root-arc first second root.1 in
+    let prefix : root_arc n ≡ first = root-arc first second root.1 in
     let back : n - 40 * first ≡ second = omega arith in
-    let parts : root_arc n ∷ (n - 40 * root_arc n) ∷ arcs ≡ all = ap (λ r. r ∷ (n - 40 * r) ∷ arcs) front ∙ ap (λ s. first ∷ s ∷ arcs) back in
+    let parts : root_arc n ∷ (n - 40 * root_arc n) ∷ arcs ≡ all = ap (λ r. r ∷ (n - 40 * r) ∷ arcs) prefix ∙ ap (λ s. first ∷ s ∷ arcs) back in
     ap (λ o. option_and_then oid_with (option_and_then arcs_of o)) read ∙ ap oid_with parts ∙ ap (λ b. cond b (Some all) None) whole
 
 -- ---- what is read was spelled

@@ -11,7 +11,7 @@ use Rattle.vf_ber.proofs.Names.{same_front, names_same, sizes_same, begins, iden
 pub assoc3 : (a b c r : List ℕ) → (a ++ (b ++ c)) ++ r ≡ a ++ (b ++ (c ++ r))
 assoc3 a b c r = append_assoc a (b ++ c) r ∙ ap (λ o. a ++ o) (append_assoc b c r)
 
--- what stands behind an identifier and a length
+-- what stands after an identifier and a length
 heads_same : (c d : Bool) (t u : Tag) (len other r s : List ℕ) (x y : Option ℕ) → IsSize len x → IsSize other y
     → identifier c t ++ (len ++ r) ≡ identifier d u ++ (other ++ s) → (c ≡ d) × (t ≡ u) × (x ≡ y) × (r ≡ s)
 heads_same c d t u len other r s x y at_len at_other e =

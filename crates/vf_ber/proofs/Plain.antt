@@ -42,9 +42,9 @@ real false b left = tt
 real true false left = tt
 real true true left = tt
 
-checked_answers : {X : Type 0} (L : Language X) (octets front rest : List ℕ) (octet : ℕ) (test : Limits → Bool) (next : Reads X) → octets ≡ front ++ (octet ∷ rest)
-    → (front ≡ []) ⊎ Open L bounded front → Tells L (front ++ (octet ∷ [])) test → (test bounded ≡ true → Answers L octets next) → Answers L octets (checked test (octet ∷ rest) next)
-checked_answers L octets front rest octet test next is before tells passes = by (test bounded) refl
+checked_answers : {X : Type 0} (L : Language X) (octets prefix rest : List ℕ) (octet : ℕ) (test : Limits → Bool) (next : Reads X) → octets ≡ prefix ++ (octet ∷ rest)
+    → (prefix ≡ []) ⊎ Open L bounded prefix → Tells L (prefix ++ (octet ∷ [])) test → (test bounded ≡ true → Answers L octets next) → Answers L octets (checked test (octet ∷ rest) next)
+checked_answers L octets prefix rest octet test next is before tells passes = by (test bounded) refl
   where
     left : ℕ
     left = length (octet ∷ rest)
@@ -52,7 +52,7 @@ checked_answers L octets front rest octet test next is before tells passes = by 
     by : (b : Bool) → test bounded ≡ b → Answers L octets (cond b next (Err (fault_of (test free) (test shallow) (length (octet ∷ rest)))))
     by true e = passes e
     by false e = (
-      test_failed L octets front rest octet (length (octet ∷ rest)) test (fault_of (test free) (test shallow) (length (octet ∷ rest))) is refl before tells
+      test_failed L octets prefix rest octet (length (octet ∷ rest)) test (fault_of (test free) (test shallow) (length (octet ∷ rest))) is refl before tells
           (judged test (length (octet ∷ rest)) (test free) (test shallow) refl refl e),
       real (test free) (test shallow) (length (octet ∷ rest)),
     )
@@ -83,7 +83,7 @@ third_answers most room first second (third ∷ octets) small below h is g far =
     by true e = names.got_longest most room first second third octets small below h is g far (ltb-true third 128 e)
     by false e = (
       record {
-        front = first ∷ second ∷ [];
+        prefix = first ∷ second ∷ [];
         octet = third;
         rest = octets;
         parts = refl;
@@ -133,72 +133,72 @@ name_answers most room first octets =
 
 -- ---- lengths
 
-digit_passed : (most : ℕ) (room : Room) (front : ℕ) (constructed : Bool) (others high digit : ℕ) (octets : List ℕ) (r : Reads ℕ) → digit < 256
-    → reaches bounded most room front constructed others (256 * high + digit) ≡ true → Answers (Digits most room front constructed others (256 * high + digit)) octets r
-    → Answers (Digits most room front constructed (suc others) high) (digit ∷ octets) r
-digit_passed most room front constructed others high digit octets r small h answers = by r answers
+digit_passed : (most : ℕ) (room : Room) (prefix : ℕ) (constructed : Bool) (others high digit : ℕ) (octets : List ℕ) (r : Reads ℕ) → digit < 256
+    → reaches bounded most room prefix constructed others (256 * high + digit) ≡ true → Answers (Digits most room prefix constructed others (256 * high + digit)) octets r
+    → Answers (Digits most room prefix constructed (suc others) high) (digit ∷ octets) r
+digit_passed most room prefix constructed others high digit octets r small h answers = by r answers
   where
-    chain : Chain (sizes.OneDigit most room front constructed (suc others - 1) high) (λ d a. Digits most room front constructed (suc others - 1) (256 * high + d)) (Digits most room front constructed (suc others) high) (λ d n. n)
-    chain = sizes.digit_chain most room front constructed (suc others) high (omega arith)
+    chain : Chain (sizes.OneDigit most room prefix constructed (suc others - 1) high) (λ d a. Digits most room prefix constructed (suc others - 1) (256 * high + d)) (Digits most room prefix constructed (suc others) high) (λ d n. n)
+    chain = sizes.digit_chain most room prefix constructed (suc others) high (omega arith)
 
     same : others ≡ suc others - 1
     same = omega arith
 
-    begun : reaches bounded most room front constructed (suc others - 1) (256 * high + digit) ≡ true
-    begun = subst (λ (k : ℕ). reaches bounded most room front constructed k (256 * high + digit) ≡ true) same h
+    begun : reaches bounded most room prefix constructed (suc others - 1) (256 * high + digit) ≡ true
+    begun = subst (λ (k : ℕ). reaches bounded most room prefix constructed k (256 * high + digit) ≡ true) same h
 
-    by : (r : Reads ℕ) → Answers (Digits most room front constructed others (256 * high + digit)) octets r → Answers (Digits most room front constructed (suc others) high) (digit ∷ octets) r
+    by : (r : Reads ℕ) → Answers (Digits most room prefix constructed others (256 * high + digit)) octets r → Answers (Digits most room prefix constructed (suc others) high) (digit ∷ octets) r
     by (Ok x) g =
         behind_got _ _ _ _ chain (digit ∷ octets) octets x.1 (digit ∷ []) digit x.0 refl (refl, small, begun)
-        (subst (λ (k : ℕ). Got (Digits most room front constructed k (256 * high + digit)) octets x.0 x.1) same g)
+        (subst (λ (k : ℕ). Got (Digits most room prefix constructed k (256 * high + digit)) octets x.0 x.1) same g)
     by (Err fault) (f, is_real) = (
       behind_failed _ _ _ _ chain (digit ∷ octets) octets (digit ∷ []) digit fault refl (refl, small, begun)
-          (subst (λ (k : ℕ). Failed (Digits most room front constructed k (256 * high + digit)) octets fault) same f),
+          (subst (λ (k : ℕ). Failed (Digits most room prefix constructed k (256 * high + digit)) octets fault) same f),
       is_real,
     )
 
-digits_answers : (most : ℕ) (room : Room) (front : ℕ) (constructed : Bool) (others high : ℕ) (octets : List ℕ) → reaches bounded most room front constructed others high ≡ true
-    → Answers (Digits most room front constructed others high) octets (digits_at most room front constructed others high octets)
+digits_answers : (most : ℕ) (room : Room) (prefix : ℕ) (constructed : Bool) (others high : ℕ) (octets : List ℕ) → reaches bounded most room prefix constructed others high ≡ true
+    → Answers (Digits most room prefix constructed others high) octets (digits_at most room prefix constructed others high octets)
 unfolding digits_at
-digits_answers most room front constructed zero high octets h = sizes.no_digits most room front constructed 0 high octets refl h
-digits_answers most room front constructed (suc others) high [] h = (sizes.digits_short most room front constructed (suc others) high (omega arith) h, tt)
-digits_answers most room front constructed (suc others) high (digit ∷ octets) h =
+digits_answers most room prefix constructed zero high octets h = sizes.no_digits most room prefix constructed 0 high octets refl h
+digits_answers most room prefix constructed (suc others) high [] h = (sizes.digits_short most room prefix constructed (suc others) high (omega arith) h, tt)
+digits_answers most room prefix constructed (suc others) high (digit ∷ octets) h =
     let same : suc others - 1 ≡ others = omega arith in
-    let test = λ (l : Limits). reaches l most room front constructed others (256 * high + digit) in
-    checked_answers (Digits most room front constructed (suc others) high) (digit ∷ octets) [] octets digit (λ l. nat_lt digit 256 && test l) _ refl (inl refl)
-    (small_tells (Digits most room front constructed (suc others) high) (digit ∷ []) digit test
-    (λ small. subst (λ (k : ℕ). Tells (Digits most room front constructed (suc others) high) (digit ∷ []) (λ l. reaches l most room front constructed k (256 * high + digit))) same
-    (sizes.digit_tells most room front constructed (suc others) high digit (omega arith) small))
-    (λ l large. sizes.digit_large most room front constructed others high digit l large))
+    let test = λ (l : Limits). reaches l most room prefix constructed others (256 * high + digit) in
+    checked_answers (Digits most room prefix constructed (suc others) high) (digit ∷ octets) [] octets digit (λ l. nat_lt digit 256 && test l) _ refl (inl refl)
+    (small_tells (Digits most room prefix constructed (suc others) high) (digit ∷ []) digit test
+    (λ small. subst (λ (k : ℕ). Tells (Digits most room prefix constructed (suc others) high) (digit ∷ []) (λ l. reaches l most room prefix constructed k (256 * high + digit))) same
+    (sizes.digit_tells most room prefix constructed (suc others) high digit (omega arith) small))
+    (λ l large. sizes.digit_large most room prefix constructed others high digit l large))
     (λ p.
     let q = and_parts (nat_lt digit 256) (test bounded) p in
-    digit_passed most room front constructed others high digit octets (digits_at most room front constructed others (256 * high + digit) octets) (ltb-true digit 256 q.0) q.1
-    (digits_answers most room front constructed others (256 * high + digit) octets q.1))
+    digit_passed most room prefix constructed others high digit octets (digits_at most room prefix constructed others (256 * high + digit) octets) (ltb-true digit 256 q.0) q.1
+    (digits_answers most room prefix constructed others (256 * high + digit) octets q.1))
 
-size_answers : (most : ℕ) (room : Room) (front : ℕ) (constructed : Bool) (octets : List ℕ) → is_roomy bounded room (front + 1) ≡ true
-    → Answers (Sizes most room front constructed) octets (size_at most room front constructed octets)
-size_answers most room front constructed [] roomy = let s = sizes.sizes_some bounded most room front constructed roomy in ((s.0, s.1, Some 0, s.2), tt)
-size_answers most room front constructed (first ∷ octets) roomy =
-    checked_answers (Sizes most room front constructed) (first ∷ octets) [] octets first (λ l. length_fits l most room front constructed first) _ refl (inl refl)
-    (sizes.length_tells most room front constructed first) (λ h. by (nat_lt first 128) (nat_eq first 128) refl refl h)
+size_answers : (most : ℕ) (room : Room) (prefix : ℕ) (constructed : Bool) (octets : List ℕ) → is_roomy bounded room (prefix + 1) ≡ true
+    → Answers (Sizes most room prefix constructed) octets (size_at most room prefix constructed octets)
+size_answers most room prefix constructed [] roomy = let s = sizes.sizes_some bounded most room prefix constructed roomy in ((s.0, s.1, Some 0, s.2), tt)
+size_answers most room prefix constructed (first ∷ octets) roomy =
+    checked_answers (Sizes most room prefix constructed) (first ∷ octets) [] octets first (λ l. length_fits l most room prefix constructed first) _ refl (inl refl)
+    (sizes.length_tells most room prefix constructed first) (λ h. by (nat_lt first 128) (nat_eq first 128) refl refl h)
   where
-    long : (r : Reads ℕ) → length_fits bounded most room front constructed first ≡ true → 128 < first → Answers (Digits most room (front + 1 + (first - 128)) constructed (first - 128) 0) octets r
-        → Answers (Sizes most room front constructed) (first ∷ octets) (then_read r (λ n rest. Ok (Some n, rest)))
-    long (Ok x) h far g = sizes.got_long most room front constructed first x.0 octets x.1 h far g
-    long (Err fault) h far (f, is_real) = (sizes.long_failed most room front constructed first octets fault h far f, is_real)
+    long : (r : Reads ℕ) → length_fits bounded most room prefix constructed first ≡ true → 128 < first → Answers (Digits most room (prefix + 1 + (first - 128)) constructed (first - 128) 0) octets r
+        → Answers (Sizes most room prefix constructed) (first ∷ octets) (then_read r (λ n rest. Ok (Some n, rest)))
+    long (Ok x) h far g = sizes.got_long most room prefix constructed first x.0 octets x.1 h far g
+    long (Err fault) h far (f, is_real) = (sizes.long_failed most room prefix constructed first octets fault h far f, is_real)
 
-    by : (b c : Bool) → nat_lt first 128 ≡ b → nat_eq first 128 ≡ c → length_fits bounded most room front constructed first ≡ true
-        → Answers (Sizes most room front constructed) (first ∷ octets)
+    by : (b c : Bool) → nat_lt first 128 ≡ b → nat_eq first 128 ≡ c → length_fits bounded most room prefix constructed first ≡ true
+        → Answers (Sizes most room prefix constructed) (first ∷ octets)
         (cond b (Ok (Some first, octets)) (cond c (Ok (None, octets))
-        (then_read (digits_at most room (front + 1 + (first - 128)) constructed (first - 128) 0 octets) (λ n rest. Ok (Some n, rest)))))
-    by true c p q h = sizes.got_short most room front constructed first octets h (ltb-true first 128 p)
-    by false true p q h = sizes.got_open most room front constructed first octets h (eqb-true first 128 q)
+        (then_read (digits_at most room (prefix + 1 + (first - 128)) constructed (first - 128) 0 octets) (λ n rest. Ok (Some n, rest)))))
+    by true c p q h = sizes.got_short most room prefix constructed first octets h (ltb-true first 128 p)
+    by false true p q h = sizes.got_open most room prefix constructed first octets h (eqb-true first 128 q)
     by false false p q h =
         let le = ltb-false first 128 p in
         let other = eqb-false first 128 q in
         let far : 128 < first = omega arith in
-        long (digits_at most room (front + 1 + (first - 128)) constructed (first - 128) 0 octets) h far
-        (digits_answers most room (front + 1 + (first - 128)) constructed (first - 128) 0 octets (sizes.long_parts bounded most room front constructed first far h).1)
+        long (digits_at most room (prefix + 1 + (first - 128)) constructed (first - 128) 0 octets) h far
+        (digits_answers most room (prefix + 1 + (first - 128)) constructed (first - 128) 0 octets (sizes.long_parts bounded most room prefix constructed first far h).1)
 
 -- ---- values in turn
 
@@ -287,33 +287,33 @@ ended_answers most value reads (suc turns) room (first ∷ octets) enough roomy 
 
 -- ---- contents
 
-parts_contents : (most : ℕ) (room : Room) (front : ℕ) (t : Tag) (c : Bool) (n : ℕ) (octets : List ℕ) (r : Reads Trees) → c ≡ true → Answers (Parts (most - 1) n) octets r
-    → Answers (Contents most room front (record { constructed = c; tag = t }) (Some n)) octets (then_read r (λ parts rest. Ok (built t parts, rest)))
-parts_contents most room front t c n octets (Ok x) e g = parts_got most room front t c n octets x.1 x.0 e g
-parts_contents most room front t c n octets (Err fault) e (f, is_real) = (parts_failed most room front t c n octets fault e f, is_real)
+parts_contents : (most : ℕ) (room : Room) (prefix : ℕ) (t : Tag) (c : Bool) (n : ℕ) (octets : List ℕ) (r : Reads Trees) → c ≡ true → Answers (Parts (most - 1) n) octets r
+    → Answers (Contents most room prefix (record { constructed = c; tag = t }) (Some n)) octets (then_read r (λ parts rest. Ok (built t parts, rest)))
+parts_contents most room prefix t c n octets (Ok x) e g = parts_got most room prefix t c n octets x.1 x.0 e g
+parts_contents most room prefix t c n octets (Err fault) e (f, is_real) = (parts_failed most room prefix t c n octets fault e f, is_real)
 
-ended_contents : (most : ℕ) (room : Room) (front : ℕ) (t : Tag) (c : Bool) (octets : List ℕ) (r : Reads Trees) → c ≡ true → Answers (Ended (most - 1) (less room front)) octets r
-    → Answers (Contents most room front (record { constructed = c; tag = t }) None) octets (then_read r (λ parts rest. Ok (built t parts, rest)))
-ended_contents most room front t c octets (Ok x) e g = ended_got most room front t c octets x.1 x.0 e g
-ended_contents most room front t c octets (Err fault) e (f, is_real) = (ended_failed most room front t c octets fault e f, is_real)
+ended_contents : (most : ℕ) (room : Room) (prefix : ℕ) (t : Tag) (c : Bool) (octets : List ℕ) (r : Reads Trees) → c ≡ true → Answers (Ended (most - 1) (less room prefix)) octets r
+    → Answers (Contents most room prefix (record { constructed = c; tag = t }) None) octets (then_read r (λ parts rest. Ok (built t parts, rest)))
+ended_contents most room prefix t c octets (Ok x) e g = ended_got most room prefix t c octets x.1 x.0 e g
+ended_contents most room prefix t c octets (Err fault) e (f, is_real) = (ended_failed most room prefix t c octets fault e f, is_real)
 
-plain_contents : (most : ℕ) (room : Room) (front : ℕ) (t : Tag) (n : ℕ) (octets : List ℕ) (b : Bool) → nat_lt (length octets) n ≡ b
-    → Answers (Contents most room front (record { constructed = false; tag = t }) (Some n)) octets (cond b (Err faults.Short) (Ok (plain t (take n octets), drop n octets)))
-plain_contents most room front t n octets true e = (contents_wanting most room front t false n octets faults.Short refl (plain_short t n octets (ltb-true (length octets) n e)), tt)
-plain_contents most room front t n octets false e =
-    contents_plain most room front t false n octets (drop n octets) (plain t (take n octets)) refl (plain_got t n octets (take n octets) (drop n octets) (ltb-false (length octets) n e) refl refl)
+plain_contents : (most : ℕ) (room : Room) (prefix : ℕ) (t : Tag) (n : ℕ) (octets : List ℕ) (b : Bool) → nat_lt (length octets) n ≡ b
+    → Answers (Contents most room prefix (record { constructed = false; tag = t }) (Some n)) octets (cond b (Err faults.Short) (Ok (plain t (take n octets), drop n octets)))
+plain_contents most room prefix t n octets true e = (contents_wanting most room prefix t false n octets faults.Short refl (plain_short t n octets (ltb-true (length octets) n e)), tt)
+plain_contents most room prefix t n octets false e =
+    contents_plain most room prefix t false n octets (drop n octets) (plain t (take n octets)) refl (plain_got t n octets (take n octets) (drop n octets) (ltb-false (length octets) n e) refl refl)
 
-contents_answers : (most : ℕ) (inner : Reader) (room : Room) (front : ℕ) (t : Tag) (c : Bool) (size : Option ℕ) (octets : List ℕ) → IsReader (most - 1) inner
-    → size_fits bounded most room front c size ≡ true
-    → Answers (Contents most room front (record { constructed = c; tag = t }) size) octets (contents_at inner room front (record { constructed = c; tag = t }) size octets)
-contents_answers most inner room front t c None octets reads h =
-    let open_is = open_room most room front c h in
-    ended_contents most room front t c octets (ended_at inner (length octets) (less room front) octets) open_is.0
-    (ended_answers (most - 1) inner reads (length octets) (less room front) octets (omega arith) open_is.1)
-contents_answers most inner room front t true (Some n) octets reads h =
-    let some = parts_room most room front true n refl h in
-    parts_contents most room front t true n octets (parts_at inner n n octets) refl (parts_answers (most - 1) inner reads n n octets (omega arith) some.0 some.1)
-contents_answers most inner room front t false (Some n) octets reads h = plain_contents most room front t n octets (nat_lt (length octets) n) refl
+contents_answers : (most : ℕ) (inner : Reader) (room : Room) (prefix : ℕ) (t : Tag) (c : Bool) (size : Option ℕ) (octets : List ℕ) → IsReader (most - 1) inner
+    → size_fits bounded most room prefix c size ≡ true
+    → Answers (Contents most room prefix (record { constructed = c; tag = t }) size) octets (contents_at inner room prefix (record { constructed = c; tag = t }) size octets)
+contents_answers most inner room prefix t c None octets reads h =
+    let open_is = open_room most room prefix c h in
+    ended_contents most room prefix t c octets (ended_at inner (length octets) (less room prefix) octets) open_is.0
+    (ended_answers (most - 1) inner reads (length octets) (less room prefix) octets (omega arith) open_is.1)
+contents_answers most inner room prefix t true (Some n) octets reads h =
+    let some = parts_room most room prefix true n refl h in
+    parts_contents most room prefix t true n octets (parts_at inner n n octets) refl (parts_answers (most - 1) inner reads n n octets (omega arith) some.0 some.1)
+contents_answers most inner room prefix t false (Some n) octets reads h = plain_contents most room prefix t n octets (nat_lt (length octets) n) refl
 
 -- ---- a value
 

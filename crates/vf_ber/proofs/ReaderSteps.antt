@@ -12,7 +12,6 @@ use Rattle.vf_ber.specs.Reading.{Limits, free, bounded}
 use Rattle.vf_ber.specs.Steps.{Language, Name, Names, Sizes, Definite, Contents, Values, Parts, Ended, Ruled, Got, Failed, IsNoEnd, fits, is_roomy, less, has_depth, size_fits, named}
 use Rattle.vf_ber.proofs.Chains.{Carries, Anything, front_failed, behind_got, behind_failed, carried_failed}
 use Rattle.vf_ber.proofs.Fits.{depth_from, shallow_zero, exact_rest, end_behind, less_fits, size_parts}
-
 use Rattle.vf_ber.proofs.OneTree.{spelling_begins, spelling_long}
 use Rattle.vf_ber.proofs.ValueSteps.{parts_open, ended_open, depth_pos, Body, body_chain, value_chain, parts_chain, Others, ended_chain}
 
@@ -21,12 +20,12 @@ use Rattle.vf_ber.proofs.ValueSteps.{parts_open, ended_open, depth_pos, Body, bo
 got_length : {X : Type 0} (L : Language X) (octets rest : List ℕ) (x : X) (g : Got L octets x rest) → length octets - length rest ≡ length g.0
 got_length L octets rest x g = omega (arith, ap length g.1, length-append g.0 rest)
 
-pub value_got : (most : ℕ) (room : Room) (octets rest contents after : List ℕ) (name : Name) (size : Option ℕ) (tree : Tree) (front whole : ℕ)
-    → Got (Names most room) octets name rest → front ≡ length octets - length rest
-    → Got (Sizes most room front name.constructed) rest size contents → whole ≡ length octets - length contents
+pub value_got : (most : ℕ) (room : Room) (octets rest contents after : List ℕ) (name : Name) (size : Option ℕ) (tree : Tree) (prefix whole : ℕ)
+    → Got (Names most room) octets name rest → prefix ≡ length octets - length rest
+    → Got (Sizes most room prefix name.constructed) rest size contents → whole ≡ length octets - length contents
     → Got (Contents most room whole name size) contents tree after → Got (Values most room) octets tree after
-value_got most room octets rest contents after name size tree front whole (a, is, n) front_is (b, rest_is, s) whole_is c =
-    let taken : front ≡ length a = front_is ∙ got_length (Names most room) octets rest name (a, is, n) in
+value_got most room octets rest contents after name size tree prefix whole (a, is, n) front_is (b, rest_is, s) whole_is c =
+    let taken : prefix ≡ length a = front_is ∙ got_length (Names most room) octets rest name (a, is, n) in
     let total : whole ≡ length a + length b = omega (arith, whole_is, ap length is, length-append a rest, ap length rest_is, length-append b contents) in
     let sizes : Sizes most room (length a) name.constructed bounded b size = subst (λ (k : ℕ). Sizes most room k name.constructed bounded b size) taken s in
     let inner : Got (Contents most room (length a + length b) name size) contents tree after = subst (λ (k : ℕ). Got (Contents most room k name size) contents tree after) total c in
@@ -36,20 +35,20 @@ value_got most room octets rest contents after name size tree front whole (a, is
 pub name_failed : (most : ℕ) (room : Room) (octets : List ℕ) (fault : Fault) → Failed (Names most room) octets fault → Failed (Values most room) octets fault
 name_failed most room octets fault f = front_failed _ _ _ _ (value_chain most room) octets fault f
 
-pub size_failed : (most : ℕ) (room : Room) (octets rest : List ℕ) (name : Name) (front : ℕ) (fault : Fault)
-    → Got (Names most room) octets name rest → front ≡ length octets - length rest
-    → Failed (Sizes most room front name.constructed) rest fault → Failed (Values most room) octets fault
-size_failed most room octets rest name front fault (a, is, n) front_is f =
-    let taken : front ≡ length a = front_is ∙ got_length (Names most room) octets rest name (a, is, n) in
+pub size_failed : (most : ℕ) (room : Room) (octets rest : List ℕ) (name : Name) (prefix : ℕ) (fault : Fault)
+    → Got (Names most room) octets name rest → prefix ≡ length octets - length rest
+    → Failed (Sizes most room prefix name.constructed) rest fault → Failed (Values most room) octets fault
+size_failed most room octets rest name prefix fault (a, is, n) front_is f =
+    let taken : prefix ≡ length a = front_is ∙ got_length (Names most room) octets rest name (a, is, n) in
     let sizes : Failed (Sizes most room (length a) name.constructed) rest fault = subst (λ (k : ℕ). Failed (Sizes most room k name.constructed) rest fault) taken f in
     behind_failed _ _ _ _ (value_chain most room) octets rest a name fault is n (front_failed _ _ _ _ (body_chain most room (length a) name) rest fault sizes)
 
-pub contents_failed : (most : ℕ) (room : Room) (octets rest contents : List ℕ) (name : Name) (size : Option ℕ) (front whole : ℕ) (fault : Fault)
-    → Got (Names most room) octets name rest → front ≡ length octets - length rest
-    → Got (Sizes most room front name.constructed) rest size contents → whole ≡ length octets - length contents
+pub contents_failed : (most : ℕ) (room : Room) (octets rest contents : List ℕ) (name : Name) (size : Option ℕ) (prefix whole : ℕ) (fault : Fault)
+    → Got (Names most room) octets name rest → prefix ≡ length octets - length rest
+    → Got (Sizes most room prefix name.constructed) rest size contents → whole ≡ length octets - length contents
     → Failed (Contents most room whole name size) contents fault → Failed (Values most room) octets fault
-contents_failed most room octets rest contents name size front whole fault (a, is, n) front_is (b, rest_is, s) whole_is c =
-    let taken : front ≡ length a = front_is ∙ got_length (Names most room) octets rest name (a, is, n) in
+contents_failed most room octets rest contents name size prefix whole fault (a, is, n) front_is (b, rest_is, s) whole_is c =
+    let taken : prefix ≡ length a = front_is ∙ got_length (Names most room) octets rest name (a, is, n) in
     let total : whole ≡ length a + length b = omega (arith, whole_is, ap length is, length-append a rest, ap length rest_is, length-append b contents) in
     let sizes : Sizes most room (length a) name.constructed bounded b size = subst (λ (k : ℕ). Sizes most room k name.constructed bounded b size) taken s in
     let inner : Failed (Contents most room (length a + length b) name size) contents fault = subst (λ (k : ℕ). Failed (Contents most room k name size) contents fault) total c in
@@ -77,42 +76,42 @@ plain_short t n octets lt =
     let m : length rest ≡ n - length octets - 1 = z.1 in
     (0, rest, plain t (octets ++ (0 ∷ rest)), (omega (arith, length-append octets (0 ∷ rest), m), refl))
 
-pub contents_plain : (most : ℕ) (room : Room) (front : ℕ) (t : Tag) (c : Bool) (n : ℕ) (octets rest : List ℕ) (tree : Tree) → c ≡ false → Got (Definite 0 n false t) octets tree rest
-    → Got (Contents most room front (named c t) (Some n)) octets tree rest
-contents_plain most room front t true n octets rest tree e g = absurd cc
-contents_plain most room front t false n octets rest tree e g = g
+pub contents_plain : (most : ℕ) (room : Room) (prefix : ℕ) (t : Tag) (c : Bool) (n : ℕ) (octets rest : List ℕ) (tree : Tree) → c ≡ false → Got (Definite 0 n false t) octets tree rest
+    → Got (Contents most room prefix (named c t) (Some n)) octets tree rest
+contents_plain most room prefix t true n octets rest tree e g = absurd cc
+contents_plain most room prefix t false n octets rest tree e g = g
 
-pub contents_wanting : (most : ℕ) (room : Room) (front : ℕ) (t : Tag) (c : Bool) (n : ℕ) (octets : List ℕ) (fault : Fault) → c ≡ false → Failed (Definite 0 n false t) octets fault
-    → Failed (Contents most room front (named c t) (Some n)) octets fault
-contents_wanting most room front t true n octets fault e f = absurd cc
-contents_wanting most room front t false n octets faults.Short e f = f
-contents_wanting most room front t false n octets (faults.Bad left) e f = f
-contents_wanting most room front t false n octets (faults.Deep left) e f = f
-contents_wanting most room front t false n octets (faults.Long left) e f = f
-contents_wanting most room front t false n octets faults.NoMemory e f = f
+pub contents_wanting : (most : ℕ) (room : Room) (prefix : ℕ) (t : Tag) (c : Bool) (n : ℕ) (octets : List ℕ) (fault : Fault) → c ≡ false → Failed (Definite 0 n false t) octets fault
+    → Failed (Contents most room prefix (named c t) (Some n)) octets fault
+contents_wanting most room prefix t true n octets fault e f = absurd cc
+contents_wanting most room prefix t false n octets faults.Short e f = f
+contents_wanting most room prefix t false n octets (faults.Bad left) e f = f
+contents_wanting most room prefix t false n octets (faults.Deep left) e f = f
+contents_wanting most room prefix t false n octets (faults.Long left) e f = f
+contents_wanting most room prefix t false n octets faults.NoMemory e f = f
 
-pub parts_got : (most : ℕ) (room : Room) (front : ℕ) (t : Tag) (c : Bool) (n : ℕ) (octets rest : List ℕ) (parts : Trees) → c ≡ true → Got (Parts (most - 1) n) octets parts rest
-    → Got (Contents most room front (named c t) (Some n)) octets (built t parts) rest
-parts_got most room front t false n octets rest parts e g = absurd cc
-parts_got most room front t true n octets rest parts e (word, is, p) = (word, is, (parts, p, refl))
+pub parts_got : (most : ℕ) (room : Room) (prefix : ℕ) (t : Tag) (c : Bool) (n : ℕ) (octets rest : List ℕ) (parts : Trees) → c ≡ true → Got (Parts (most - 1) n) octets parts rest
+    → Got (Contents most room prefix (named c t) (Some n)) octets (built t parts) rest
+parts_got most room prefix t false n octets rest parts e g = absurd cc
+parts_got most room prefix t true n octets rest parts e (word, is, p) = (word, is, (parts, p, refl))
 
-pub parts_failed : (most : ℕ) (room : Room) (front : ℕ) (t : Tag) (c : Bool) (n : ℕ) (octets : List ℕ) (fault : Fault) → c ≡ true → Failed (Parts (most - 1) n) octets fault
-    → Failed (Contents most room front (named c t) (Some n)) octets fault
-parts_failed most room front t false n octets fault e f = absurd cc
-parts_failed most room front t true n octets fault e f = carried_failed (Parts (most - 1) n) (Contents most room front (named true t) (Some n)) (built t) Anything carries octets fault (λ a b c d h. tt) f
+pub parts_failed : (most : ℕ) (room : Room) (prefix : ℕ) (t : Tag) (c : Bool) (n : ℕ) (octets : List ℕ) (fault : Fault) → c ≡ true → Failed (Parts (most - 1) n) octets fault
+    → Failed (Contents most room prefix (named c t) (Some n)) octets fault
+parts_failed most room prefix t false n octets fault e f = absurd cc
+parts_failed most room prefix t true n octets fault e f = carried_failed (Parts (most - 1) n) (Contents most room prefix (named true t) (Some n)) (built t) Anything carries octets fault (λ a b c d h. tt) f
   where
-    carries : Carries (Parts (most - 1) n) (Contents most room front (named true t) (Some n)) (built t) Anything
+    carries : Carries (Parts (most - 1) n) (Contents most room prefix (named true t) (Some n)) (built t) Anything
     carries = record { onto = λ l word parts p. (parts, p, refl); back = λ l word behind tree h any. (h.0, h.1) }
 
-pub ended_got : (most : ℕ) (room : Room) (front : ℕ) (t : Tag) (c : Bool) (octets rest : List ℕ) (parts : Trees) → c ≡ true → Got (Ended (most - 1) (less room front)) octets parts rest
-    → Got (Contents most room front (named c t) None) octets (built t parts) rest
-ended_got most room front t c octets rest parts e (word, is, p) = (word, is, (parts, p, refl, e))
+pub ended_got : (most : ℕ) (room : Room) (prefix : ℕ) (t : Tag) (c : Bool) (octets rest : List ℕ) (parts : Trees) → c ≡ true → Got (Ended (most - 1) (less room prefix)) octets parts rest
+    → Got (Contents most room prefix (named c t) None) octets (built t parts) rest
+ended_got most room prefix t c octets rest parts e (word, is, p) = (word, is, (parts, p, refl, e))
 
-pub ended_failed : (most : ℕ) (room : Room) (front : ℕ) (t : Tag) (c : Bool) (octets : List ℕ) (fault : Fault) → c ≡ true → Failed (Ended (most - 1) (less room front)) octets fault
-    → Failed (Contents most room front (named c t) None) octets fault
-ended_failed most room front t c octets fault e f = carried_failed (Ended (most - 1) (less room front)) (Contents most room front (named c t) None) (built t) Anything carries octets fault (λ a b c d h. tt) f
+pub ended_failed : (most : ℕ) (room : Room) (prefix : ℕ) (t : Tag) (c : Bool) (octets : List ℕ) (fault : Fault) → c ≡ true → Failed (Ended (most - 1) (less room prefix)) octets fault
+    → Failed (Contents most room prefix (named c t) None) octets fault
+ended_failed most room prefix t c octets fault e f = carried_failed (Ended (most - 1) (less room prefix)) (Contents most room prefix (named c t) None) (built t) Anything carries octets fault (λ a b c d h. tt) f
   where
-    carries : Carries (Ended (most - 1) (less room front)) (Contents most room front (named c t) None) (built t) Anything
+    carries : Carries (Ended (most - 1) (less room prefix)) (Contents most room prefix (named c t) None) (built t) Anything
     carries = record { onto = λ l word parts p. (parts, p, refl, e); back = λ l word behind tree h any. (h.0, h.1) }
 
 -- ---- values in turn, as a loop reads them
@@ -194,15 +193,15 @@ others_carry most room = record { onto = λ l word parts o. o.3; back = back }
         let zero_first : 0 ≡ first = cc in absurd (omega arith)
     back l word behind (more part parts) ended starts = (more part parts, (part, parts, refl, ended))
 
-starts_on : (octets front rest others : List ℕ) (first octet : ℕ) → 0 < first → octets ≡ first ∷ rest → octets ≡ front ++ (octet ∷ others) → (behind : List ℕ) → StartsAbove ((front ++ (octet ∷ [])) ++ behind)
+starts_on : (octets prefix rest others : List ℕ) (first octet : ℕ) → 0 < first → octets ≡ first ∷ rest → octets ≡ prefix ++ (octet ∷ others) → (behind : List ℕ) → StartsAbove ((prefix ++ (octet ∷ [])) ++ behind)
 starts_on octets [] rest others first octet above is parts behind =
     let same : first ∷ rest ≡ octet ∷ others = sym is ∙ parts in let e : first ≡ octet = cc in (octet, behind, omega arith, refl)
-starts_on octets (x ∷ front) rest others first octet above is parts behind =
-    let same : first ∷ rest ≡ x ∷ (front ++ (octet ∷ others)) = sym is ∙ parts in let e : first ≡ x = cc in (x, (front ++ (octet ∷ [])) ++ behind, omega arith, refl)
+starts_on octets (x ∷ prefix) rest others first octet above is parts behind =
+    let same : first ∷ rest ≡ x ∷ (prefix ++ (octet ∷ others)) = sym is ∙ parts in let e : first ≡ x = cc in (x, (prefix ++ (octet ∷ [])) ++ behind, omega arith, refl)
 
 others_failed : (most : ℕ) (room : Room) (octets rest : List ℕ) (first : ℕ) (fault : Fault) → 0 < first → octets ≡ first ∷ rest → Failed (Others most room) octets fault → Failed (Ended most room) octets fault
 others_failed most room octets rest first fault above is f =
-    carried_failed _ _ _ _ (others_carry most room) octets fault (λ front others behind octet parts. starts_on octets front rest others first octet above is parts behind) f
+    carried_failed _ _ _ _ (others_carry most room) octets fault (λ prefix others behind octet parts. starts_on octets prefix rest others first octet above is parts behind) f
 
 pub ended_next : (most first : ℕ) (room left less_left : Room) (octets rest behind after : List ℕ) (parts all : Trees) (tree : Tree) → 0 < first → rest ≡ first ∷ behind → EndedSoFar most room left octets rest parts
     → Got (Values most (less left 2)) rest tree after → less_left ≡ less left (length rest - length after) → all ≡ joined parts (more tree none)
@@ -252,7 +251,7 @@ no_end most room octets behind faults.Short roomy is none_left =
     subst (λ (o : List ℕ). Failed (Ended most room) o faults.Short) (sym (is ∙ ap (λ o. 0 ∷ o) none_left)) (0, [], none, ended_open bounded most room roomy)
 no_end most room octets behind (faults.Bad left) roomy is (next, rest, behind_is, above, left_is) =
     record {
-      front = 0 ∷ [];
+      prefix = 0 ∷ [];
       octet = next;
       rest = rest;
       parts = is ∙ ap (λ o. 0 ∷ o) behind_is;
@@ -270,28 +269,28 @@ ended_wrong most room left octets rest behind parts fault rest_is h so_far = so_
 
 -- ---- what the reader may ask of its parts
 
-pub name_facts : (most : ℕ) (room : Room) (octets rest : List ℕ) (name : Name) (front : ℕ) → Got (Names most room) octets name rest → front ≡ length octets - length rest
-    → (length rest ≤ length octets) × (has_depth bounded most ≡ true) × (is_roomy bounded room (front + 1) ≡ true)
-name_facts most room octets rest name front (a, is, n) front_is =
-    let taken : length a ≡ front = sym (front_is ∙ got_length (Names most room) octets rest name (a, is, n)) in
+pub name_facts : (most : ℕ) (room : Room) (octets rest : List ℕ) (name : Name) (prefix : ℕ) → Got (Names most room) octets name rest → prefix ≡ length octets - length rest
+    → (length rest ≤ length octets) × (has_depth bounded most ≡ true) × (is_roomy bounded room (prefix + 1) ≡ true)
+name_facts most room octets rest name prefix (a, is, n) front_is =
+    let taken : length a ≡ prefix = sym (front_is ∙ got_length (Names most room) octets rest name (a, is, n)) in
     (omega (arith, ap length is, length-append a rest), n.2, subst (λ (k : ℕ). is_roomy bounded room (k + 1) ≡ true) taken n.3)
 
-pub size_facts : (most : ℕ) (room : Room) (octets rest contents : List ℕ) (name : Name) (size : Option ℕ) (front whole : ℕ)
-    → Got (Names most room) octets name rest → front ≡ length octets - length rest
-    → Got (Sizes most room front name.constructed) rest size contents → whole ≡ length octets - length contents
+pub size_facts : (most : ℕ) (room : Room) (octets rest contents : List ℕ) (name : Name) (size : Option ℕ) (prefix whole : ℕ)
+    → Got (Names most room) octets name rest → prefix ≡ length octets - length rest
+    → Got (Sizes most room prefix name.constructed) rest size contents → whole ≡ length octets - length contents
     → (length contents ≤ length octets) × (size_fits bounded most room whole name.constructed size ≡ true)
-size_facts most room octets rest contents name size front whole (a, is, n) front_is (b, rest_is, s) whole_is =
-    let total : front + length b ≡ whole = omega (arith, front_is, whole_is, ap length is, length-append a rest, ap length rest_is, length-append b contents) in (
+size_facts most room octets rest contents name size prefix whole (a, is, n) front_is (b, rest_is, s) whole_is =
+    let total : prefix + length b ≡ whole = omega (arith, front_is, whole_is, ap length is, length-append a rest, ap length rest_is, length-append b contents) in (
       omega (arith, ap length is, length-append a rest, ap length rest_is, length-append b contents),
       subst (λ (k : ℕ). size_fits bounded most room k name.constructed size ≡ true) total s.1,
     )
 
-pub open_room : (most : ℕ) (room : Room) (front : ℕ) (c : Bool) → size_fits bounded most room front c None ≡ true → (c ≡ true) × (fits bounded (less room front) 2 ≡ true)
-open_room most room front false f = absurd cc
-open_room most room front true f = (refl, less_fits bounded room front 2 f)
+pub open_room : (most : ℕ) (room : Room) (prefix : ℕ) (c : Bool) → size_fits bounded most room prefix c None ≡ true → (c ≡ true) × (fits bounded (less room prefix) 2 ≡ true)
+open_room most room prefix false f = absurd cc
+open_room most room prefix true f = (refl, less_fits bounded room prefix 2 f)
 
-pub parts_room : (most : ℕ) (room : Room) (front : ℕ) (c : Bool) (n : ℕ) → c ≡ true → size_fits bounded most room front c (Some n) ≡ true → (n ≢ 1) × (0 < n → 0 < most - 1)
-parts_room most room front false n e f = absurd cc
-parts_room most room front true n e f =
-    let p = size_parts bounded most room front n f in
+pub parts_room : (most : ℕ) (room : Room) (prefix : ℕ) (c : Bool) (n : ℕ) → c ≡ true → size_fits bounded most room prefix c (Some n) ≡ true → (n ≢ 1) × (0 < n → 0 < most - 1)
+parts_room most room prefix false n e f = absurd cc
+parts_room most room prefix true n e f =
+    let p = size_parts bounded most room prefix n f in
     (p.0, λ some. elim p.1 [ inl z ↦ absurd (omega arith) | inr d ↦ ltb-true 0 (most - 1) d ])

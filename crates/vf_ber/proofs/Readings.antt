@@ -139,28 +139,28 @@ pub whole_read : (octets rest : List ℕ) (tree : Tree) → Got (Values 32 (With
     → (length rest ≤ length octets) × IsReading octets (Read tree (length octets - length rest))
 whole_read octets rest tree (word, is, v) =
     let n : length word ≡ length octets - length rest = omega (arith, ap length is, length-append word rest) in
-    let front : take (length octets - length rest) octets ≡ word = ap (take (length octets - length rest)) is ∙ take_at word rest (length octets - length rest) n in
-    (omega (arith, ap length is, length-append word rest), (omega arith, subst (λ (o : List ℕ). IsSpelling bounded o tree) (sym front) (spelling_from bounded word tree v)))
+    let prefix : take (length octets - length rest) octets ≡ word = ap (take (length octets - length rest)) is ∙ take_at word rest (length octets - length rest) n in
+    (omega (arith, ap length is, length-append word rest), (omega arith, subst (λ (o : List ℕ). IsSpelling bounded o tree) (sym prefix) (spelling_from bounded word tree v)))
 
 pub fault_first : (octets : List ℕ) (left : ℕ) (reason : List ℕ → Type 0) → ((t : List ℕ) → reason t → Ruled (Values 32 (Within 1048576)) bounded t) → FaultAt (Values 32 (Within 1048576)) octets left reason
     → (left ≤ length octets) × (length octets - left ≤ 1048576) × IsFirstFault octets (length octets - left) × reason (take (length octets - left + 1) octets)
 fault_first octets left reason to f =
     let at = length octets - left in
-    let front : List ℕ = f.front in
-    let upto : List ℕ = f.front ++ (f.octet ∷ []) in
-    let n : length octets ≡ length front + length (f.octet ∷ f.rest) = ap length f.parts ∙ length-append front (f.octet ∷ f.rest) in
+    let prefix : List ℕ = f.prefix in
+    let upto : List ℕ = f.prefix ++ (f.octet ∷ []) in
+    let n : length octets ≡ length prefix + length (f.octet ∷ f.rest) = ap length f.parts ∙ length-append prefix (f.octet ∷ f.rest) in
     let left_is = f.left_is in
-    let place : length front ≡ at = omega arith in
-    let longer : length upto ≡ at + 1 = omega (arith, length-append front (f.octet ∷ [])) in
-    let apart : octets ≡ upto ++ f.rest = f.parts ∙ sym (append_assoc front (f.octet ∷ []) f.rest) in
-    let taken : take at octets ≡ front = ap (take at) f.parts ∙ take_at front (f.octet ∷ f.rest) at place in
+    let place : length prefix ≡ at = omega arith in
+    let longer : length upto ≡ at + 1 = omega (arith, length-append prefix (f.octet ∷ [])) in
+    let apart : octets ≡ upto ++ f.rest = f.parts ∙ sym (append_assoc prefix (f.octet ∷ []) f.rest) in
+    let taken : take at octets ≡ prefix = ap (take at) f.parts ∙ take_at prefix (f.octet ∷ f.rest) at place in
     let next : take (at + 1) octets ≡ upto = ap (take (at + 1)) apart ∙ take_at upto f.rest (at + 1) longer in
     let ruled : Ruled (Values 32 (Within 1048576)) bounded upto = to upto f.after in
-    let begun : Begins bounded front =
-    elim f.before [ inl e ↦ subst (λ (o : List ℕ). Begins bounded o) (sym e) (128 ∷ 0 ∷ [], plain (record { class = 2; number = 0 }) [], a_spelling) | inr o ↦ open_begins bounded front o ] in
-    let short : length (front ++ begun.0) ≤ 1048576 = begun.2.1.1 in (
+    let begun : Begins bounded prefix =
+    elim f.before [ inl e ↦ subst (λ (o : List ℕ). Begins bounded o) (sym e) (128 ∷ 0 ∷ [], plain (record { class = 2; number = 0 }) [], a_spelling) | inr o ↦ open_begins bounded prefix o ] in
+    let short : length (prefix ++ begun.0) ≤ 1048576 = begun.2.1.1 in (
       omega arith,
-      omega (arith, short, length-append front begun.0),
+      omega (arith, short, length-append prefix begun.0),
       record {
         there = omega arith;
         before = subst (λ (o : List ℕ). Begins bounded o) (sym taken) begun;

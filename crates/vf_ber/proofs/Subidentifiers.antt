@@ -4,7 +4,7 @@ use Rattle.std.specs.Prelude.{Some, None, ◌||◌}
 use Rattle.std.specs.Option.{option_and_then, option_map}
 use Rattle.vf_ber.specs.Primitive.{groups_of, led_by, septets, is_padded, subidentifier_of}
 
--- Octets with bit 8 set, and one with bit 8 clear behind them, are the first group.
+-- Octets with bit 8 set, and one with bit 8 clear after them, are the first group.
 pub first_group : (octets : List ℕ) (i : ℕ) → i < length octets → ((k : ℕ) → k < i → 128 ≤ get_or octets k 0) → get_or octets i 0 < 128
     → groups_of octets ≡ option_map (λ groups. take (suc i) octets ∷ groups) (groups_of (drop (suc i) octets))
 first_group [] i within above below = absurd (omega arith)
@@ -41,11 +41,11 @@ too_large group i n within large e =
       | false ↦ rw (lt-ltb 268435583 (septets 0 group) past) refl
     ]
 
--- the first group and what is behind it
-pub cut_behind : (octets front back : List ℕ) (i : ℕ) → i < length octets → ((k : ℕ) → k < i → 128 ≤ get_or octets k 0) → get_or octets i 0 < 128
-    → front ≡ take (i + 1) octets → back ≡ drop (i + 1) octets → groups_of octets ≡ option_map (λ groups. front ∷ groups) (groups_of back)
-cut_behind octets front back i within above below f b =
+-- the first group and what is after it
+pub cut_behind : (octets prefix back : List ℕ) (i : ℕ) → i < length octets → ((k : ℕ) → k < i → 128 ≤ get_or octets k 0) → get_or octets i 0 < 128
+    → prefix ≡ take (i + 1) octets → back ≡ drop (i + 1) octets → groups_of octets ≡ option_map (λ groups. prefix ∷ groups) (groups_of back)
+cut_behind octets prefix back i within above below f b =
     first_group octets i within above below
     ∙ ap (λ n. option_map (λ groups. take n octets ∷ groups) (groups_of (drop n octets))) (sym (add-one i))
     ∙ ap (λ x. option_map (λ groups. x ∷ groups) (groups_of (drop (i + 1) octets))) (sym f)
-    ∙ ap (λ x. option_map (λ groups. front ∷ groups) (groups_of x)) (sym b)
+    ∙ ap (λ x. option_map (λ groups. prefix ∷ groups) (groups_of x)) (sym b)

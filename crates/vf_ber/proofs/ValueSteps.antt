@@ -56,47 +56,47 @@ depth_pos (built t parts) = omega arith
 -- ---- a length and contents
 
 abbrev pub Body : ℕ → Room → ℕ → Name → Language Tree
-Body most room front name l octets tree =
-    (len : List ℕ) × (body : List ℕ) × (size : Option ℕ) × Sizes most room front name.constructed l len size
-    × Contents most room (front + length len) name size l body tree × (octets ≡ len ++ body)
+Body most room prefix name l octets tree =
+    (len : List ℕ) × (body : List ℕ) × (size : Option ℕ) × Sizes most room prefix name.constructed l len size
+    × Contents most room (prefix + length len) name size l body tree × (octets ≡ len ++ body)
 
-contents_open : (l : Limits) (most : ℕ) (room : Room) (front : ℕ) (c : Bool) (t : Tag) (size : Option ℕ) → size_fits l most room front c size ≡ true
-    → Open (Contents most room front (named c t) size) l []
-contents_open l most room front true t (Some n) f =
-    let p = size_parts l most room front n f in
+contents_open : (l : Limits) (most : ℕ) (room : Room) (prefix : ℕ) (c : Bool) (t : Tag) (size : Option ℕ) → size_fits l most room prefix c size ≡ true
+    → Open (Contents most room prefix (named c t) size) l []
+contents_open l most room prefix true t (Some n) f =
+    let p = size_parts l most room prefix n f in
     let o = parts_open l (most - 1) n p.0 p.1 in
     (o.0, built t o.1, (o.1, o.2, refl))
-contents_open l most room front false t (Some n) f =
+contents_open l most room prefix false t (Some n) f =
     let o = zeros n in
     (o.0, plain t o.0, (o.1, refl))
   where
     zeros : (n : ℕ) → (octets : List ℕ) × (length octets ≡ n)
     zeros zero = ([], refl)
     zeros (suc n) = let rest = zeros n in (0 ∷ rest.0, ap suc rest.1)
-contents_open l most room front true t None f = (0 ∷ 0 ∷ [], built t none, (none, ended_open l (most - 1) (less room front) (less_fits l room front 2 f), refl, refl))
-contents_open l most room front false t None f = absurd cc
+contents_open l most room prefix true t None f = (0 ∷ 0 ∷ [], built t none, (none, ended_open l (most - 1) (less room prefix) (less_fits l room prefix 2 f), refl, refl))
+contents_open l most room prefix false t None f = absurd cc
 
-pub body_chain : (most : ℕ) (room : Room) (front : ℕ) (name : Name)
-    → Chain (Sizes most room front name.constructed) (λ size a. Contents most room (front + length a) name size) (Body most room front name) (λ size tree. tree)
-body_chain most room front name = record { unique = unique; lift = lift; nonempty = nonempty; join = join; split = split }
+pub body_chain : (most : ℕ) (room : Room) (prefix : ℕ) (name : Name)
+    → Chain (Sizes most room prefix name.constructed) (λ size a. Contents most room (prefix + length a) name size) (Body most room prefix name) (λ size tree. tree)
+body_chain most room prefix name = record { unique = unique; lift = lift; nonempty = nonempty; join = join; split = split }
   where
     c : Bool
     c = name.constructed
 
-    unique : (l k : Limits) (a b r s : List ℕ) (x y : Option ℕ) → Sizes most room front name.constructed l a x → Sizes most room front name.constructed k b y → a ++ r ≡ b ++ s → (a ≡ b) × (x ≡ y)
+    unique : (l k : Limits) (a b r s : List ℕ) (x y : Option ℕ) → Sizes most room prefix name.constructed l a x → Sizes most room prefix name.constructed k b y → a ++ r ≡ b ++ s → (a ≡ b) × (x ≡ y)
     unique l k a b r s x y (is, f) (other, g) e = sizes_same a b r s x y is other e
 
-    lift : (l : Limits) (a : List ℕ) (x : Option ℕ) → Sizes most room front name.constructed bounded a x → Sizes most room front name.constructed l a x
-    lift l a x (is, f) = (is, size_lift l most room (front + length a) name.constructed x f)
+    lift : (l : Limits) (a : List ℕ) (x : Option ℕ) → Sizes most room prefix name.constructed bounded a x → Sizes most room prefix name.constructed l a x
+    lift l a x (is, f) = (is, size_lift l most room (prefix + length a) name.constructed x f)
 
-    nonempty : (l : Limits) (a : List ℕ) (x : Option ℕ) → Sizes most room front name.constructed l a x → Open (Contents most room (front + length a) name x) l []
-    nonempty l a x (is, f) = contents_open l most room (front + length a) name.constructed name.tag x f
+    nonempty : (l : Limits) (a : List ℕ) (x : Option ℕ) → Sizes most room prefix name.constructed l a x → Open (Contents most room (prefix + length a) name x) l []
+    nonempty l a x (is, f) = contents_open l most room (prefix + length a) name.constructed name.tag x f
 
-    join : (l : Limits) (a b : List ℕ) (x : Option ℕ) (tree : Tree) → Sizes most room front name.constructed l a x → Contents most room (front + length a) name x l b tree → Body most room front name l (a ++ b) tree
+    join : (l : Limits) (a b : List ℕ) (x : Option ℕ) (tree : Tree) → Sizes most room prefix name.constructed l a x → Contents most room (prefix + length a) name x l b tree → Body most room prefix name l (a ++ b) tree
     join l a b x tree sizes contents = (a, b, x, sizes, contents, refl)
 
-    split : (l : Limits) (o : List ℕ) (tree : Tree) → Body most room front name l o tree
-        → (a : List ℕ) × (b : List ℕ) × (x : Option ℕ) × (y : Tree) × Sizes most room front name.constructed l a x × Contents most room (front + length a) name x l b y × (o ≡ a ++ b)
+    split : (l : Limits) (o : List ℕ) (tree : Tree) → Body most room prefix name l o tree
+        → (a : List ℕ) × (b : List ℕ) × (x : Option ℕ) × (y : Tree) × Sizes most room prefix name.constructed l a x × Contents most room (prefix + length a) name x l b y × (o ≡ a ++ b)
     split l o tree (len, body, size, sizes, contents, is) = (len, body, size, tree, sizes, contents, is)
 
 -- ---- a value
@@ -121,15 +121,15 @@ value_join l most room a len body true t (Some n) tree (is, fits_tag, deep, room
       subst (λ (k : ℕ). fits l room k ≡ true) total (size_room l most room (length a + length len) true n f),
     )
 value_join l most room a len body true t None tree (is, fits_tag, deep, roomy) (len_is, f) (parts, (contents, inside, shallow_parts, body_is, g), tree_is, same) =
-    let front = length a + length len in
-    let total : front + length body ≡ length (a ++ (len ++ body)) = sym (whole_length a len body) in
+    let prefix = length a + length len in
+    let total : prefix + length body ≡ length (a ++ (len ++ body)) = sym (whole_length a len body) in
     let spelled : a ++ (len ++ body) ≡ identifier true t ++ (128 ∷ (contents ++ (0 ∷ 0 ∷ []))) =
     ap (λ o. o ++ (len ++ body)) is ∙ ap (λ o. identifier true t ++ (o ++ body)) len_is ∙ ap (λ o. identifier true t ++ (128 ∷ o)) body_is in
     subst (λ (v : Tree). Values most room l (a ++ (len ++ body)) v) (sym tree_is) (
       (fits_tag, (contents, inside, inr spelled)),
       shallow_around l most (depth_in parts) deep shallow_parts,
       subst (λ (k : ℕ). fits l room k ≡ true) total
-          (fits_less l room front (length body) front (omega arith) (fits_roomy l room (front + 2) front (omega arith) f) g),
+          (fits_less l room prefix (length body) prefix (omega arith) (fits_roomy l room (prefix + 2) prefix (omega arith) f) g),
     )
 value_join l most room a len body false t None tree names sizes (parts, ended, tree_is, same) = absurd cc
 

@@ -17,7 +17,7 @@ abbrev pub boolean_of : Tree → Option Bool
 boolean_of (plain tag octets) = boolean_at octets
 boolean_of (built tag parts) = None
 
--- what stands in front of two's complement without changing it
+-- what stands before two's complement without changing it
 abbrev pub sign_octet : List ℕ → ℕ
 sign_octet [] = 0
 sign_octet (octet ∷ octets) = if nat_lt octet 128 then 0 else 255
@@ -37,7 +37,7 @@ abbrev pub integer_of : Tree → Option ℤ
 integer_of (plain tag octets) = integer_at octets
 integer_of (built tag parts) = None
 
--- Octets cut behind each one whose bit 8 is clear, where the last one's is (8.19.2).
+-- Octets cut after each one whose bit 8 is clear, where the last one's is (8.19.2).
 abbrev pub led_by : ℕ → List (List ℕ) → Option (List (List ℕ))
 led_by octet [] = None
 led_by octet (group ∷ groups) = Some ((octet ∷ group) ∷ groups)
@@ -48,7 +48,7 @@ groups_of (octet ∷ octets) =
     if nat_lt octet 128 then option_map (λ groups. (octet ∷ []) ∷ groups) (groups_of octets)
     else option_and_then (led_by octet) (groups_of octets)
 
--- the number that seven bits of each octet make, behind a number from octets in front
+-- the number that seven bits of each octet make, after a number from octets before them
 abbrev pub septets : ℕ → List ℕ → ℕ
 septets n [] = n
 septets n (octet ∷ octets) = septets (128 * n + octet % 128) octets

@@ -1,5 +1,5 @@
 -- The reading on octets as a plain program finds it, octet by octet: at each it asks whether a value can still be
--- completed behind it. A law says that it is the reading.
+-- completed after it. A law says that it is the reading.
 use Rattle.std.specs.Prelude.{ℕ, zero, suc, ◌+◌, ◌-◌, ◌*◌, ◌/◌, ◌%◌, Bool, ◌&&◌, nat_eq, nat_lt, List, [], ◌∷◌, length, take, drop, Option, Some, None, Result, Ok, Err, if◌then◌else◌}
 use Rattle.vf_base.specs.declared.limits.TheConstants.{MOST_VALUE_OCTETS}
 use Rattle.vf_ber.specs.declared.limits.TheConstants.{MOST_DEPTH}
@@ -11,7 +11,7 @@ use Rattle.vf_ber.specs.Tree.{Tree, plain, built, Trees, none, more}
 use Rattle.vf_ber.specs.Reading.{Limits, free, shallow, bounded, Reading, Read, Short, Bad, Deep, Long}
 use Rattle.vf_ber.specs.Steps.{Name, fault_of, first_fits, second_fits, less, length_fits, reaches}
 
--- what is read in front of octets, and those behind it
+-- what is read of the octets, and those after it
 abbrev pub Reads : Type 0 → Type 0
 Reads X = Result (X × List ℕ) Fault
 
@@ -49,19 +49,19 @@ name_at most room (first ∷ octets) =
 -- ---- lengths
 
 unfoldable pub digits_at : ℕ → Room → ℕ → Bool → ℕ → ℕ → List ℕ → Reads ℕ
-digits_at most room front constructed zero high octets = Ok (high, octets)
-digits_at most room front constructed (suc others) high [] = Err faults.Short
-digits_at most room front constructed (suc others) high (digit ∷ octets) =
-    checked (λ limits. nat_lt digit 256 && reaches limits most room front constructed others (256 * high + digit)) (digit ∷ octets)
-    (digits_at most room front constructed others (256 * high + digit) octets)
+digits_at most room prefix constructed zero high octets = Ok (high, octets)
+digits_at most room prefix constructed (suc others) high [] = Err faults.Short
+digits_at most room prefix constructed (suc others) high (digit ∷ octets) =
+    checked (λ limits. nat_lt digit 256 && reaches limits most room prefix constructed others (256 * high + digit)) (digit ∷ octets)
+    (digits_at most room prefix constructed others (256 * high + digit) octets)
 
 abbrev pub size_at : ℕ → Room → ℕ → Bool → List ℕ → Reads (Option ℕ)
-size_at most room front constructed [] = Err faults.Short
-size_at most room front constructed (first ∷ octets) =
-    checked (λ limits. length_fits limits most room front constructed first) (first ∷ octets)
+size_at most room prefix constructed [] = Err faults.Short
+size_at most room prefix constructed (first ∷ octets) =
+    checked (λ limits. length_fits limits most room prefix constructed first) (first ∷ octets)
     (if nat_lt first 128 then Ok (Some first, octets)
     else (if nat_eq first 128 then Ok (None, octets)
-    else then_read (digits_at most room (front + 1 + (first - 128)) constructed (first - 128) 0 octets) (λ n rest. Ok (Some n, rest))))
+    else then_read (digits_at most room (prefix + 1 + (first - 128)) constructed (first - 128) 0 octets) (λ n rest. Ok (Some n, rest))))
 
 -- ---- values
 
@@ -90,9 +90,9 @@ ended_at value (suc turns) room (first ∷ octets) =
     then_read (ended_at value turns (less room (length (first ∷ octets) - length rest)) rest) (λ parts behind. Ok (more part parts, behind)))
 
 abbrev pub contents_at : Reader → Room → ℕ → Name → Option ℕ → List ℕ → Reads Tree
-contents_at value room front name None octets =
-    then_read (ended_at value (length octets) (less room front) octets) (λ parts rest. Ok (built name.tag parts, rest))
-contents_at value room front name (Some n) octets =
+contents_at value room prefix name None octets =
+    then_read (ended_at value (length octets) (less room prefix) octets) (λ parts rest. Ok (built name.tag parts, rest))
+contents_at value room prefix name (Some n) octets =
     if name.constructed then then_read (parts_at value n n octets) (λ parts rest. Ok (built name.tag parts, rest))
     else (if nat_lt (length octets) n then Err faults.Short else Ok (plain name.tag (take n octets), drop n octets))
 

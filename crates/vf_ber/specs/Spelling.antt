@@ -3,7 +3,7 @@ use Rattle.std.specs.Prelude.{ℕ, ◌+◌, ◌*◌, ◌/◌, ◌%◌, Bool, tru
 use Rattle.vf_ber.specs.Tree.{Tag, Tree, plain, built, Trees, none, more}
 
 -- The first octet of an identifier: the class in bits 8 and 7, bit 6 set where the value is constructed, and
--- the number, or 31 where it stands in the octets behind (8.1.2).
+-- the number, or 31 where it stands in the octets that follow (8.1.2).
 abbrev pub first_octet : Bool → ℕ → ℕ → ℕ
 first_octet true class low = 64 * class + (32 + low)
 first_octet false class low = 64 * class + low

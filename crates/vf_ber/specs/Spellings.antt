@@ -8,7 +8,7 @@ abbrev pub AreOctets : List ℕ → Type 0
 AreOctets [] = Unit {0}
 AreOctets (octet ∷ octets) = (octet < 256) × AreOctets octets
 
--- the number that octets are behind a higher part, most significant octet first
+-- the number that octets are after a higher part, most significant octet first
 abbrev pub number_in : ℕ → List ℕ → ℕ
 number_in high [] = high
 number_in high (octet ∷ octets) = number_in (256 * high + octet) octets
@@ -18,7 +18,7 @@ abbrev pub IsShortForm : List ℕ → ℕ → Type 0
 IsShortForm octets n = (octets ≡ n ∷ []) × (n < 128)
 
 -- The long form: the number of octets, 1 to 8 (profile), and so many octets with the length (8.1.3.5). More of them
--- than are needed may be used, with zeros in front.
+-- than are needed may be used, with leading zeros.
 pub record IsLongForm (octets : List ℕ) (n : ℕ) : Type 0 where
   pub digits : List ℕ
   pub some : 1 ≤ length digits
@@ -32,7 +32,7 @@ IsLength octets n = IsShortForm octets n ⊎ IsLongForm octets n
 
 abbrev mutual
   -- A primitive value is its identifier, a definite length and its contents. A constructed one is its identifier and
-  -- the spellings of its parts, in turn, with a definite length before them, or with 0x80 before and 00 00 behind (8.1.3.6).
+  -- the spellings of its parts, in turn, with a definite length before them, or with 0x80 before and 00 00 after (8.1.3.6).
   pub Spells : List ℕ → Tree → Type 0
   Spells octets (plain tag contents) =
       IsTag tag × ((len : List ℕ) × IsLength len (length contents) × (octets ≡ identifier false tag ++ (len ++ contents)))

@@ -58,18 +58,18 @@ first_fits limits depth room octet =
     not (nat_eq octet 0) && not (nat_eq octet 32) && has_depth limits depth
     && is_roomy limits room (if nat_eq (octet % 32) 31 then 3 else 2)
 
--- the octet behind it in the long form
+-- the octet after it in the long form
 abbrev pub second_fits : Limits → Room → ℕ → Bool
 second_fits limits room octet =
     nat_le 31 octet && not (nat_eq octet 128) && is_roomy limits room (if nat_lt octet 128 then 3 else 4)
 
--- a length, or none, behind so many octets in front of the contents
+-- a length, or none, where so many octets come before the contents
 abbrev pub size_fits : Limits → ℕ → Room → ℕ → Bool → Option ℕ → Bool
-size_fits limits depth room front constructed (Some n) =
-    fits limits room (front + n) && (not constructed || (not (nat_eq n 1) && (nat_eq n 0 || has_depth limits (depth - 1))))
-size_fits limits depth room front constructed None = constructed && fits limits room (front + 2)
+size_fits limits depth room prefix constructed (Some n) =
+    fits limits room (prefix + n) && (not constructed || (not (nat_eq n 1) && (nat_eq n 0 || has_depth limits (depth - 1))))
+size_fits limits depth room prefix constructed None = constructed && fits limits room (prefix + 2)
 
--- the least number with these octets in front of so many others
+-- the least number with these octets before so many others
 abbrev pub grown : ℕ → ℕ → ℕ
 grown zero n = n
 grown (suc others) n = grown others (256 * n)
@@ -79,23 +79,23 @@ abbrev pub shifted : ℕ → ℕ → ℕ
 shifted zero n = n
 shifted (suc others) n = shifted others n / 256
 
--- the number that fills the room has these octets in front, and is allowed
+-- the number that fills the room begins with these octets, and is allowed
 abbrev pub fills : Limits → ℕ → Room → ℕ → Bool → ℕ → ℕ → Bool
-fills limits depth (Exact most) front constructed others high =
-    nat_le front most && nat_eq (shifted others (most - front)) high && size_fits limits depth (Exact most) front constructed (Some (most - front))
-fills limits depth (Within most) front constructed others high = false
+fills limits depth (Exact most) prefix constructed others high =
+    nat_le prefix most && nat_eq (shifted others (most - prefix)) high && size_fits limits depth (Exact most) prefix constructed (Some (most - prefix))
+fills limits depth (Within most) prefix constructed others high = false
 
--- some length with these octets in front of so many others is allowed
+-- some length with these octets before so many others is allowed
 abbrev pub reaches : Limits → ℕ → Room → ℕ → Bool → ℕ → ℕ → Bool
-reaches limits depth room front constructed others high =
-    size_fits limits depth room front constructed (Some (grown others high)) || fills limits depth room front constructed others high
+reaches limits depth room prefix constructed others high =
+    size_fits limits depth room prefix constructed (Some (grown others high)) || fills limits depth room prefix constructed others high
 
--- the first octet of a length, behind an identifier of so many octets
+-- the first octet of a length, after an identifier of so many octets
 abbrev pub length_fits : Limits → ℕ → Room → ℕ → Bool → ℕ → Bool
-length_fits limits depth room front constructed octet =
-    if nat_lt octet 128 then size_fits limits depth room (front + 1) constructed (Some octet)
-    else if nat_eq octet 128 then size_fits limits depth room (front + 1) constructed None
-    else nat_le octet 136 && reaches limits depth room (front + 1 + (octet - 128)) constructed (octet - 128) 0
+length_fits limits depth room prefix constructed octet =
+    if nat_lt octet 128 then size_fits limits depth room (prefix + 1) constructed (Some octet)
+    else if nat_eq octet 128 then size_fits limits depth room (prefix + 1) constructed None
+    else nat_le octet 136 && reaches limits depth room (prefix + 1 + (octet - 128)) constructed (octet - 128) 0
 
 -- ---- languages
 
@@ -135,31 +135,31 @@ IsSize octets (Some n) = IsLength octets n
 IsSize octets None = octets ≡ 128 ∷ []
 
 abbrev pub Sizes : ℕ → Room → ℕ → Bool → Language (Option ℕ)
-Sizes most room front constructed limits octets size =
-    IsSize octets size × (size_fits limits most room (front + length octets) constructed size ≡ true)
+Sizes most room prefix constructed limits octets size =
+    IsSize octets size × (size_fits limits most room (prefix + length octets) constructed size ≡ true)
 
--- the octets of a length behind some of them
+-- the octets of a length after some of them
 abbrev pub Digits : ℕ → Room → ℕ → Bool → ℕ → ℕ → Language ℕ
-Digits most room front constructed others high limits octets n =
+Digits most room prefix constructed others high limits octets n =
     (length octets ≡ others) × AreOctets octets × (number_in high octets ≡ n)
-    × (size_fits limits most room front constructed (Some n) ≡ true)
+    × (size_fits limits most room prefix constructed (Some n) ≡ true)
 
 -- contents of a definite length
 abbrev pub Definite : ℕ → ℕ → Bool → Tag → Language Tree
 Definite most n true tag limits octets tree = (parts : Trees) × Parts (most - 1) n limits octets parts × (tree ≡ built tag parts)
 Definite most n false tag limits octets tree = (length octets ≡ n) × (tree ≡ plain tag octets)
 
--- what stands behind identifier and length, which take front octets
+-- what stands after identifier and length, which take so many octets
 abbrev pub Contents : ℕ → Room → ℕ → Name → Option ℕ → Language Tree
-Contents most room front name (Some n) limits octets tree = Definite most n name.constructed name.tag limits octets tree
-Contents most room front name None limits octets tree =
-    (parts : Trees) × Ended (most - 1) (less room front) limits octets parts × (tree ≡ built name.tag parts) × (name.constructed ≡ true)
+Contents most room prefix name (Some n) limits octets tree = Definite most n name.constructed name.tag limits octets tree
+Contents most room prefix name None limits octets tree =
+    (parts : Trees) × Ended (most - 1) (less room prefix) limits octets parts × (tree ≡ built name.tag parts) × (name.constructed ≡ true)
 
 -- ---- answers
 
 -- octets that others end with
 abbrev pub Ends : List ℕ → List ℕ → Type 0
-Ends all octets = (front : List ℕ) × (all ≡ front ++ octets)
+Ends all octets = (prefix : List ℕ) × (all ≡ prefix ++ octets)
 
 -- some word begins with the octets
 abbrev pub Open : {X : Type 0} → Language X → Limits → List ℕ → Type 0
@@ -169,19 +169,19 @@ Open {X} L limits octets = (rest : List ℕ) × (x : X) × L limits (octets ++ r
 abbrev pub Ruled : {X : Type 0} → Language X → Limits → List ℕ → Type 0
 Ruled {X} L limits octets = (word behind rest : List ℕ) (x : X) → L limits word x → word ++ behind ≡ octets ++ rest → ⊥
 
--- the octets begin with a word, and this stands behind it
+-- the octets begin with a word, and this stands after it
 abbrev pub Got : {X : Type 0} → Language X → List ℕ → X → List ℕ → Type 0
 Got L octets x rest = (word : List ℕ) × (octets ≡ word ++ rest) × L bounded word x
 
 -- an octet, with which so many are left, after which there is no word for this reason
 pub record FaultAt {X : Type 0} (L : Language X) (octets : List ℕ) (left : ℕ) (reason : List ℕ → Type 0) : Type 0 where
-  pub front : List ℕ
+  pub prefix : List ℕ
   pub octet : ℕ
   pub rest : List ℕ
-  pub parts : octets ≡ front ++ (octet ∷ rest)
+  pub parts : octets ≡ prefix ++ (octet ∷ rest)
   pub left_is : left ≡ length (octet ∷ rest)
-  pub before : (front ≡ []) ⊎ Open L bounded front
-  pub after : reason (front ++ (octet ∷ []))
+  pub before : (prefix ≡ []) ⊎ Open L bounded prefix
+  pub after : reason (prefix ++ (octet ∷ []))
 
 abbrev pub Failed : {X : Type 0} → Language X → List ℕ → Fault → Type 0
 Failed {X} L octets faults.Short = (next : ℕ) × (rest : List ℕ) × (x : X) × L bounded (octets ++ (next ∷ rest)) x
@@ -202,7 +202,7 @@ Judged test left (faults.Deep n) = (n ≡ left) × (test free ≡ true) × (test
 Judged test left (faults.Long n) = (n ≡ left) × (test shallow ≡ true) × (test bounded ≡ false)
 Judged test left faults.NoMemory = ⊥
 
--- the octets behind a first octet 0 don't go on with another
+-- the octets after a first octet 0 don't go on with another
 abbrev pub IsNoEnd : List ℕ → Fault → Type 0
 IsNoEnd octets faults.Short = octets ≡ []
 IsNoEnd octets (faults.Bad left) = (next : ℕ) × (rest : List ℕ) × (octets ≡ next ∷ rest) × (0 < next) × (left ≡ length octets)

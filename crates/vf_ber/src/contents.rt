@@ -113,7 +113,7 @@ fn put_arc(arc: u32, out: &mut Vec<u8>) -> Result<(), NoMemory>
         out.extend_from_slice(&[first, second, third, last])?;
         return Ok(());
     }
-    let front = (128 + arc / 268_435_456) as u8;
-    out.extend_from_slice(&[front, first, second, third, last])?;
+    let prefix = (128 + arc / 268_435_456) as u8;
+    out.extend_from_slice(&[prefix, first, second, third, last])?;
     Ok(())
 }

@@ -16,22 +16,22 @@ pub fn less(room: Room, n: u64) -> Room
     }
 }
 
-/// Whether octets in front and `len` others are allowed.
-fn fits(asked: Asked, room: Room, front: u64, len: u64) -> bool
-    requires { front ≤ 16 }
-    ensures { result ≡ room_fits (limits_of asked) room (front + len) }
+/// Whether so many octets and `len` others are allowed.
+fn fits(asked: Asked, room: Room, prefix: u64, len: u64) -> bool
+    requires { prefix ≤ 16 }
+    ensures { result ≡ room_fits (limits_of asked) room (prefix + len) }
 {
     match room {
         Room::Exact(most) => {
-            if most < front {
+            if most < prefix {
                 return false;
             }
-            let left = most - front;
+            let left = most - prefix;
             len == left || (left >= 2 && len <= left - 2)
         }
         Room::Within(most) => match asked {
             Asked::Free | Asked::Shallow => true,
-            Asked::Bounded => front <= most && len <= most - front,
+            Asked::Bounded => prefix <= most && len <= most - prefix,
         },
     }
 }
@@ -94,7 +94,7 @@ pub(crate) fn check_first(depth: u32, room: Room, octet: u8, left: usize) -> Res
     Err(fault(free, shallow, left))
 }
 
-/// Whether the long form of an identifier may go on with this octet behind the first, in the value's room
+/// Whether the long form of an identifier may go on with this octet after the first, in the value's room
 /// (ISO 8825, 8.1.2.4; numbers up to 16,383 are profile).
 pub fn is_second(asked: Asked, room: Room, octet: u8) -> bool
     ensures { result ≡ second_fits (limits_of asked) room octet }
@@ -115,7 +115,7 @@ pub(crate) fn check_second(room: Room, octet: u8, left: usize) -> Result<(), Fau
     Err(fault(free, shallow, left))
 }
 
-/// What is around the contents of a value: its depth and room, how many octets are in front of them, and whether
+/// What is around the contents of a value: its depth and room, how many octets come before them, and whether
 /// they are values.
 #[derive(Clone, Copy)]
 pub struct Around {
@@ -124,23 +124,23 @@ pub struct Around {
     /// How many octets the value may take.
     pub room: Room,
     /// The octets of the identifier, or of the identifier and the length.
-    pub front: u64,
+    pub prefix: u64,
     /// Whether the contents are values.
     pub constructed: bool,
 }
 
 /// Whether contents of a definite length, or of an indefinite one, are allowed.
 fn is_size(asked: Asked, around: Around, size: Option<u64>) -> bool
-    requires { around.front ≤ 12 }
-    ensures { result ≡ size_fits (limits_of asked) around.depth around.room around.front around.constructed size }
+    requires { around.prefix ≤ 12 }
+    ensures { result ≡ size_fits (limits_of asked) around.depth around.room around.prefix around.constructed size }
 {
     match size {
         Some(n) => {
-            fits(asked, around.room, around.front, n)
+            fits(asked, around.room, around.prefix, n)
                 && (!around.constructed
                     || (n != 1 && (n == 0 || has_depth(asked, around.depth.saturating_sub(1)))))
         }
-        None => around.constructed && fits(asked, around.room, around.front, 2),
+        None => around.constructed && fits(asked, around.room, around.prefix, 2),
     }
 }
 
@@ -160,48 +160,48 @@ fn grown(more: u32, n: u64) -> u64
 fn shifted(more: u32, n: u64) -> u64
     ensures { result ≡ shifted_of more n }
 {
-    let mut front = n;
+    let mut prefix = n;
     let mut done = 0;
     while done < more {
         done += 1;
-        front /= 256;
+        prefix /= 256;
     }
-    front
+    prefix
 }
 
-/// Whether the length that fills the room has these octets in front, and is allowed.
+/// Whether the length that fills the room begins with these octets, and is allowed.
 fn is_filled(asked: Asked, around: Around, more: u32, high: u64) -> bool
-    requires { around.front ≤ 12 }
-    ensures { result ≡ fills (limits_of asked) around.depth around.room around.front around.constructed more high }
+    requires { around.prefix ≤ 12 }
+    ensures { result ≡ fills (limits_of asked) around.depth around.room around.prefix around.constructed more high }
 {
     match around.room {
         Room::Exact(most) => {
-            if most < around.front {
+            if most < around.prefix {
                 return false;
             }
-            let n = most - around.front;
+            let n = most - around.prefix;
             shifted(more, n) == high && is_size(asked, around, Some(n))
         }
         Room::Within(_) => false,
     }
 }
 
-/// Whether some length with these octets in front of `more` others is allowed, where `around` counts all octets of
-/// the identifier and the length as those in front, 12 at most (ISO 8825, 8.1.3.5).
+/// Whether some length with these octets before `more` others is allowed, where `around` counts all octets of
+/// the identifier and the length in its prefix, 12 at most (ISO 8825, 8.1.3.5).
 pub fn is_reached(asked: Asked, around: Around, more: u32, high: u64) -> bool
-    requires front { around.front ≤ 12 }
+    requires prefix { around.prefix ≤ 12 }
     requires small { grown_of more high < 2 ^ 64 }
-    ensures { result ≡ reaches (limits_of asked) around.depth around.room around.front around.constructed more high }
+    ensures { result ≡ reaches (limits_of asked) around.depth around.room around.prefix around.constructed more high }
 {
     is_size(asked, around, Some(grown(more, high))) || is_filled(asked, around, more, high)
 }
 
-/// Whether a length may go on with these octets, with `more` others behind them.
+/// Whether a length may go on with these octets, with `more` others after them.
 pub(crate) fn check_digit(around: Around, more: u32, high: u64, left: usize) -> Result<(), Fault>
-    requires front { around.front ≤ 12 }
+    requires prefix { around.prefix ≤ 12 }
     requires small { grown_of more high < 2 ^ 64 }
-    ensures ok { IfOk result (λ _. reaches (limits_of Asked.Bounded) around.depth around.room around.front around.constructed more high ≡ true) }
-    ensures err { IfErr result (λ e. Judged (λ limits. reaches limits around.depth around.room around.front around.constructed more high) left e) }
+    ensures ok { IfOk result (λ _. reaches (limits_of Asked.Bounded) around.depth around.room around.prefix around.constructed more high ≡ true) }
+    ensures err { IfErr result (λ e. Judged (λ limits. reaches limits around.depth around.room around.prefix around.constructed more high) left e) }
 {
     if is_reached(Asked::Bounded, around, more, high) {
         return Ok(());
@@ -211,32 +211,32 @@ pub(crate) fn check_digit(around: Around, more: u32, high: u64, left: usize) -> 
     Err(fault(free, shallow, left))
 }
 
-/// Whether a length may begin with this octet, where `around` counts the octets of the identifier as those in
-/// front, 3 at most (ISO 8825, 8.1.3; eight octets at most behind the first are profile).
+/// Whether a length may begin with this octet, where `around` counts the octets of the identifier in its prefix,
+/// 3 at most (ISO 8825, 8.1.3; eight octets at most after the first are profile).
 pub fn is_length(asked: Asked, around: Around, octet: u8) -> bool
-    requires { around.front ≤ 3 }
-    ensures { result ≡ length_fits (limits_of asked) around.depth around.room around.front around.constructed octet }
+    requires { around.prefix ≤ 3 }
+    ensures { result ≡ length_fits (limits_of asked) around.depth around.room around.prefix around.constructed octet }
 {
-    let front = around.front + 1;
+    let prefix = around.prefix + 1;
     if octet < 128 {
-        is_size(asked, Around { front, ..around }, Some(octet as u64))
+        is_size(asked, Around { prefix, ..around }, Some(octet as u64))
     } else if octet == 128 {
-        is_size(asked, Around { front, ..around }, None)
+        is_size(asked, Around { prefix, ..around }, None)
     } else {
         let more = octet - 128;
         if more > 8 {
             return false;
         }
-        let front = front + more as u64;
-        is_reached(asked, Around { front, ..around }, more as u32, 0)
+        let prefix = prefix + more as u64;
+        is_reached(asked, Around { prefix, ..around }, more as u32, 0)
     }
 }
 
-/// Whether a length may begin with this octet, behind an identifier.
+/// Whether a length may begin with this octet, after an identifier.
 pub(crate) fn check_length(around: Around, octet: u8, left: usize) -> Result<(), Fault>
-    requires { around.front ≤ 3 }
-    ensures ok { IfOk result (λ _. length_fits (limits_of Asked.Bounded) around.depth around.room around.front around.constructed octet ≡ true) }
-    ensures err { IfErr result (λ e. Judged (λ limits. length_fits limits around.depth around.room around.front around.constructed octet) left e) }
+    requires { around.prefix ≤ 3 }
+    ensures ok { IfOk result (λ _. length_fits (limits_of Asked.Bounded) around.depth around.room around.prefix around.constructed octet ≡ true) }
+    ensures err { IfErr result (λ e. Judged (λ limits. length_fits limits around.depth around.room around.prefix around.constructed octet) left e) }
 {
     if is_length(Asked::Bounded, around, octet) {
         return Ok(());

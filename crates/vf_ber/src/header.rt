@@ -16,7 +16,7 @@ pub struct Name {
     pub tag: Tag,
 }
 
-/// The first octet and those behind it.
+/// The first octet and those after it.
 pub fn first_of(octets: &[u8]) -> Option<(u8, &[u8])>
     ensures parts { MatchOption result (octets.now ≡ []) (λ x. octets.now ≡ x.0 ∷ x.1.now) }
     ensures small { IfSome result (λ x. x.0 < 256) }
@@ -27,7 +27,7 @@ pub fn first_of(octets: &[u8]) -> Option<(u8, &[u8])>
     }
 }
 
-/// Reads an identifier, and gives what is behind it.
+/// Reads an identifier, and gives what is after it.
 pub fn name_of(first: u8, behind: &[u8], depth: u32, room: Room) -> Result<(Name, &[u8]), Fault>
     ensures got { IfOk result (λ x. Got (Names depth room) (first ∷ behind.now) (said x.0) x.1.now) }
     ensures failed { IfErr result (λ e. Failed (Names depth room) (first ∷ behind.now) e) }
@@ -66,12 +66,12 @@ pub fn name_of(first: u8, behind: &[u8], depth: u32, room: Room) -> Result<(Name
     Ok((Name { constructed, tag }, rest))
 }
 
-/// Reads a length behind an identifier; an indefinite one is `None`.
+/// Reads a length after an identifier; an indefinite one is `None`.
 pub fn size_of(octets: &[u8], around: Around) -> Result<(Option<u64>, &[u8]), Fault>
-    requires front { around.front ≤ 3 }
-    requires roomy { is_roomy bounded around.room (around.front + 1) ≡ true }
-    ensures got { IfOk result (λ x. Got (Sizes around.depth around.room around.front around.constructed) octets.now x.0 x.1.now) }
-    ensures failed { IfErr result (λ e. Failed (Sizes around.depth around.room around.front around.constructed) octets.now e) }
+    requires prefix { around.prefix ≤ 3 }
+    requires roomy { is_roomy bounded around.room (around.prefix + 1) ≡ true }
+    ensures got { IfOk result (λ x. Got (Sizes around.depth around.room around.prefix around.constructed) octets.now x.0 x.1.now) }
+    ensures failed { IfErr result (λ e. Failed (Sizes around.depth around.room around.prefix around.constructed) octets.now e) }
 {
     let Some((first, behind)) = first_of(octets) else {
         return Err(Fault::Short);
@@ -84,18 +84,18 @@ pub fn size_of(octets: &[u8], around: Around) -> Result<(Option<u64>, &[u8]), Fa
         return Ok((None, behind));
     }
     let more = first - 128;
-    let front = around.front + 1 + more as u64;
-    let (n, rest) = digits_of(behind, Around { front, ..around }, more as u32, 0)?;
+    let prefix = around.prefix + 1 + more as u64;
+    let (n, rest) = digits_of(behind, Around { prefix, ..around }, more as u32, 0)?;
     Ok((Some(n), rest))
 }
 
-/// Reads the octets of a length that are still to come behind those of `high`.
+/// Reads the octets of a length that are still to come after those of `high`.
 fn digits_of(octets: &[u8], around: Around, more: u32, high: u64) -> Result<(u64, &[u8]), Fault>
-    requires front { around.front ≤ 12 }
+    requires prefix { around.prefix ≤ 12 }
     requires small { grown_of more (high + 1) ≤ 2 ^ 64 }
-    requires begun { reaches bounded around.depth around.room around.front around.constructed more high ≡ true }
-    ensures got { IfOk result (λ x. Got (Digits around.depth around.room around.front around.constructed more high) octets.now x.0 x.1.now) }
-    ensures failed { IfErr result (λ e. Failed (Digits around.depth around.room around.front around.constructed more high) octets.now e) }
+    requires begun { reaches bounded around.depth around.room around.prefix around.constructed more high ≡ true }
+    ensures got { IfOk result (λ x. Got (Digits around.depth around.room around.prefix around.constructed more high) octets.now x.0 x.1.now) }
+    ensures failed { IfErr result (λ e. Failed (Digits around.depth around.room around.prefix around.constructed more high) octets.now e) }
 {
     if more == 0 {
         return Ok((high, octets));

@@ -7,7 +7,7 @@ ghost use Rattle.vf_ber.specs.Views.{tag_of, tree_of, trees_in};
 use crate::{Tag, Value};
 use vf_base::MOST_VALUE_OCTETS;
 
-/// The number of octets of the identifier and the length in front of `len` octets of contents.
+/// The number of octets of the identifier and the length before `len` octets of contents.
 fn header_len(constructed: bool, tag: Tag, len: u32) -> u32
     ensures size { result ≡ length (header constructed (tag_of tag) len) }
     ensures small { result ≤ 7 }

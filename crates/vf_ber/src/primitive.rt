@@ -140,7 +140,7 @@ fn read_subidentifiers(octets: &[u8], out: &mut Vec<u32>) -> Result<bool, NoMemo
     Ok(true)
 }
 
-/// The first subidentifier and the octets behind it.
+/// The first subidentifier and the octets after it.
 fn subidentifier(octets: &[u8]) -> Option<(u32, &[u8])>
     ensures some { IfSome result (λ x. (subidentifiers_at octets.now ≡ option_map (λ rest. x.0 ∷ rest) (subidentifiers_at x.1.now)) × (length x.1.now < length octets.now)) }
     ensures none { IfNone result (0 < length octets.now → subidentifiers_at octets.now ≡ None) }
@@ -150,7 +150,7 @@ fn subidentifier(octets: &[u8]) -> Option<(u32, &[u8])>
     Some((number, rest))
 }
 
-/// The octets up to the first one whose bit 8 is clear, and those behind it.
+/// The octets up to the first one whose bit 8 is clear, and those after it.
 fn first_group(octets: &[u8]) -> Option<(&[u8], &[u8])>
     ensures some { IfSome result (λ x. (groups_of octets.now ≡ option_map (λ groups. x.0.now ∷ groups) (groups_of x.1.now)) × (length x.1.now < length octets.now)) }
     ensures none { IfNone result (0 < length octets.now → groups_of octets.now ≡ None) }

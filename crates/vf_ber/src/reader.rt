@@ -1,4 +1,4 @@
-//! Reading a value: octet by octet, each asked whether a value can still be completed behind it.
+//! Reading a value: octet by octet, each asked whether a value can still be completed after it.
 ghost use Rattle.std.specs.Prelude.{◌≡◌, ◌≢◌, ◌+◌, ◌-◌, ◌*◌, ◌≤◌, ◌<◌, ◌^◌, ◌∷◌, IfErr, IfOk, IfSome, length, take, true, false, Some, None};
 ghost use Rattle.vf_ber.specs.Results.{IsAnswer};
 ghost use Rattle.vf_ber.specs.Steps.{Contents, Definite, Ended, Ends, Failed, fits, Got, has_depth, IsNoEnd, less as less_of, named, Parts, size_fits, Values as ValuesIn};
@@ -59,7 +59,7 @@ fn read_of(alloc: Global, kept: Option<&Octets>, octets: &[u8]) -> Result<(Value
     }
 }
 
-/// Reads a value, and gives what is behind it.
+/// Reads a value, and gives what is after it.
 #[cycle(read_value)]
 fn value_of<'a>(
     alloc: Global,
@@ -77,15 +77,22 @@ fn value_of<'a>(
     let around = Around {
         depth,
         room,
-        front: (behind.len() + 1 - rest.len()) as u64,
+        prefix: (behind.len() + 1 - rest.len()) as u64,
         constructed: name.constructed,
     };
     let (size, contents) = size_of(rest, around)?;
-    let front = (behind.len() + 1 - contents.len()) as u64;
-    contents_of(alloc, kept, contents, Around { front, ..around }, name.tag, size)
+    let prefix = (behind.len() + 1 - contents.len()) as u64;
+    contents_of(
+        alloc,
+        kept,
+        contents,
+        Around { prefix, ..around },
+        name.tag,
+        size,
+    )
 }
 
-/// Reads the contents of a value behind its identifier and its length.
+/// Reads the contents of a value after its identifier and its length.
 #[cycle(read_value)]
 fn contents_of<'a>(
     alloc: Global,
@@ -97,12 +104,18 @@ fn contents_of<'a>(
 ) -> Result<(Value, &'a [u8]), Fault>
     requires kept { IfSome kept (λ all. Ends all.now octets.now) }
     requires deep { has_depth bounded around.depth ≡ true }
-    requires fits { size_fits bounded around.depth around.room around.front around.constructed size ≡ true }
-    ensures got { IfOk result (λ x. Got (Contents around.depth around.room around.front (named around.constructed (tag_of tag)) size) octets.now (tree_of x.0) x.1.now) }
-    ensures failed { IfErr result (λ e. Failed (Contents around.depth around.room around.front (named around.constructed (tag_of tag)) size) octets.now e) }
+    requires fits { size_fits bounded around.depth around.room around.prefix around.constructed size ≡ true }
+    ensures got { IfOk result (λ x. Got (Contents around.depth around.room around.prefix (named around.constructed (tag_of tag)) size) octets.now (tree_of x.0) x.1.now) }
+    ensures failed { IfErr result (λ e. Failed (Contents around.depth around.room around.prefix (named around.constructed (tag_of tag)) size) octets.now e) }
 {
     let Some(n) = size else {
-        let (ended, rest) = ended_of(alloc, kept, octets, around.depth - 1, less(around.room, around.front))?;
+        let (ended, rest) = ended_of(
+            alloc,
+            kept,
+            octets,
+            around.depth - 1,
+            less(around.room, around.prefix),
+        )?;
         return Ok((Value::Built { tag, parts: ended }, rest));
     };
     if around.constructed {
@@ -218,7 +231,7 @@ fn ended_of<'a>(
     Err(Fault::Short)
 }
 
-/// Reads the second octet of the end of contents, and gives what is behind it.
+/// Reads the second octet of the end of contents, and gives what is after it.
 fn end_of(octets: &[u8]) -> Result<&[u8], Fault>
     ensures ok { IfOk result (λ rest. octets.now ≡ 0 ∷ rest.now) }
     ensures err { IfErr result (λ e. IsNoEnd octets.now e) }

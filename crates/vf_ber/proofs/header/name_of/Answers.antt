@@ -50,7 +50,7 @@ returns-then-third-ge128-clause-failed c =
     let long : c.args.first % 32 ≡ 31 = omega arith in
     let first = c.in_ok-check_first.ensures.ok in
     record {
-      front = c.args.first ∷ c.in-Some.second ∷ [];
+      prefix = c.args.first ∷ c.in-Some.second ∷ [];
       octet = c.in-Some-first_of.third;
       rest = c.in-Some-first_of.rest.now;
       parts = ap (λ o. c.args.first ∷ o) (c.in-Some.ensures.parts ∙ ap (λ o. c.in-Some.second ∷ o) c.in-Some-first_of.ensures.parts);

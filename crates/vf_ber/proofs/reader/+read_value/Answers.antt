@@ -16,13 +16,13 @@ pub contents_of-returns-in_err-ended-clause-failed :
 contents_of-returns-in_err-ended-clause-failed t c =
     let n = named c.args.around.constructed (tag_of c.args.tag) in
     let fault = c.in_err-ended.field-0.0 in
-    let fits : size_fits bounded c.args.around.depth c.args.around.room c.args.around.front c.args.around.constructed None ≡ true =
-    subst (λ (s : Option ℕ). size_fits bounded c.args.around.depth c.args.around.room c.args.around.front c.args.around.constructed s ≡ true) c.in_default.is c.requires.fits in
-    let inside : Failed (Ended (c.args.around.depth - 1) (less_of c.args.around.room c.args.around.front)) c.args.octets.now fault =
+    let fits : size_fits bounded c.args.around.depth c.args.around.room c.args.around.prefix c.args.around.constructed None ≡ true =
+    subst (λ (s : Option ℕ). size_fits bounded c.args.around.depth c.args.around.room c.args.around.prefix c.args.around.constructed s ≡ true) c.in_default.is c.requires.fits in
+    let inside : Failed (Ended (c.args.around.depth - 1) (less_of c.args.around.room c.args.around.prefix)) c.args.octets.now fault =
     subst (λ (r : Room). Failed (Ended (c.args.around.depth - 1) r) c.args.octets.now fault) c.less.ensures c.in_err-ended.ensures.failed in
     through c.from_residual.result _ _ c.from_residual.ensures.1
-    (subst (λ (s : Option ℕ). Failed (Contents c.args.around.depth c.args.around.room c.args.around.front n s) c.args.octets.now fault) (sym c.in_default.is)
-    (ended_failed c.args.around.depth c.args.around.room c.args.around.front (tag_of c.args.tag) c.args.around.constructed c.args.octets.now fault (open_room c.args.around.depth c.args.around.room c.args.around.front c.args.around.constructed fits).0 inside))
+    (subst (λ (s : Option ℕ). Failed (Contents c.args.around.depth c.args.around.room c.args.around.prefix n s) c.args.octets.now fault) (sym c.in_default.is)
+    (ended_failed c.args.around.depth c.args.around.room c.args.around.prefix (tag_of c.args.tag) c.args.around.constructed c.args.octets.now fault (open_room c.args.around.depth c.args.around.room c.args.around.prefix c.args.around.constructed fits).0 inside))
 
 pub contents_of-returns-in_err-parts-clause-failed :
     goal.contents_of-returns-in_err-parts-clause-failed
@@ -30,23 +30,23 @@ contents_of-returns-in_err-parts-clause-failed t c =
     let n = named c.args.around.constructed (tag_of c.args.tag) in
     let fault = c.in_err-parts.field-0.0 in
     through c.from_residual-in_err-parts.result _ _ c.from_residual-in_err-parts.ensures.1
-    (subst (λ (s : Option ℕ). Failed (Contents c.args.around.depth c.args.around.room c.args.around.front n s) c.args.octets.now fault) (sym c.in-Some.is)
-    (parts_failed c.args.around.depth c.args.around.room c.args.around.front (tag_of c.args.tag) c.args.around.constructed c.in-Some.n c.args.octets.now fault c.if-around.true c.in_err-parts.ensures.failed))
+    (subst (λ (s : Option ℕ). Failed (Contents c.args.around.depth c.args.around.room c.args.around.prefix n s) c.args.octets.now fault) (sym c.in-Some.is)
+    (parts_failed c.args.around.depth c.args.around.room c.args.around.prefix (tag_of c.args.tag) c.args.around.constructed c.in-Some.n c.args.octets.now fault c.if-around.true c.in_err-parts.ensures.failed))
 
 pub contents_of-returns-clause-got : goal.contents_of-returns-clause-got
 contents_of-returns-clause-got t c =
     let n = named c.args.around.constructed (tag_of c.args.tag) in
     IfOk-weaker c.plain_of.result _ _
-    (λ x g. subst (λ (s : Option ℕ). Got (Contents c.args.around.depth c.args.around.room c.args.around.front n s) c.args.octets.now (tree_of x.0) x.1.now) (sym c.in-Some.is)
-    (contents_plain c.args.around.depth c.args.around.room c.args.around.front (tag_of c.args.tag) c.args.around.constructed c.in-Some.n c.args.octets.now x.1.now (tree_of x.0) c.if-around.false g))
+    (λ x g. subst (λ (s : Option ℕ). Got (Contents c.args.around.depth c.args.around.room c.args.around.prefix n s) c.args.octets.now (tree_of x.0) x.1.now) (sym c.in-Some.is)
+    (contents_plain c.args.around.depth c.args.around.room c.args.around.prefix (tag_of c.args.tag) c.args.around.constructed c.in-Some.n c.args.octets.now x.1.now (tree_of x.0) c.if-around.false g))
     c.plain_of.ensures.got
 
 pub contents_of-returns-clause-failed : goal.contents_of-returns-clause-failed
 contents_of-returns-clause-failed t c =
     let n = named c.args.around.constructed (tag_of c.args.tag) in
     IfErr-weaker c.plain_of.result _ _
-    (λ e f. subst (λ (s : Option ℕ). Failed (Contents c.args.around.depth c.args.around.room c.args.around.front n s) c.args.octets.now e) (sym c.in-Some.is)
-    (contents_wanting c.args.around.depth c.args.around.room c.args.around.front (tag_of c.args.tag) c.args.around.constructed c.in-Some.n c.args.octets.now e c.if-around.false f))
+    (λ e f. subst (λ (s : Option ℕ). Failed (Contents c.args.around.depth c.args.around.room c.args.around.prefix n s) c.args.octets.now e) (sym c.in-Some.is)
+    (contents_wanting c.args.around.depth c.args.around.room c.args.around.prefix (tag_of c.args.tag) c.args.around.constructed c.in-Some.n c.args.octets.now e c.if-around.false f))
     c.plain_of.ensures.failed
 
 pub ended_of-returns-in_err-after-clause-failed : goal.ended_of-returns-in_err-after-clause-failed
@@ -134,12 +134,12 @@ value_of-returns-in_err-size-clause-failed t c =
 pub value_of-contents_of-requires : goal.value_of-contents_of-requires
 value_of-contents_of-requires t c =
     let octets = c.args.first ∷ c.args.behind.now in
-    let front = length c.args.behind.now + 1 - length c.in_ok-name.rest.now in
-    let named = name_facts c.args.depth c.args.room octets c.in_ok-name.rest.now (said c.in_ok-name.name) front c.in_ok-name.ensures.got (omega arith) in
-    let sized = size_facts c.args.depth c.args.room octets c.in_ok-name.rest.now c.in_ok-size.contents.now (said c.in_ok-name.name) c.in_ok-size.size front (length c.args.behind.now + 1 - length c.in_ok-size.contents.now)
+    let prefix = length c.args.behind.now + 1 - length c.in_ok-name.rest.now in
+    let named = name_facts c.args.depth c.args.room octets c.in_ok-name.rest.now (said c.in_ok-name.name) prefix c.in_ok-name.ensures.got (omega arith) in
+    let sized = size_facts c.args.depth c.args.room octets c.in_ok-name.rest.now c.in_ok-size.contents.now (said c.in_ok-name.name) c.in_ok-size.size prefix (length c.args.behind.now + 1 - length c.in_ok-size.contents.now)
     c.in_ok-name.ensures.got (omega arith) c.in_ok-size.ensures.got (omega arith) in
     let named_on = ends_behind (Names c.args.depth c.args.room) octets c.in_ok-name.rest.now (said c.in_ok-name.name) c.args.kept c.in_ok-name.ensures.got c.requires.kept in
-    let sized_on = ends_behind (Sizes c.args.depth c.args.room front c.in_ok-name.name.constructed) c.in_ok-name.rest.now c.in_ok-size.contents.now c.in_ok-size.size c.args.kept c.in_ok-size.ensures.got named_on in
+    let sized_on = ends_behind (Sizes c.args.depth c.args.room prefix c.in_ok-name.name.constructed) c.in_ok-name.rest.now c.in_ok-size.contents.now c.in_ok-size.size c.args.kept c.in_ok-size.ensures.got named_on in
     (omega arith, (sized_on, (named.1, sized.1)))
 
 pub value_of-returns-clause-got : goal.value_of-returns-clause-got
