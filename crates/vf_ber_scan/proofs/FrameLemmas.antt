@@ -14,7 +14,7 @@ pub length-innermost_first : (n : ℕ) (held : List Frame) → length (innermost
 length-innermost_first zero held = refl
 length-innermost_first (suc n) held = ap suc (length-innermost_first n held)
 
--- a frame behind them is none of them
+-- a frame after them is none of them
 pub innermost_first-set : (n i : ℕ) (held : List Frame) (frame : Frame) → n ≤ i → innermost_first n (set held i frame) ≡ innermost_first n held
 innermost_first-set zero i held frame le = refl
 innermost_first-set (suc n) i held frame le =
@@ -48,15 +48,15 @@ pub less-zero : (room : Room) → less room 0 ≡ room
 less-zero (Exact most) = ap Exact (omega arith)
 less-zero (Within most) = ap Within (omega arith)
 
--- Behind a value of an indefinite length that took so many octets, the two of its end among them, as many are left
+-- After a value of an indefinite length that took so many octets, the two of its end among them, as many are left
 -- around it as if its length had been known.
-pub ended_is_less : (frames : List Frame) (front contents : ℕ) → 2 ≤ contents
-    → ended_in frames (less (less (room_in frames) front) (contents - 2)) ≡ less_in frames (front + contents)
-ended_is_less [] front contents some = refl
-ended_is_less (Definite left ∷ frames) front contents some = ap (λ k. Definite k ∷ frames) (omega arith)
-ended_is_less (Indefinite room ∷ frames) front contents some =
+pub ended_is_less : (frames : List Frame) (prefix contents : ℕ) → 2 ≤ contents
+    → ended_in frames (less (less (room_in frames) prefix) (contents - 2)) ≡ less_in frames (prefix + contents)
+ended_is_less [] prefix contents some = refl
+ended_is_less (Definite left ∷ frames) prefix contents some = ap (λ k. Definite k ∷ frames) (omega arith)
+ended_is_less (Indefinite room ∷ frames) prefix contents some =
     ap (λ r. Indefinite r ∷ frames)
-    (ap (λ r. less r (contents - 2)) (less-less room 2 front) ∙ less-less room (2 + front) (contents - 2) ∙ ap (less room) (omega arith))
+    (ap (λ r. less r (contents - 2)) (less-less room 2 prefix) ∙ less-less room (2 + prefix) (contents - 2) ∙ ap (less room) (omega arith))
 
 -- ---- a change of the innermost one
 

@@ -14,31 +14,31 @@ use Rattle.vf_ber_scan.proofs.ReadLemmas.{Leaves, read_leaves, read_same, leaves
 
 -- ---- a length
 
-pub digits_leave : (most : ℕ) (room : Room) (front : ℕ) (constructed : Bool) (others high : ℕ) (octets : List ℕ)
-    → Leaves (λ n. n + others ≡ length octets) (digits_at most room front constructed others high octets)
+pub digits_leave : (most : ℕ) (room : Room) (prefix : ℕ) (constructed : Bool) (others high : ℕ) (octets : List ℕ)
+    → Leaves (λ n. n + others ≡ length octets) (digits_at most room prefix constructed others high octets)
 unfolding digits_at
-digits_leave most room front constructed zero high octets = omega arith
-digits_leave most room front constructed (suc others) high [] = tt
-digits_leave most room front constructed (suc others) high (digit ∷ octets) =
-    leaves_checked (λ n. n + suc others ≡ suc (length octets)) (λ l. nat_lt digit 256 && reaches l most room front constructed others (256 * high + digit)) (digit ∷ octets) (digits_at most room front constructed others (256 * high + digit) octets)
-    (by (digits_at most room front constructed others (256 * high + digit) octets) (digits_leave most room front constructed others (256 * high + digit) octets))
+digits_leave most room prefix constructed zero high octets = omega arith
+digits_leave most room prefix constructed (suc others) high [] = tt
+digits_leave most room prefix constructed (suc others) high (digit ∷ octets) =
+    leaves_checked (λ n. n + suc others ≡ suc (length octets)) (λ l. nat_lt digit 256 && reaches l most room prefix constructed others (256 * high + digit)) (digit ∷ octets) (digits_at most room prefix constructed others (256 * high + digit) octets)
+    (by (digits_at most room prefix constructed others (256 * high + digit) octets) (digits_leave most room prefix constructed others (256 * high + digit) octets))
   where
     by : (r : Reads ℕ) → Leaves (λ n. n + others ≡ length octets) r → Leaves (λ n. n + suc others ≡ suc (length octets)) r
     by (Ok x) leaves = omega arith
     by (Err fault) leaves = tt
 
-pub size_leaves : (most : ℕ) (room : Room) (front : ℕ) (constructed : Bool) (octets : List ℕ) → Leaves (λ n. n ≤ length octets) (size_at most room front constructed octets)
-size_leaves most room front constructed [] = tt
-size_leaves most room front constructed (first ∷ octets) =
-    leaves_checked P (λ l. length_fits l most room front constructed first) (first ∷ octets) (cond (nat_lt first 128) short (cond (nat_eq first 128) none_said long))
+pub size_leaves : (most : ℕ) (room : Room) (prefix : ℕ) (constructed : Bool) (octets : List ℕ) → Leaves (λ n. n ≤ length octets) (size_at most room prefix constructed octets)
+size_leaves most room prefix constructed [] = tt
+size_leaves most room prefix constructed (first ∷ octets) =
+    leaves_checked P (λ l. length_fits l most room prefix constructed first) (first ∷ octets) (cond (nat_lt first 128) short (cond (nat_eq first 128) none_said long))
     (leaves_cond P (nat_lt first 128) short (cond (nat_eq first 128) none_said long) (omega arith) (leaves_cond P (nat_eq first 128) none_said long (omega arith)
-    (read_leaves (λ n. n + (first - 128) ≡ length octets) P digits (λ n rest. Ok (Some n, rest)) (digits_leave most room (front + 1 + (first - 128)) constructed (first - 128) 0 octets) (λ n rest is. omega arith))))
+    (read_leaves (λ n. n + (first - 128) ≡ length octets) P digits (λ n rest. Ok (Some n, rest)) (digits_leave most room (prefix + 1 + (first - 128)) constructed (first - 128) 0 octets) (λ n rest is. omega arith))))
   where
     P : ℕ → Type 0
     P n = n ≤ suc (length octets)
 
     digits : Reads ℕ
-    digits = digits_at most room (front + 1 + (first - 128)) constructed (first - 128) 0 octets
+    digits = digits_at most room (prefix + 1 + (first - 128)) constructed (first - 128) 0 octets
 
     short : Reads (Option ℕ)
     short = Ok (Some first, octets)

@@ -1,4 +1,4 @@
--- The outlook behind the octets of a value, as the reading of the value goes on.
+-- The progress after the octets of a value, as the reading of the value goes on.
 use Rattle.std.proofs.Common.{◌≡◌, ◌≢◌, ℕ, zero, suc, ◌+◌, ◌-◌, ◌*◌, ◌/◌, ◌%◌, ◌<◌, ◌≤◌, Bool, true, false, cond, List, [], ◌∷◌, length, take, drop, refl, ap, sym, ◌∙◌, arith, length-drop, nat_eq, nat_lt}
 use Rattle.std.specs.Prelude.{Option, Some, None, Ok, Err, ◌&&◌}
 use Rattle.std.proofs.lemmas.Bool.{and_from, cond-true, cond-false, lt-ltb, ltb-true, ltb-false, ne_eqb}
@@ -14,9 +14,10 @@ use Rattle.vf_ber.proofs.Plain.{IsReader, value_answers}
 use Rattle.vf_ber_scan.specs.declared.frames.Frame.{Frame}
 use Rattle.vf_ber_scan.specs.declared.frames.Frame.TheVariants.{Definite, Indefinite}
 use Rattle.vf_ber_scan.specs.Frames.{depth_in, ended_in, less_in, room_in}
-use Rattle.vf_ber_scan.specs.Outlook.{Outlook, Wanting, Faulty, then_outlook, left_outlook, after, value_outlook, contents_outlook, length_outlook, third_outlook, second_outlook}
+use Rattle.vf_ber_scan.specs.Continuation.{then_progress, left_progress, after, value_progress, contents_progress, length_progress, third_progress, second_progress}
+use Rattle.vf_ber_scan.specs.Progress.{Progress, Wanting, Faulty}
 use Rattle.vf_ber_scan.proofs.FrameLemmas.{length-less_in, length-ended_in, less-less, less-zero, ended_is_less}
-use Rattle.vf_ber_scan.proofs.ReadLemmas.{Leaves, outlook_same, outlook_then, outlook_checked}
+use Rattle.vf_ber_scan.proofs.ReadLemmas.{Leaves, progress_same, progress_then, progress_checked}
 use Rattle.vf_ber_scan.proofs.TurnLemmas.{digits_leave, size_leaves, value_leaves, parts_leave, parts_turns, ended_leave, ended_turns}
 
 abbrev Any : ℕ → Type 0
@@ -26,23 +27,23 @@ any_left : {X : Type 0} (r : Reads X) → Leaves Any r
 any_left (Ok x) = tt
 any_left (Err fault) = tt
 
--- what is behind the same values, however they are written
-after_at : (n : ℕ) (frames : List Frame) (octets : List ℕ) → n ≡ length frames → left_outlook n frames octets ≡ after frames octets
-after_at n frames octets is = ap (λ k. left_outlook k frames octets) is
+-- what is after the same values, however they are written
+after_at : (n : ℕ) (frames : List Frame) (octets : List ℕ) → n ≡ length frames → left_progress n frames octets ≡ after frames octets
+after_at n frames octets is = ap (λ k. left_progress k frames octets) is
 
 -- ---- values in turn
 
 -- a value of a definite length goes on with another in it
 pub definite_goes_on : (left first : ℕ) (frames : List Frame) (octets : List ℕ) → 0 < left
-    → after (Definite left ∷ frames) (first ∷ octets) ≡ value_outlook (Definite left ∷ frames) (first ∷ octets)
-unfolding left_outlook parts_at
+    → after (Definite left ∷ frames) (first ∷ octets) ≡ value_progress (Definite left ∷ frames) (first ∷ octets)
+unfolding left_progress parts_at
 definite_goes_on zero first frames octets some = absurd (omega arith)
 definite_goes_on (suc left) first frames octets some =
-    outlook_then (value (Exact (suc left)) (first ∷ octets)) _ _
-    ∙ outlook_same (λ n. n + 2 ≤ suc (length octets)) (value (Exact (suc left)) (first ∷ octets)) _ _ (value_leaves most value reads (Exact (suc left)) first octets)
+    progress_then (value (Exact (suc left)) (first ∷ octets)) _ _
+    ∙ progress_same (λ n. n + 2 ≤ suc (length octets)) (value (Exact (suc left)) (first ∷ octets)) _ _ (value_leaves most value reads (Exact (suc left)) first octets)
     (λ part rest taken.
-    outlook_then (parts_at value left (suc left - (suc (length octets) - length rest)) rest) _ _
-    ∙ ap (λ (r : Reads Trees). then_outlook r (λ parts behind. left_outlook (length frames) frames behind))
+    progress_then (parts_at value left (suc left - (suc (length octets) - length rest)) rest) _ _
+    ∙ ap (λ (r : Reads Trees). then_progress r (λ parts behind. left_progress (length frames) frames behind))
     (parts_turns most value reads left (suc left - (suc (length octets) - length rest)) (suc left - (suc (length octets) - length rest)) rest (omega arith) (omega arith)))
   where
     most : ℕ
@@ -56,18 +57,18 @@ definite_goes_on (suc left) first frames octets some =
 
 -- a value of an indefinite length goes on with another in it
 pub indefinite_goes_on : (room : Room) (first : ℕ) (frames : List Frame) (octets : List ℕ) → first ≢ 0
-    → after (Indefinite room ∷ frames) (first ∷ octets) ≡ value_outlook (Indefinite room ∷ frames) (first ∷ octets)
-unfolding left_outlook ended_at
+    → after (Indefinite room ∷ frames) (first ∷ octets) ≡ value_progress (Indefinite room ∷ frames) (first ∷ octets)
+unfolding left_progress ended_at
 indefinite_goes_on room first frames octets other =
-    ap (λ (b : Bool). then_outlook (cond b (end_at octets) going) (λ parts rest. ending (less room (suc (length octets) - length rest - 2)) rest)) (ne_eqb first 0 other)
-    ∙ outlook_then (value (less room 2) (first ∷ octets)) _ _
-    ∙ outlook_same (λ n. n + 2 ≤ suc (length octets)) (value (less room 2) (first ∷ octets)) _ _ (value_leaves most value reads (less room 2) first octets)
+    ap (λ (b : Bool). then_progress (cond b (end_at octets) going) (λ parts rest. ending (less room (suc (length octets) - length rest - 2)) rest)) (ne_eqb first 0 other)
+    ∙ progress_then (value (less room 2) (first ∷ octets)) _ _
+    ∙ progress_same (λ n. n + 2 ≤ suc (length octets)) (value (less room 2) (first ∷ octets)) _ _ (value_leaves most value reads (less room 2) first octets)
     (λ part rest taken.
     let k = suc (length octets) - length rest in
-    outlook_then (ended_at value (length octets) (less room k) rest) _ _
-    ∙ ap (λ (r : Reads Trees). then_outlook r (λ parts behind. ending (less room (suc (length octets) - length behind - 2)) behind))
+    progress_then (ended_at value (length octets) (less room k) rest) _ _
+    ∙ ap (λ (r : Reads Trees). then_progress r (λ parts behind. ending (less room (suc (length octets) - length behind - 2)) behind))
     (ended_turns most value reads (length octets) (length rest) (less room k) rest (omega arith) (omega arith))
-    ∙ outlook_same (λ n. n + 2 ≤ length rest) (ended_at value (length rest) (less room k) rest) _ _ (ended_leave most value reads (length rest) (less room k) rest)
+    ∙ progress_same (λ n. n + 2 ≤ length rest) (ended_at value (length rest) (less room k) rest) _ _ (ended_leave most value reads (length rest) (less room k) rest)
     (λ parts behind few.
     ap (λ (r : Room). ending r behind) (sym (less-less room k (length rest - length behind - 2) ∙ ap (less room) (omega arith)))))
   where
@@ -80,8 +81,8 @@ indefinite_goes_on room first frames octets other =
     reads : IsReader most value
     reads = value_answers most
 
-    ending : Room → List ℕ → Outlook
-    ending r behind = left_outlook (length frames) (ended_in frames r) behind
+    ending : Room → List ℕ → Progress
+    ending r behind = left_progress (length frames) (ended_in frames r) behind
 
     going : Reads Trees
     going =
@@ -90,8 +91,8 @@ indefinite_goes_on room first frames octets other =
 
 -- its end of contents begins
 pub indefinite_ends : (room : Room) (frames : List Frame) (octets : List ℕ)
-    → after (Indefinite room ∷ frames) (0 ∷ octets) ≡ then_outlook (end_at octets) (λ parts rest. after (ended_in frames room) rest)
-unfolding left_outlook ended_at
+    → after (Indefinite room ∷ frames) (0 ∷ octets) ≡ then_progress (end_at octets) (λ parts rest. after (ended_in frames room) rest)
+unfolding left_progress ended_at
 indefinite_ends room frames [] = refl
 indefinite_ends room frames (second ∷ octets) = by (nat_eq second 0)
   where
@@ -99,41 +100,41 @@ indefinite_ends room frames (second ∷ octets) = by (nat_eq second 0)
     none_left = omega arith
 
     by : (b : Bool)
-        → then_outlook (cond b (Ok (none, octets)) (Err (faults.Bad (suc (length octets))))) (λ parts rest. left_outlook (length frames) (ended_in frames (less room (suc (suc (length octets)) - length rest - 2))) rest)
-        ≡ then_outlook (cond b (Ok (none, octets)) (Err (faults.Bad (suc (length octets))))) (λ parts rest. after (ended_in frames room) rest)
+        → then_progress (cond b (Ok (none, octets)) (Err (faults.Bad (suc (length octets))))) (λ parts rest. left_progress (length frames) (ended_in frames (less room (suc (suc (length octets)) - length rest - 2))) rest)
+        ≡ then_progress (cond b (Ok (none, octets)) (Err (faults.Bad (suc (length octets))))) (λ parts rest. after (ended_in frames room) rest)
     by true =
-        ap (λ n. left_outlook (length frames) (ended_in frames (less room n)) octets) none_left
-        ∙ ap (λ r. left_outlook (length frames) (ended_in frames r) octets) (less-zero room)
+        ap (λ n. left_progress (length frames) (ended_in frames (less room n)) octets) none_left
+        ∙ ap (λ r. left_progress (length frames) (ended_in frames r) octets) (less-zero room)
         ∙ after_at (length frames) (ended_in frames room) octets (sym (length-ended_in frames room))
     by false = refl
 
 -- a value of a definite length ends where nothing of it is left
 pub definite_ends : (frames : List Frame) (octets : List ℕ) → after (Definite 0 ∷ frames) octets ≡ after frames octets
-unfolding left_outlook parts_at
+unfolding left_progress parts_at
 definite_ends frames octets = refl
 
 -- ---- contents
 
--- behind identifier and length, as the reading goes on in them
-contents_by : Reader → List Frame → ℕ → Name → Option ℕ → List ℕ → Outlook
+-- after identifier and length, as the reading goes on in them
+contents_by : Reader → List Frame → ℕ → Name → Option ℕ → List ℕ → Progress
 contents_by inner frames all name size octets =
-    then_outlook (contents_at inner (room_in frames) (all - length octets) name size octets) (λ tree rest. after (less_in frames (all - length rest)) rest)
+    then_progress (contents_at inner (room_in frames) (all - length octets) name size octets) (λ tree rest. after (less_in frames (all - length rest)) rest)
 
 indefinite_by : (frames : List Frame) (all : ℕ) (octets : List ℕ) → length octets ≤ all
-    → then_outlook (ended_at (value_at (32 - suc (length frames))) (length octets) (less (room_in frames) (all - length octets)) octets) (λ parts rest. after (less_in frames (all - length rest)) rest)
+    → then_progress (ended_at (value_at (32 - suc (length frames))) (length octets) (less (room_in frames) (all - length octets)) octets) (λ parts rest. after (less_in frames (all - length rest)) rest)
     ≡ after (Indefinite (less (room_in frames) (all - length octets)) ∷ frames) octets
-unfolding left_outlook
+unfolding left_progress
 indefinite_by frames all octets within =
-    outlook_same (λ n. n + 2 ≤ length octets) (ended_at value (length octets) (less (room_in frames) front) octets) _ _ (ended_leave most value (value_answers most) (length octets) (less (room_in frames) front) octets)
+    progress_same (λ n. n + 2 ≤ length octets) (ended_at value (length octets) (less (room_in frames) prefix) octets) _ _ (ended_leave most value (value_answers most) (length octets) (less (room_in frames) prefix) octets)
     (λ parts rest few.
     sym (
-    ap (λ r. left_outlook (length frames) r rest) (ended_is_less frames front (length octets - length rest) (omega arith))
-    ∙ ap (λ n. left_outlook (length frames) (less_in frames n) rest) (omega arith)
+    ap (λ r. left_progress (length frames) r rest) (ended_is_less frames prefix (length octets - length rest) (omega arith))
+    ∙ ap (λ n. left_progress (length frames) (less_in frames n) rest) (omega arith)
     ∙ after_at (length frames) (less_in frames (all - length rest)) rest (sym (length-less_in frames (all - length rest)))
     ))
   where
-    front : ℕ
-    front = all - length octets
+    prefix : ℕ
+    prefix = all - length octets
 
     most : ℕ
     most = 32 - suc (length frames)
@@ -142,13 +143,13 @@ indefinite_by frames all octets within =
     value = value_at (32 - suc (length frames))
 
 definite_by : (frames : List Frame) (all n : ℕ) (octets : List ℕ) → length octets ≤ all
-    → then_outlook (parts_at (value_at (32 - suc (length frames))) n n octets) (λ parts rest. after (less_in frames (all - length rest)) rest)
+    → then_progress (parts_at (value_at (32 - suc (length frames))) n n octets) (λ parts rest. after (less_in frames (all - length rest)) rest)
     ≡ after (Definite n ∷ less_in frames (all - length octets + n)) octets
-unfolding left_outlook
+unfolding left_progress
 definite_by frames all n octets within =
-    outlook_same (λ k. k + n ≡ length octets) (parts_at value n n octets) _ _ (parts_leave most value (value_answers most) n n octets)
+    progress_same (λ k. k + n ≡ length octets) (parts_at value n n octets) _ _ (parts_leave most value (value_answers most) n n octets)
     (λ parts rest few. ap (λ k. after (less_in frames k) rest) (omega arith))
-    ∙ ap (λ k. then_outlook (parts_at (value_at (32 - suc k)) n n octets) (λ parts rest. after (less_in frames (all - length octets + n)) rest)) (sym (length-less_in frames (all - length octets + n)))
+    ∙ ap (λ k. then_progress (parts_at (value_at (32 - suc k)) n n octets) (λ parts rest. after (less_in frames (all - length octets + n)) rest)) (sym (length-less_in frames (all - length octets + n)))
   where
     most : ℕ
     most = 32 - suc (length frames)
@@ -157,7 +158,7 @@ definite_by frames all n octets within =
     value = value_at (32 - suc (length frames))
 
 plain_by : (frames : List Frame) (all n : ℕ) (tag : Tag) (octets : List ℕ) (b : Bool) → nat_lt (length octets) n ≡ b → length octets ≤ all
-    → then_outlook (cond b (Err faults.Short) (Ok (plain tag (take n octets), drop n octets))) (λ tree rest. after (less_in frames (all - length rest)) rest)
+    → then_progress (cond b (Err faults.Short) (Ok (plain tag (take n octets), drop n octets))) (λ tree rest. after (less_in frames (all - length rest)) rest)
     ≡ cond b Wanting (after (less_in frames (all - length octets + n)) (drop n octets))
 plain_by frames all n tag octets true is within = refl
 plain_by frames all n tag octets false is within =
@@ -166,61 +167,61 @@ plain_by frames all n tag octets false is within =
     ap (λ k. after (less_in frames k) (drop n octets)) (omega arith)
 
 contents_are : (frames : List Frame) (all : ℕ) (name : Name) (size : Option ℕ) (octets : List ℕ) → length octets ≤ all
-    → contents_by (value_at (32 - suc (length frames))) frames all name size octets ≡ contents_outlook frames (all - length octets) name.constructed size octets
+    → contents_by (value_at (32 - suc (length frames))) frames all name size octets ≡ contents_progress frames (all - length octets) name.constructed size octets
 unfolding contents_by
 contents_are frames all name None octets within =
-    outlook_then (ended_at (value_at (32 - suc (length frames))) (length octets) (less (room_in frames) (all - length octets)) octets) _ _ ∙ indefinite_by frames all octets within
+    progress_then (ended_at (value_at (32 - suc (length frames))) (length octets) (less (room_in frames) (all - length octets)) octets) _ _ ∙ indefinite_by frames all octets within
 contents_are frames all name (Some n) octets within = by name.constructed
   where
     by : (c : Bool)
-        → then_outlook
+        → then_progress
         (cond c (then_read (parts_at (value_at (32 - suc (length frames))) n n octets) (λ parts rest. Ok (built name.tag parts, rest)))
         (cond (nat_lt (length octets) n) (Err faults.Short) (Ok (plain name.tag (take n octets), drop n octets))))
         (λ tree rest. after (less_in frames (all - length rest)) rest)
-        ≡ contents_outlook frames (all - length octets) c (Some n) octets
-    by true = outlook_then (parts_at (value_at (32 - suc (length frames))) n n octets) _ _ ∙ definite_by frames all n octets within
+        ≡ contents_progress frames (all - length octets) c (Some n) octets
+    by true = progress_then (parts_at (value_at (32 - suc (length frames))) n n octets) _ _ ∙ definite_by frames all n octets within
     by false = plain_by frames all n name.tag octets (nat_lt (length octets) n) refl within
 
 -- ---- identifiers
 
--- behind an identifier, as the reading goes on in the value
-name_by : Reader → List Frame → ℕ → Name → List ℕ → Outlook
+-- after an identifier, as the reading goes on in the value
+name_by : Reader → List Frame → ℕ → Name → List ℕ → Progress
 name_by inner frames all name octets =
-    then_outlook (size_at (depth_in frames) (room_in frames) (all - length octets) name.constructed octets) (contents_by inner frames all name)
+    then_progress (size_at (depth_in frames) (room_in frames) (all - length octets) name.constructed octets) (contents_by inner frames all name)
 
-name_is : (frames : List Frame) (all front : ℕ) (name : Name) (octets : List ℕ) → front + length octets ≡ all
-    → name_by (value_at (32 - suc (length frames))) frames all name octets ≡ length_outlook frames name.constructed front octets
+name_is : (frames : List Frame) (all prefix : ℕ) (name : Name) (octets : List ℕ) → prefix + length octets ≡ all
+    → name_by (value_at (32 - suc (length frames))) frames all name octets ≡ length_progress frames name.constructed prefix octets
 unfolding name_by
-name_is frames all front name octets is =
-    outlook_same (λ n. n ≤ length octets) (size_at (depth_in frames) (room_in frames) (all - length octets) name.constructed octets) _ _
+name_is frames all prefix name octets is =
+    progress_same (λ n. n ≤ length octets) (size_at (depth_in frames) (room_in frames) (all - length octets) name.constructed octets) _ _
     (size_leaves (depth_in frames) (room_in frames) (all - length octets) name.constructed octets)
     (λ size rest few.
-    contents_are frames all name size rest (omega arith) ∙ ap (λ k. contents_outlook frames (k - length rest) name.constructed size rest) (sym is))
-    ∙ ap (λ k. then_outlook (size_at (depth_in frames) (room_in frames) k name.constructed octets) (λ size rest. contents_outlook frames (front + length octets - length rest) name.constructed size rest)) (omega arith)
+    contents_are frames all name size rest (omega arith) ∙ ap (λ k. contents_progress frames (k - length rest) name.constructed size rest) (sym is))
+    ∙ ap (λ k. then_progress (size_at (depth_in frames) (room_in frames) k name.constructed octets) (λ size rest. contents_progress frames (prefix + length octets - length rest) name.constructed size rest)) (omega arith)
 
 third_is : (frames : List Frame) (first second : ℕ) (octets : List ℕ)
-    → then_outlook (third_at first second octets) (name_by (value_at (32 - suc (length frames))) frames (2 + length octets)) ≡ third_outlook frames (nat_eq (first / 32 % 2) 1) octets
+    → then_progress (third_at first second octets) (name_by (value_at (32 - suc (length frames))) frames (2 + length octets)) ≡ third_progress frames (nat_eq (first / 32 % 2) 1) octets
 third_is frames first second [] = refl
 third_is frames first second (third ∷ octets) = by (nat_lt third 128)
   where
     by : (b : Bool)
-        → then_outlook (cond b (Ok (name_from first (128 * (second - 128) + third), octets)) (Err (faults.Bad (suc (length octets))))) (name_by (value_at (32 - suc (length frames))) frames (2 + suc (length octets)))
-        ≡ cond b (length_outlook frames (nat_eq (first / 32 % 2) 1) 3 octets) Faulty
+        → then_progress (cond b (Ok (name_from first (128 * (second - 128) + third), octets)) (Err (faults.Bad (suc (length octets))))) (name_by (value_at (32 - suc (length frames))) frames (2 + suc (length octets)))
+        ≡ cond b (length_progress frames (nat_eq (first / 32 % 2) 1) 3 octets) Faulty
     by true = name_is frames (2 + suc (length octets)) 3 (name_from first (128 * (second - 128) + third)) octets (omega arith)
     by false = refl
 
 second_is : (frames : List Frame) (first : ℕ) (octets : List ℕ)
-    → then_outlook (second_at (room_in frames) first octets) (name_by (value_at (32 - suc (length frames))) frames (1 + length octets)) ≡ second_outlook frames (nat_eq (first / 32 % 2) 1) octets
+    → then_progress (second_at (room_in frames) first octets) (name_by (value_at (32 - suc (length frames))) frames (1 + length octets)) ≡ second_progress frames (nat_eq (first / 32 % 2) 1) octets
 second_is frames first [] = refl
 second_is frames first (second ∷ octets) =
-    outlook_checked (λ limits. nat_lt second 256 && second_fits limits (room_in frames) second) (second ∷ octets) (cond (nat_lt second 128) (Ok (name_from first second, octets)) (third_at first second octets)) _
+    progress_checked (λ limits. nat_lt second 256 && second_fits limits (room_in frames) second) (second ∷ octets) (cond (nat_lt second 128) (Ok (name_from first second, octets)) (third_at first second octets)) _
     ∙ ap (λ w. cond (nat_lt second 256 && second_fits bounded (room_in frames) second) w Faulty) (by (nat_lt second 128))
   where
     by : (b : Bool)
-        → then_outlook (cond b (Ok (name_from first second, octets)) (third_at first second octets)) (name_by (value_at (32 - suc (length frames))) frames (1 + suc (length octets)))
-        ≡ cond b (length_outlook frames (nat_eq (first / 32 % 2) 1) 2 octets) (third_outlook frames (nat_eq (first / 32 % 2) 1) octets)
+        → then_progress (cond b (Ok (name_from first second, octets)) (third_at first second octets)) (name_by (value_at (32 - suc (length frames))) frames (1 + suc (length octets)))
+        ≡ cond b (length_progress frames (nat_eq (first / 32 % 2) 1) 2 octets) (third_progress frames (nat_eq (first / 32 % 2) 1) octets)
     by true = name_is frames (1 + suc (length octets)) 2 (name_from first second) octets (omega arith)
-    by false = ap (λ k. then_outlook (third_at first second octets) (name_by (value_at (32 - suc (length frames))) frames k)) (omega arith) ∙ third_is frames first second octets
+    by false = ap (λ k. then_progress (third_at first second octets) (name_by (value_at (32 - suc (length frames))) frames k)) (omega arith) ∙ third_is frames first second octets
 
 -- the reading of a value, whatever reads its parts
 read_by : (most : ℕ) → (inner : Reader) × ((room : Room) (octets : List ℕ) → value_at most room octets ≡ value_with inner most room octets) × (0 < most → inner ≡ value_at (most - 1))
@@ -229,24 +230,24 @@ read_by zero = (λ room octets. Err faults.Short, λ room octets. refl, λ some.
 read_by (suc most) = (value_at most, λ room octets. refl, λ some. ap value_at (omega arith))
 
 first_by : (inner : Reader) (frames : List Frame) (first : ℕ) (octets : List ℕ)
-    → then_outlook (value_with inner (depth_in frames) (room_in frames) (first ∷ octets)) (λ tree rest. after (less_in frames (suc (length octets) - length rest)) rest)
+    → then_progress (value_with inner (depth_in frames) (room_in frames) (first ∷ octets)) (λ tree rest. after (less_in frames (suc (length octets) - length rest)) rest)
     ≡ cond (nat_lt first 256 && first_fits bounded (depth_in frames) (room_in frames) first)
-    (then_outlook (cond (nat_lt (first % 32) 31) (Ok (name_from first (first % 32), octets)) (second_at (room_in frames) first octets)) (name_by inner frames (suc (length octets)))) Faulty
+    (then_progress (cond (nat_lt (first % 32) 31) (Ok (name_from first (first % 32), octets)) (second_at (room_in frames) first octets)) (name_by inner frames (suc (length octets)))) Faulty
 unfolding name_by contents_by
 first_by inner frames first octets =
-    outlook_then (name_at (depth_in frames) (room_in frames) (first ∷ octets)) _ _
-    ∙ outlook_checked (λ limits. nat_lt first 256 && first_fits limits (depth_in frames) (room_in frames) first) (first ∷ octets) said _
+    progress_then (name_at (depth_in frames) (room_in frames) (first ∷ octets)) _ _
+    ∙ progress_checked (λ limits. nat_lt first 256 && first_fits limits (depth_in frames) (room_in frames) first) (first ∷ octets) said _
     ∙ ap (λ w. cond (nat_lt first 256 && first_fits bounded (depth_in frames) (room_in frames) first) w Faulty)
-    (outlook_same Any said _ _ (any_left said) (λ name rest left.
-    outlook_then (size_at (depth_in frames) (room_in frames) (suc (length octets) - length rest) name.constructed rest) _ _))
+    (progress_same Any said _ _ (any_left said) (λ name rest left.
+    progress_then (size_at (depth_in frames) (room_in frames) (suc (length octets) - length rest) name.constructed rest) _ _))
   where
     said : Reads Name
     said = cond (nat_lt (first % 32) 31) (Ok (name_from first (first % 32), octets)) (second_at (room_in frames) first octets)
 
-pub value_none : (frames : List Frame) (first : ℕ) (octets : List ℕ) → first_fits bounded (depth_in frames) (room_in frames) first ≡ false → value_outlook frames (first ∷ octets) ≡ Faulty
+pub value_none : (frames : List Frame) (first : ℕ) (octets : List ℕ) → first_fits bounded (depth_in frames) (room_in frames) first ≡ false → value_progress frames (first ∷ octets) ≡ Faulty
 value_none frames first octets fails =
     let r = read_by (depth_in frames) in
-    ap (λ (v : Reads Tree). then_outlook v (λ tree rest. after (less_in frames (suc (length octets) - length rest)) rest)) (r.1 (room_in frames) (first ∷ octets))
+    ap (λ (v : Reads Tree). then_progress v (λ tree rest. after (less_in frames (suc (length octets) - length rest)) rest)) (r.1 (room_in frames) (first ∷ octets))
     ∙ first_by r.0 frames first octets
     ∙ cond-false _ _ Faulty (and_right_false (nat_lt first 256) (first_fits bounded (depth_in frames) (room_in frames) first) fails)
   where
@@ -255,66 +256,66 @@ value_none frames first octets fails =
     and_right_false false b e = refl
 
 pub value_some : (frames : List Frame) (first : ℕ) (octets : List ℕ) → first < 256 → first_fits bounded (depth_in frames) (room_in frames) first ≡ true
-    → value_outlook frames (first ∷ octets) ≡ cond (nat_lt (first % 32) 31) (length_outlook frames (nat_eq (first / 32 % 2) 1) 1 octets) (second_outlook frames (nat_eq (first / 32 % 2) 1) octets)
+    → value_progress frames (first ∷ octets) ≡ cond (nat_lt (first % 32) 31) (length_progress frames (nat_eq (first / 32 % 2) 1) 1 octets) (second_progress frames (nat_eq (first / 32 % 2) 1) octets)
 value_some frames first octets small fits =
     let r = read_by (depth_in frames) in
     let deep : 0 < depth_in frames = ltb-true 0 (depth_in frames) (first_parts bounded (depth_in frames) (room_in frames) first fits).deep in
     let inner : r.0 ≡ value_at (32 - suc (length frames)) = r.2 deep ∙ ap value_at (omega arith) in
-    ap (λ (v : Reads Tree). then_outlook v (λ tree rest. after (less_in frames (suc (length octets) - length rest)) rest)) (r.1 (room_in frames) (first ∷ octets))
+    ap (λ (v : Reads Tree). then_progress v (λ tree rest. after (less_in frames (suc (length octets) - length rest)) rest)) (r.1 (room_in frames) (first ∷ octets))
     ∙ first_by r.0 frames first octets
     ∙ cond-true _ _ Faulty (and_from (nat_lt first 256) (first_fits bounded (depth_in frames) (room_in frames) first) (lt-ltb first 256 small) fits)
-    ∙ ap (λ (v : Reader). then_outlook (cond (nat_lt (first % 32) 31) (Ok (name_from first (first % 32), octets)) (second_at (room_in frames) first octets)) (name_by v frames (suc (length octets)))) inner
+    ∙ ap (λ (v : Reader). then_progress (cond (nat_lt (first % 32) 31) (Ok (name_from first (first % 32), octets)) (second_at (room_in frames) first octets)) (name_by v frames (suc (length octets)))) inner
     ∙ by (nat_lt (first % 32) 31)
   where
     by : (b : Bool)
-        → then_outlook (cond b (Ok (name_from first (first % 32), octets)) (second_at (room_in frames) first octets)) (name_by (value_at (32 - suc (length frames))) frames (suc (length octets)))
-        ≡ cond b (length_outlook frames (nat_eq (first / 32 % 2) 1) 1 octets) (second_outlook frames (nat_eq (first / 32 % 2) 1) octets)
+        → then_progress (cond b (Ok (name_from first (first % 32), octets)) (second_at (room_in frames) first octets)) (name_by (value_at (32 - suc (length frames))) frames (suc (length octets)))
+        ≡ cond b (length_progress frames (nat_eq (first / 32 % 2) 1) 1 octets) (second_progress frames (nat_eq (first / 32 % 2) 1) octets)
     by true = name_is frames (suc (length octets)) 1 (name_from first (first % 32)) octets (omega arith)
     by false =
-        ap (λ k. then_outlook (second_at (room_in frames) first octets) (name_by (value_at (32 - suc (length frames))) frames k)) (omega arith) ∙ second_is frames first octets
+        ap (λ k. then_progress (second_at (room_in frames) first octets) (name_by (value_at (32 - suc (length frames))) frames k)) (omega arith) ∙ second_is frames first octets
 
 -- ---- lengths
 
-pub length_first : (frames : List Frame) (constructed : Bool) (front first : ℕ) (octets : List ℕ)
-    → length_outlook frames constructed front (first ∷ octets)
-    ≡ cond (length_fits bounded (depth_in frames) (room_in frames) front constructed first)
-    (cond (nat_lt first 128) (contents_outlook frames (front + 1) constructed (Some first) octets)
-    (cond (nat_eq first 128) (contents_outlook frames (front + 1) constructed None octets)
-    (then_outlook (digits_at (depth_in frames) (room_in frames) (front + 1 + (first - 128)) constructed (first - 128) 0 octets) (λ n rest. contents_outlook frames (front + 1 + (first - 128)) constructed (Some n) rest)))) Faulty
-length_first frames constructed front first octets =
-    outlook_checked (λ limits. length_fits limits (depth_in frames) (room_in frames) front constructed first) (first ∷ octets)
+pub length_first : (frames : List Frame) (constructed : Bool) (prefix first : ℕ) (octets : List ℕ)
+    → length_progress frames constructed prefix (first ∷ octets)
+    ≡ cond (length_fits bounded (depth_in frames) (room_in frames) prefix constructed first)
+    (cond (nat_lt first 128) (contents_progress frames (prefix + 1) constructed (Some first) octets)
+    (cond (nat_eq first 128) (contents_progress frames (prefix + 1) constructed None octets)
+    (then_progress (digits_at (depth_in frames) (room_in frames) (prefix + 1 + (first - 128)) constructed (first - 128) 0 octets) (λ n rest. contents_progress frames (prefix + 1 + (first - 128)) constructed (Some n) rest)))) Faulty
+length_first frames constructed prefix first octets =
+    progress_checked (λ limits. length_fits limits (depth_in frames) (room_in frames) prefix constructed first) (first ∷ octets)
     (cond (nat_lt first 128) (Ok (Some first, octets)) (cond (nat_eq first 128) (Ok (None, octets)) (then_read digits (λ n rest. Ok (Some n, rest))))) going
-    ∙ ap (λ w. cond (length_fits bounded (depth_in frames) (room_in frames) front constructed first) w Faulty) (by (nat_lt first 128) (nat_eq first 128))
+    ∙ ap (λ w. cond (length_fits bounded (depth_in frames) (room_in frames) prefix constructed first) w Faulty) (by (nat_lt first 128) (nat_eq first 128))
   where
     digits : Reads ℕ
-    digits = digits_at (depth_in frames) (room_in frames) (front + 1 + (first - 128)) constructed (first - 128) 0 octets
+    digits = digits_at (depth_in frames) (room_in frames) (prefix + 1 + (first - 128)) constructed (first - 128) 0 octets
 
-    going : Option ℕ → List ℕ → Outlook
-    going size rest = contents_outlook frames (front + suc (length octets) - length rest) constructed size rest
+    going : Option ℕ → List ℕ → Progress
+    going size rest = contents_progress frames (prefix + suc (length octets) - length rest) constructed size rest
 
     by : (b c : Bool)
-        → then_outlook (cond b (Ok (Some first, octets)) (cond c (Ok (None, octets)) (then_read digits (λ n rest. Ok (Some n, rest))))) going
-        ≡ cond b (contents_outlook frames (front + 1) constructed (Some first) octets)
-        (cond c (contents_outlook frames (front + 1) constructed None octets) (then_outlook digits (λ n rest. contents_outlook frames (front + 1 + (first - 128)) constructed (Some n) rest)))
-    by true c = ap (λ k. contents_outlook frames k constructed (Some first) octets) (omega arith)
-    by false true = ap (λ k. contents_outlook frames k constructed None octets) (omega arith)
+        → then_progress (cond b (Ok (Some first, octets)) (cond c (Ok (None, octets)) (then_read digits (λ n rest. Ok (Some n, rest))))) going
+        ≡ cond b (contents_progress frames (prefix + 1) constructed (Some first) octets)
+        (cond c (contents_progress frames (prefix + 1) constructed None octets) (then_progress digits (λ n rest. contents_progress frames (prefix + 1 + (first - 128)) constructed (Some n) rest)))
+    by true c = ap (λ k. contents_progress frames k constructed (Some first) octets) (omega arith)
+    by false true = ap (λ k. contents_progress frames k constructed None octets) (omega arith)
     by false false =
-        outlook_then digits _ going
-        ∙ outlook_same (λ n. n + (first - 128) ≡ length octets) digits _ _ (digits_leave (depth_in frames) (room_in frames) (front + 1 + (first - 128)) constructed (first - 128) 0 octets)
-        (λ n rest few. ap (λ k. contents_outlook frames k constructed (Some n) rest) (omega arith))
+        progress_then digits _ going
+        ∙ progress_same (λ n. n + (first - 128) ≡ length octets) digits _ _ (digits_leave (depth_in frames) (room_in frames) (prefix + 1 + (first - 128)) constructed (first - 128) 0 octets)
+        (λ n rest few. ap (λ k. contents_progress frames k constructed (Some n) rest) (omega arith))
 
-pub digit_first : (frames : List Frame) (constructed : Bool) (front others high digit : ℕ) (octets : List ℕ) (next : ℕ → List ℕ → Outlook) → 0 < others
-    → then_outlook (digits_at (depth_in frames) (room_in frames) front constructed others high (digit ∷ octets)) next
-    ≡ cond (nat_lt digit 256 && reaches bounded (depth_in frames) (room_in frames) front constructed (others - 1) (256 * high + digit))
-    (then_outlook (digits_at (depth_in frames) (room_in frames) front constructed (others - 1) (256 * high + digit) octets) next) Faulty
+pub digit_first : (frames : List Frame) (constructed : Bool) (prefix others high digit : ℕ) (octets : List ℕ) (next : ℕ → List ℕ → Progress) → 0 < others
+    → then_progress (digits_at (depth_in frames) (room_in frames) prefix constructed others high (digit ∷ octets)) next
+    ≡ cond (nat_lt digit 256 && reaches bounded (depth_in frames) (room_in frames) prefix constructed (others - 1) (256 * high + digit))
+    (then_progress (digits_at (depth_in frames) (room_in frames) prefix constructed (others - 1) (256 * high + digit) octets) next) Faulty
 unfolding digits_at
-digit_first frames constructed front zero high digit octets next some = absurd (omega arith)
-digit_first frames constructed front (suc others) high digit octets next some =
-    outlook_checked (λ limits. nat_lt digit 256 && reaches limits (depth_in frames) (room_in frames) front constructed others (256 * high + digit)) (digit ∷ octets)
-    (digits_at (depth_in frames) (room_in frames) front constructed others (256 * high + digit) octets) next
+digit_first frames constructed prefix zero high digit octets next some = absurd (omega arith)
+digit_first frames constructed prefix (suc others) high digit octets next some =
+    progress_checked (λ limits. nat_lt digit 256 && reaches limits (depth_in frames) (room_in frames) prefix constructed others (256 * high + digit)) (digit ∷ octets)
+    (digits_at (depth_in frames) (room_in frames) prefix constructed others (256 * high + digit) octets) next
     ∙ (let same : others ≡ suc others - 1 = omega arith in
     ap
     (λ k.
-    cond (nat_lt digit 256 && reaches bounded (depth_in frames) (room_in frames) front constructed k (256 * high + digit))
-    (then_outlook (digits_at (depth_in frames) (room_in frames) front constructed k (256 * high + digit) octets) next) Faulty)
+    cond (nat_lt digit 256 && reaches bounded (depth_in frames) (room_in frames) prefix constructed k (256 * high + digit))
+    (then_progress (digits_at (depth_in frames) (room_in frames) prefix constructed k (256 * high + digit) octets) next) Faulty)
     same)

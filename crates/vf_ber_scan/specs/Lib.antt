@@ -1,4 +1,7 @@
+pub mod Continuation
+pub mod Ends
 pub mod Frames
-pub mod Outlook
 pub mod Places
+pub mod Progress
 pub mod Scanned
+pub mod Tells

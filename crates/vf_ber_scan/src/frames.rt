@@ -3,23 +3,22 @@ ghost use Rattle.std.specs.Prelude.{◌≡◌, ◌<◌, ◌≤◌, ◌∷◌, []
 ghost use Rattle.vf_ber_scan.specs.Frames.{depth_in, end_room_in, ended_in, less_in, octets_in, room_in};
 
 use std::marker::Model;
-use vf_ber::{Room, less};
+use vf_base::MOST_VALUE_OCTETS;
+use vf_ber::MOST_DEPTH;
+use vf_ber::fitting::{Room, less};
 
 /// A constructed value whose contents aren't whole.
 #[derive(Clone, Copy)]
 pub enum Frame {
-    /// Of a definite length, with so many octets of its contents to come behind the value that is open in it.
+    /// Of a definite length, with so many octets of its contents to come after the value that is open in it.
     Definite { left: u64 },
     /// Of an indefinite length, with so much room for its contents and their end, from the beginning on of the value
     /// that is open in it.
     Indefinite { room: Room },
 }
 
-/// How deep a value may be (profile).
-const DEPTH: usize = 32;
-
-/// The octets that a value may take (profile).
-const OCTETS: u64 = 1_048_576;
+/// How many values may be open.
+const DEPTH: usize = MOST_DEPTH as usize;
 
 /// The open values, each in the one before it.
 #[derive(Drop)]
@@ -31,6 +30,7 @@ pub struct Frames {
 
 impl Model for Frames {
     ghost use Rattle.std.specs.Prelude.{◌≤◌, List};
+    ghost use Rattle.vf_ber.specs.declared.limits.TheConstants.{MOST_DEPTH};
     ghost use Rattle.vf_ber_scan.specs.declared.frames.Frame.{Frame};
     ghost use Rattle.vf_ber_scan.specs.Frames.{innermost_first};
 
@@ -38,7 +38,7 @@ impl Model for Frames {
 
     ghost view = { λ f. innermost_first f.count f.held };
 
-    ghost invariant = { λ f. f.count ≤ 32 };
+    ghost invariant = { λ f. f.count ≤ MOST_DEPTH };
 }
 
 impl Frames {
@@ -63,7 +63,7 @@ impl Frames {
         ensures { result ≡ room_in self.now }
     {
         match self.top() {
-            None => Room::Within(OCTETS),
+            None => Room::Within(MOST_VALUE_OCTETS as u64),
             Some(Frame::Definite { left }) => Room::Exact(left),
             Some(Frame::Indefinite { room }) => less(room, 2),
         }
@@ -92,7 +92,7 @@ impl Frames {
 
     /// Opens a value in the innermost one.
     pub fn push(&mut self, frame: Frame)
-        requires { length self.old < 32 }
+        requires { length self.old < MOST_DEPTH }
         ensures { self.new ≡ frame ∷ self.old }
     {
         self.held[self.count] = frame;
@@ -118,7 +118,7 @@ impl Frames {
         self.held[at] = lessened(self.held[at], n);
     }
 
-    /// Says what is left around a value of an indefinite length, by the room that was left in it before its end of
+    /// Sets what is left around a value of an indefinite length, by the room that was left in it before its end of
     /// contents.
     pub fn resume(&mut self, room: Room)
         ensures { self.new ≡ ended_in self.old room }
@@ -149,13 +149,13 @@ fn resumed(frame: Frame, room: Room) -> Frame
 {
     match frame {
         Frame::Definite { .. } => Frame::Definite {
-            left: octets_of(room).saturating_sub(2),
+            left: room_octets(room).saturating_sub(2),
         },
         Frame::Indefinite { .. } => Frame::Indefinite { room },
     }
 }
 
-fn octets_of(room: Room) -> u64
+fn room_octets(room: Room) -> u64
     ensures { result ≡ octets_in room }
 {
     match room {

@@ -10,6 +10,3 @@ mod whole;
 
 pub use scan::Scan;
 pub use whole::whole_in;
-
-#[cfg(test)]
-mod tests;

@@ -1,28 +1,28 @@
-use vf_ber::Room;
+use vf_ber::fitting::Room;
 
 /// Where the octets have come to in a value.
 #[derive(Clone, Copy)]
 pub enum Place {
     /// Where a value begins, or the end of the contents around.
     Start,
-    /// Behind the first octet of an identifier in the long form.
+    /// After the first octet of an identifier in the long form.
     Second {
         constructed: bool,
     },
-    /// Behind the second octet of one, with a third to come.
+    /// After the second octet of one, with a third to come.
     Third {
         constructed: bool,
     },
-    /// Behind an identifier of so many octets.
+    /// After an identifier of so many octets.
     Length {
         constructed: bool,
-        front: u64,
+        prefix: u64,
     },
     /// In a length, with the number that its octets so far make and so many others to come. Identifier and length
-    /// take `front` octets.
+    /// take `prefix` octets.
     Digits {
         constructed: bool,
-        front: u64,
+        prefix: u64,
         more: u32,
         high: u64,
     },
@@ -30,7 +30,7 @@ pub enum Place {
     Contents {
         left: u64,
     },
-    /// Behind the first octet of the end of contents of a value, in which so much room was left before it.
+    /// After the first octet of the end of contents of a value, in which so much room was left before it.
     End {
         room: Room,
     },

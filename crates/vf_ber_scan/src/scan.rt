@@ -14,7 +14,7 @@ pub(crate) struct End {
 }
 
 /// The octets of a value so far, where more are wanting (ISO 8825; limits of this profile): not the octets, but
-/// what they say of those that may follow.
+/// what all come to with any that follow. It is of a fixed size.
 #[derive(Drop)]
 pub struct Scan {
     place: Place,
@@ -24,7 +24,8 @@ pub struct Scan {
 
 impl Scan {
     ghost use Rattle.std.specs.Prelude.{◌≡◌, ◌+◌, ◌<◌, ◌≤◌, ◌++◌, [], ℕ, List, IfSome, OnSome, length};
-    ghost use Rattle.vf_ber_scan.specs.Scanned.{HasTaken, IsEnded, IsFed};
+    ghost use Rattle.vf_ber_scan.specs.Ends.{IsEnded};
+    ghost use Rattle.vf_ber_scan.specs.Scanned.{HasTaken, IsFed};
 
     /// No octets.
     pub fn new() -> Scan
@@ -38,7 +39,7 @@ impl Scan {
 
     /// Takes the next piece of the octets. Answers how many octets of it, at least one, there are up to the first
     /// with which none are wanting, and then goes on as a new scan; the others of the piece aren't looked at. `None`
-    /// where octets are still wanting behind all of them.
+    /// where octets are still wanting after all of them.
     pub fn feed(&mut self, piece: &[u8]) -> Option<usize>
         ensures within { IfSome result (λ n. (0 < n) × (n ≤ length piece.now)) }
         ensures fed { (octets : List ℕ) → HasTaken self.old octets → IsFed octets piece.now result self.new }

@@ -4,11 +4,15 @@ ghost use Rattle.std.specs.Prelude.{◌≡◌, ◌+◌, ◌^◌, ◌<◌, ◌≤
 ghost use Rattle.vf_ber.specs.Steps.{grown};
 ghost use Rattle.vf_ber_scan.specs.Frames.{depth_in, room_in};
 ghost use Rattle.vf_ber_scan.specs.Places.{IsGoing, IsOpen};
-ghost use Rattle.vf_ber_scan.specs.Outlook.{after, contents_outlook, Leads, value_outlook, outlook_at, Wanting};
+ghost use Rattle.vf_ber_scan.specs.Continuation.{after, contents_progress, Leads, value_progress, progress_at};
+ghost use Rattle.vf_ber_scan.specs.Progress.{Wanting};
 
 use crate::frames::{Frame, Frames};
 use crate::place::{Next, Place};
-use vf_ber::{Around, Asked, Room, is_first, is_length, is_reached, is_second, less};
+use vf_ber::MOST_DEPTH;
+use vf_ber::fitting::{
+    Around, Asked, Room, is_first, is_length, is_reached, is_second, less,
+};
 
 /// Takes the first octet of the rest, or as many as there are of the contents at hand, and says how many these are.
 pub fn behind(place: Place, frames: &mut Frames, rest: &[u8]) -> (usize, Next)
@@ -16,8 +20,8 @@ pub fn behind(place: Place, frames: &mut Frames, rest: &[u8]) -> (usize, Next)
     requires some { 0 < length rest.now }
     ensures some { 0 < result.0 }
     ensures within { result.0 ≤ length rest.now }
-    ensures short { (m : ℕ) → m < result.0 → outlook_at place frames.old (take m rest.now) ≡ Wanting }
-    ensures leads { Leads (λ more. outlook_at place frames.old (take result.0 rest.now ++ more)) result.1 frames.new }
+    ensures short { (m : ℕ) → m < result.0 → progress_at place frames.old (take m rest.now) ≡ Wanting }
+    ensures leads { Leads (λ more. progress_at place frames.old (take result.0 rest.now ++ more)) result.1 frames.new }
 {
     let Place::Contents { left } = place else {
         return (1, behind_octet(place, frames, rest[0]));
@@ -32,19 +36,19 @@ pub fn behind(place: Place, frames: &mut Frames, rest: &[u8]) -> (usize, Next)
 fn behind_octet(place: Place, frames: &mut Frames, octet: u8) -> Next
     requires is_open { IsOpen place frames.old }
     requires other { (left : ℕ) → place ≢ Place.Contents left }
-    ensures { Leads (λ more. outlook_at place frames.old (octet ∷ more)) result frames.new }
+    ensures { Leads (λ more. progress_at place frames.old (octet ∷ more)) result frames.new }
 {
     match place {
         Place::Start => behind_start(frames, octet),
         Place::Second { constructed } => behind_second(frames, constructed, octet),
         Place::Third { constructed } => behind_third(frames, constructed, octet),
-        Place::Length { constructed, front } => behind_length(frames, constructed, front, octet),
+        Place::Length { constructed, prefix } => behind_length(frames, constructed, prefix, octet),
         Place::Digits {
             constructed,
-            front,
+            prefix,
             more,
             high,
-        } => behind_digit(frames, constructed, front, more, high, octet),
+        } => behind_digit(frames, constructed, prefix, more, high, octet),
         Place::Contents { .. } => unreachable!(),
         Place::End { room } => behind_end(frames, room, octet),
     }
@@ -53,7 +57,7 @@ fn behind_octet(place: Place, frames: &mut Frames, octet: u8) -> Next
 /// At the beginning of a value, or of the end of contents.
 fn behind_start(frames: &mut Frames, octet: u8) -> Next
     requires { IsGoing frames.old }
-    ensures { Leads (λ more. outlook_at Place.Start frames.old (octet ∷ more)) result frames.new }
+    ensures { Leads (λ more. progress_at Place.Start frames.old (octet ∷ more)) result frames.new }
 {
     let Some(room) = frames.end_room() else {
         return behind_first(frames, octet);
@@ -66,7 +70,7 @@ fn behind_start(frames: &mut Frames, octet: u8) -> Next
 }
 
 fn behind_first(frames: &Frames, first: u8) -> Next
-    ensures { Leads (λ more. value_outlook frames.now (first ∷ more)) result frames.now }
+    ensures { Leads (λ more. value_progress frames.now (first ∷ more)) result frames.now }
 {
     if !is_first(Asked::Bounded, frames.depth(), frames.room(), first) {
         return Next::Ended { whole: false };
@@ -75,7 +79,7 @@ fn behind_first(frames: &Frames, first: u8) -> Next
     if first % 32 < 31 {
         Next::At(Place::Length {
             constructed,
-            front: 1,
+            prefix: 1,
         })
     } else {
         Next::At(Place::Second { constructed })
@@ -84,7 +88,7 @@ fn behind_first(frames: &Frames, first: u8) -> Next
 
 fn behind_second(frames: &Frames, constructed: bool, second: u8) -> Next
     requires { IsOpen (Place.Second constructed) frames.now }
-    ensures { Leads (λ more. outlook_at (Place.Second constructed) frames.now (second ∷ more)) result frames.now }
+    ensures { Leads (λ more. progress_at (Place.Second constructed) frames.now (second ∷ more)) result frames.now }
 {
     if !is_second(Asked::Bounded, frames.room(), second) {
         return Next::Ended { whole: false };
@@ -92,7 +96,7 @@ fn behind_second(frames: &Frames, constructed: bool, second: u8) -> Next
     if second < 128 {
         Next::At(Place::Length {
             constructed,
-            front: 2,
+            prefix: 2,
         })
     } else {
         Next::At(Place::Third { constructed })
@@ -101,46 +105,46 @@ fn behind_second(frames: &Frames, constructed: bool, second: u8) -> Next
 
 fn behind_third(frames: &Frames, constructed: bool, third: u8) -> Next
     requires { IsOpen (Place.Third constructed) frames.now }
-    ensures { Leads (λ more. outlook_at (Place.Third constructed) frames.now (third ∷ more)) result frames.now }
+    ensures { Leads (λ more. progress_at (Place.Third constructed) frames.now (third ∷ more)) result frames.now }
 {
     if third < 128 {
         Next::At(Place::Length {
             constructed,
-            front: 3,
+            prefix: 3,
         })
     } else {
         Next::Ended { whole: false }
     }
 }
 
-fn around(frames: &Frames, constructed: bool, front: u64) -> Around
-    ensures { result ≡ record { depth = depth_in frames.now; room = room_in frames.now; front = front; constructed = constructed } }
+fn around(frames: &Frames, constructed: bool, prefix: u64) -> Around
+    ensures { result ≡ record { depth = depth_in frames.now; room = room_in frames.now; prefix = prefix; constructed = constructed } }
 {
     Around {
         depth: frames.depth(),
         room: frames.room(),
-        front,
+        prefix,
         constructed,
     }
 }
 
-fn behind_length(frames: &mut Frames, constructed: bool, front: u64, octet: u8) -> Next
-    requires { IsOpen (Place.Length constructed front) frames.old }
-    ensures { Leads (λ more. outlook_at (Place.Length constructed front) frames.old (octet ∷ more)) result frames.new }
+fn behind_length(frames: &mut Frames, constructed: bool, prefix: u64, octet: u8) -> Next
+    requires { IsOpen (Place.Length constructed prefix) frames.old }
+    ensures { Leads (λ more. progress_at (Place.Length constructed prefix) frames.old (octet ∷ more)) result frames.new }
 {
-    if !is_length(Asked::Bounded, around(frames, constructed, front), octet) {
+    if !is_length(Asked::Bounded, around(frames, constructed, prefix), octet) {
         return Next::Ended { whole: false };
     }
     if octet < 128 {
-        return behind_header(frames, constructed, front + 1, Some(octet as u64));
+        return behind_header(frames, constructed, prefix + 1, Some(octet as u64));
     }
     if octet == 128 {
-        return behind_header(frames, constructed, front + 1, None);
+        return behind_header(frames, constructed, prefix + 1, None);
     }
     let more = octet - 128;
     Next::At(Place::Digits {
         constructed,
-        front: front + 1 + more as u64,
+        prefix: prefix + 1 + more as u64,
         more: more as u32,
         high: 0,
     })
@@ -149,46 +153,46 @@ fn behind_length(frames: &mut Frames, constructed: bool, front: u64, octet: u8) 
 fn behind_digit(
     frames: &mut Frames,
     constructed: bool,
-    front: u64,
+    prefix: u64,
     more: u32,
     high: u64,
     digit: u8,
 ) -> Next
-    requires { IsOpen (Place.Digits constructed front more high) frames.old }
-    ensures { Leads (λ rest. outlook_at (Place.Digits constructed front more high) frames.old (digit ∷ rest)) result frames.new }
+    requires { IsOpen (Place.Digits constructed prefix more high) frames.old }
+    ensures { Leads (λ rest. progress_at (Place.Digits constructed prefix more high) frames.old (digit ∷ rest)) result frames.new }
 {
     let high = 256 * high + digit as u64;
     let more = more - 1;
     if !is_reached(
         Asked::Bounded,
-        around(frames, constructed, front),
+        around(frames, constructed, prefix),
         more,
         high,
     ) {
         return Next::Ended { whole: false };
     }
     if more == 0 {
-        return behind_header(frames, constructed, front, Some(high));
+        return behind_header(frames, constructed, prefix, Some(high));
     }
     Next::At(Place::Digits {
         constructed,
-        front,
+        prefix,
         more,
         high,
     })
 }
 
-/// Behind the identifier and the length of a value.
-fn behind_header(frames: &mut Frames, constructed: bool, front: u64, size: Option<u64>) -> Next
-    requires { length frames.old < 32 }
-    ensures { Leads (λ more. contents_outlook frames.old front constructed size more) result frames.new }
+/// After the identifier and the length of a value.
+fn behind_header(frames: &mut Frames, constructed: bool, prefix: u64, size: Option<u64>) -> Next
+    requires { length frames.old < MOST_DEPTH }
+    ensures { Leads (λ more. contents_progress frames.old prefix constructed size more) result frames.new }
 {
     let Some(n) = size else {
-        let room = less(frames.room(), front);
+        let room = less(frames.room(), prefix);
         frames.push(Frame::Indefinite { room });
         return Next::At(Place::Start);
     };
-    frames.take(front);
+    frames.take(prefix);
     frames.take(n);
     if constructed {
         frames.push(Frame::Definite { left: n });
@@ -202,7 +206,7 @@ fn behind_header(frames: &mut Frames, constructed: bool, front: u64, size: Optio
 
 /// At the second octet of an end of contents.
 fn behind_end(frames: &mut Frames, room: Room, octet: u8) -> Next
-    ensures { Leads (λ more. outlook_at (Place.End room) frames.old (octet ∷ more)) result frames.new }
+    ensures { Leads (λ more. progress_at (Place.End room) frames.old (octet ∷ more)) result frames.new }
 {
     if octet != 0 {
         return Next::Ended { whole: false };
@@ -211,7 +215,7 @@ fn behind_end(frames: &mut Frames, room: Room, octet: u8) -> Next
     behind_value(frames)
 }
 
-/// Behind a value, with which some of those around it may end.
+/// After a value, with which some of those around it may end.
 fn behind_value(frames: &mut Frames) -> Next
     ensures { Leads (λ more. after frames.old more) result frames.new }
 {

@@ -20,17 +20,17 @@ is_reached-requires-clause-small c =
 
 pub returns-then-not-is_reached : goal.returns-then-not-is_reached
 returns-then-not-is_reached c =
-    digit_none c.args.frames.now c.args.constructed c.args.front c.args.more c.args.high c.args.digit c.requires.2
-    (reaches_around c.args.frames.now c.around.result c.args.constructed c.args.front (c.args.more - 1) (256 * c.args.high + c.args.digit) c.is_reached.result false c.around.ensures c.is_reached.ensures c.if-not-is_reached.true)
+    digit_none c.args.frames.now c.args.constructed c.args.prefix c.args.more c.args.high c.args.digit c.requires.2
+    (reaches_around c.args.frames.now c.around.result c.args.constructed c.args.prefix (c.args.more - 1) (256 * c.args.high + c.args.digit) c.is_reached.result false c.around.ensures c.is_reached.ensures c.if-not-is_reached.true)
 
 pub returns-then-more-eq0 : goal.returns-then-more-eq0
 returns-then-more-eq0 c =
-    digit_last c.args.frames.now c.behind_header.new.frames c.args.constructed c.args.front c.args.more c.args.high c.args.digit c.behind_header.result
+    digit_last c.args.frames.now c.behind_header.new.frames c.args.constructed c.args.prefix c.args.more c.args.high c.args.digit c.behind_header.result
     c.requires.2 (omega arith) c.if-more-eq0.true
-    (reaches_around c.args.frames.now c.around.result c.args.constructed c.args.front (c.args.more - 1) (256 * c.args.high + c.args.digit) c.is_reached.result true c.around.ensures c.is_reached.ensures c.if-not-is_reached.false)
+    (reaches_around c.args.frames.now c.around.result c.args.constructed c.args.prefix (c.args.more - 1) (256 * c.args.high + c.args.digit) c.is_reached.result true c.around.ensures c.is_reached.ensures c.if-not-is_reached.false)
     c.behind_header.ensures
 
 pub returns : goal.returns
 returns c =
-    digit_next c.args.frames.now c.args.constructed c.args.front c.args.more c.args.high c.args.digit c.requires (omega arith) c.if-more-eq0.false
-    (reaches_around c.args.frames.now c.around.result c.args.constructed c.args.front (c.args.more - 1) (256 * c.args.high + c.args.digit) c.is_reached.result true c.around.ensures c.is_reached.ensures c.if-not-is_reached.false)
+    digit_next c.args.frames.now c.args.constructed c.args.prefix c.args.more c.args.high c.args.digit c.requires (omega arith) c.if-more-eq0.false
+    (reaches_around c.args.frames.now c.around.result c.args.constructed c.args.prefix (c.args.more - 1) (256 * c.args.high + c.args.digit) c.is_reached.result true c.around.ensures c.is_reached.ensures c.if-not-is_reached.false)

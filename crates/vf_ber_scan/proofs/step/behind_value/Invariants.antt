@@ -1,5 +1,5 @@
 use Rattle.std.proofs.Common.{◌≡◌, List, ℕ, length}
-use Rattle.vf_ber_scan.specs.Outlook.{after}
+use Rattle.vf_ber_scan.specs.Continuation.{after}
 use Rattle.vf_ber_scan.proofs.step.behind_value.Given as goal
 
 abbrev pub invariant-loop-frame : goal.invariant-loop-frame
