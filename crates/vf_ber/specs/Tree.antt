@@ -55,9 +55,3 @@ part_at (more part parts) (suc place) = part_at parts place
 abbrev pub root : Tree → Tag
 root (plain tag octets) = tag
 root (built tag parts) = tag
-
--- the value of a list of one
-abbrev pub alone : Trees → Option Tree
-alone none = None
-alone (more part none) = Some part
-alone (more part (more other parts)) = None

@@ -1,6 +1,6 @@
 ghost use Rattle.std.specs.Prelude.{◌≡◌, ◌<◌, ◌^◌, nat_eq, length, IfOk, OnOk, OnErr};
 ghost use Rattle.std.specs.Option.{option_copied, option_map};
-ghost use Rattle.vf_ber.specs.Tree.{alone, count, joined, more, none, part_at, root};
+ghost use Rattle.vf_ber.specs.Tree.{count, joined, more, none, part_at, root};
 ghost use Rattle.vf_ber.specs.Views.{tag_of, tree_of, trees_in};
 
 use crate::Tag;
@@ -119,16 +119,6 @@ impl Values {
         ensures within { length result.now < 2 ^ 32 }
     {
         self.items.as_slice()
-    }
-
-    /// The value, where there is one alone.
-    pub fn into_single(mut self) -> Option<Value>
-        ensures { option_map tree_of result ≡ alone self }
-    {
-        if self.items.len() != 1 {
-            return None;
-        }
-        self.items.pop()
     }
 
     /// The same values; their octets are shared.
