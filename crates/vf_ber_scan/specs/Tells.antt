@@ -5,5 +5,5 @@ use Rattle.vf_ber_scan.specs.declared.scan.Scan.{Scan}
 use Rattle.vf_ber_scan.specs.Continuation.{progress_at}
 use Rattle.vf_ber_scan.specs.Progress.{Progress}
 
-abbrev pub tells : Scan → List ℕ → Progress
+unfoldable pub tells : Scan → List ℕ → Progress
 tells scan more = progress_at scan.place scan.frames more

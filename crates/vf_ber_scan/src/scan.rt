@@ -22,6 +22,7 @@ pub struct Scan {
     ghost is_open: { IsOpen place frames } by { IsOpen-prop place frames },
 }
 
+#[tactic(auto, unfolding(crate::specs::Tells::tells))]
 impl Scan {
     ghost use Rattle.std.specs.Prelude.{◌≡◌, ◌+◌, ◌<◌, ◌≤◌, ◌++◌, [], ℕ, List, IfSome, OnSome, length};
     ghost use Rattle.vf_ber_scan.specs.Ends.{IsEnded};

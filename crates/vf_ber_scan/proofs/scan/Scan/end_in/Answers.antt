@@ -1,6 +1,7 @@
 use Rattle.std.proofs.Common.{arith, subst, take, ◌++◌}
 use Rattle.vf_ber_scan.specs.declared.place.Next.{Next}
 use Rattle.vf_ber_scan.specs.Continuation.{progress_at, Leads}
+use Rattle.vf_ber_scan.specs.Tells.{tells}
 use Rattle.vf_ber_scan.proofs.ReadingLemmas.{fed_ended, fed_more, new_ahead, new_short}
 use Rattle.vf_ber_scan.proofs.scan.Scan.end_in.Goals as goal
 
@@ -23,4 +24,5 @@ loop-taken-preserved c =
     }
 
 pub returns-in-Ended-clause-anew : goal.returns-in-Ended-clause-anew
+unfolding tells
 returns-in-Ended-clause-anew c = record { short = new_short c.new-self.result c.new-self.ensures; ahead = new_ahead c.new-self.result c.new-self.ensures }
