@@ -84,9 +84,10 @@ fn answers(alloc: Global, text: &[u8]) -> Result<Vec<u8>, Fault> {
     Ok(out)
 }
 
-/// The value that the octets begin with: its canonical spelling where that is asked for, else how many octets it took.
-fn value(alloc: Global, octets: &[u8], spelled: bool) -> Result<Vec<u8>, Fault> {
-    let kept = Octets::of(alloc, octets)?;
+/// The value that the octets begin with, which shares them: its canonical spelling where that is asked for, else how many
+/// octets it took.
+fn value(alloc: Global, octets: Vec<u8>, spelled: bool) -> Result<Vec<u8>, Fault> {
+    let kept = Octets::from_vec(octets)?;
     let Ok((value, taken)) = read_shared(alloc, &kept) else {
         return Err(Fault::Octets);
     };
@@ -108,9 +109,9 @@ fn total(alloc: Global, count: usize) -> Result<Vec<u8>, Fault> {
     }
 }
 
-fn run(alloc: Global, command: Command, octets: &[u8]) -> Result<Vec<u8>, Fault> {
+fn run(alloc: Global, command: Command, octets: Vec<u8>) -> Result<Vec<u8>, Fault> {
     match command {
-        Command::Read => answers(alloc, octets),
+        Command::Read => answers(alloc, octets.as_slice()),
         Command::Parse => value(alloc, octets, false),
         Command::Rewrite => value(alloc, octets, true),
         Command::Hold => total(alloc, octets.len()),
@@ -132,7 +133,7 @@ fn main(rt: HostRuntime) -> ExitCode {
     let Ok(octets) = read_up_to(alloc, &mut ReadSource::new(rt.stdin()), LIMIT) else {
         return ExitCode::from(3);
     };
-    match run(alloc, command, octets.as_slice()) {
+    match run(alloc, command, octets) {
         Ok(made) => match WriteSink::new(rt.stdout()).write(made.as_slice()) {
             Ok(()) => ExitCode::from(0),
             Err(_) => ExitCode::from(4),

@@ -1,0 +1,19 @@
+//! Tests of public calls of the codecs and of the plain values that they speak of, over octets and numbers from outside.
+#![tactic(auto)]
+
+#[cfg(test)]
+mod ber_contents;
+#[cfg(test)]
+mod ber_fitting;
+#[cfg(test)]
+mod ber_reading;
+#[cfg(test)]
+mod ber_scan;
+#[cfg(test)]
+mod ber_writing;
+#[cfg(test)]
+mod nested;
+#[cfg(test)]
+mod outside;
+#[cfg(test)]
+mod plain_values;
