@@ -1,6 +1,6 @@
 use Rattle.std.proofs.Common.{◌++◌, length}
 use Rattle.vf_tpkt.specs.Steps.{Onward}
-use Rattle.vf_tpkt.proofs.tpkt.hear_all.Given as goal
+use Rattle.vf_tpkt.proofs.tpkt.receive_all.Given as goal
 
 abbrev pub invariant-loop-rest : goal.invariant-loop-rest
 invariant-loop-rest l =

@@ -6,8 +6,8 @@ use Rattle.std.proofs.lemmas.Bool.Decides.{nat_tests}
 use Rattle.std.proofs.lemmas.List.{length-append}
 use Rattle.vf_session_spdu.specs.Grammar.{IsLength}
 use Rattle.vf_session_spdu.specs.Numbers.{length_at, length_octets}
-use Rattle.vf_session_spdu.specs.Parts.{whole, front, front_by, Opening, parts_by, parts_behind}
-use Rattle.vf_session_spdu.proofs.PartLemmas.{parts-front}
+use Rattle.vf_session_spdu.specs.Parts.{whole, measured, measured_by, Opening, parts_by, parts_after}
+use Rattle.vf_session_spdu.proofs.PartLemmas.{parts-measured}
 
 -- ---- a length
 
@@ -51,23 +51,23 @@ length-written n =
 
 -- ---- what follows an identifier
 
-front-at : (o : List ℕ) (s n : ℕ) (v m : List ℕ) → s + n ≤ length o → take n (drop s o) ≡ v → drop (s + n) o ≡ m → front_by o (Some (s, n)) ≡ whole s v m
-front-at o s n v m h t d =
+measured-at : (o : List ℕ) (s n : ℕ) (v m : List ℕ) → s + n ≤ length o → take n (drop s o) ≡ v → drop (s + n) o ≡ m → measured_by o (Some (s, n)) ≡ whole s v m
+measured-at o s n v m h t d =
     let fits : nat_lt (length o) (s + n) ≡ false = grind (arith, nat_tests) in
     rw fits (ap (λ (x : List ℕ). whole s x (drop (s + n) o)) t ∙ ap (whole s v) d)
 
-pub front-unit : (indicator value rest : List ℕ) → Indicates (length value) indicator → front (indicator ++ (value ++ rest)) ≡ whole (length indicator) value rest
-front-unit indicator value rest h =
-    let behind : drop (length indicator) (indicator ++ (value ++ rest)) ≡ value ++ rest = drop-append_seam indicator (value ++ rest) in
+pub measured-unit : (indicator value rest : List ℕ) → Indicates (length value) indicator → measured (indicator ++ (value ++ rest)) ≡ whole (length indicator) value rest
+measured-unit indicator value rest h =
+    let after : drop (length indicator) (indicator ++ (value ++ rest)) ≡ value ++ rest = drop-append_seam indicator (value ++ rest) in
     let all : length (indicator ++ (value ++ rest)) ≡ length indicator + length (value ++ rest) = length-append indicator (value ++ rest) in
     let both : length (value ++ rest) ≡ length value + length rest = length-append value rest in
-    ap (front_by (indicator ++ (value ++ rest))) (length-found (length value) indicator (value ++ rest) h)
-    ∙ front-at (indicator ++ (value ++ rest)) (length indicator) (length value) value rest (omega arith)
-    (ap (take (length value)) behind ∙ take-append_seam value rest)
+    ap (measured_by (indicator ++ (value ++ rest))) (length-found (length value) indicator (value ++ rest) h)
+    ∙ measured-at (indicator ++ (value ++ rest)) (length indicator) (length value) value rest (omega arith)
+    (ap (take (length value)) after ∙ take-append_seam value rest)
     (drop-append-add indicator (value ++ rest) (length value) ∙ drop-append_seam value rest)
 
 -- the parts of octets that begin with a parameter or a group
 pub parts-unit : (opened : Opening) (place code : ℕ) (indicator value rest : List ℕ) → Indicates (length value) indicator
     → parts_by opened place (code ∷ (indicator ++ (value ++ rest))) ≡ opened (place + 1 + length indicator) code value ++ parts_by opened (place + 1 + length indicator + length value) rest
 parts-unit opened place code indicator value rest h =
-    parts-front opened place code (indicator ++ (value ++ rest)) ∙ ap (parts_behind opened (parts_by opened) place code) (front-unit indicator value rest h)
+    parts-measured opened place code (indicator ++ (value ++ rest)) ∙ ap (parts_after opened (parts_by opened) place code) (measured-unit indicator value rest h)
