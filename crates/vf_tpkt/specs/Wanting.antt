@@ -1,7 +1,12 @@
 -- How many octets an end can receive before something is told.
-use Rattle.std.specs.Prelude.{◌≡◌, ◌≤◌, ◌⊎◌, ℕ, List, [], ◌++◌, length, None, Some}
+use Rattle.std.specs.Prelude.{◌≡◌, ◌≤◌, ◌-◌, ◌⊎◌, ℕ, nat_lt, List, [], ◌++◌, length, None, Some, if◌then◌else◌}
 use Rattle.vf_tpkt.specs.declared.error.TpktError.{TpktError}
 use Rattle.vf_tpkt.specs.Receiving.{Kept, Reading, onward}
+use Rattle.vf_tpkt.specs.Steps.{size_in}
+
+-- what a packet lacks: of the four octets of its header, and then by the length in it
+abbrev pub lacking : List ℕ → ℕ
+lacking packet = if nat_lt (length packet) 4 then 4 - length packet else size_in packet - length packet
 
 -- Nothing is told.
 pub record IsSilent (r : Reading) : Type 0 where

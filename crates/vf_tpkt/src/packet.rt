@@ -2,6 +2,7 @@
 ghost use Rattle.std.specs.Prelude.{◌≡◌, ◌<◌, ◌≤◌, IfOk, length};
 ghost use Rattle.vf_tpkt.specs.Receiving.{first_packet};
 ghost use Rattle.vf_tpkt.specs.Steps.{FitsOne, Wants};
+ghost use Rattle.vf_tpkt.specs.Wanting.{lacking};
 
 use crate::TpktError;
 
@@ -13,6 +14,7 @@ pub(crate) const HEADER: usize = 4;
 pub(crate) fn wanted(place: u64, packet: &[u8]) -> Result<usize, TpktError>
     requires { FitsOne packet.now }
     ensures wants { Wants place packet.now result }
+    ensures exact { IfOk result (λ count. count ≡ lacking packet.now) }
     ensures bound { IfOk result (λ count. count ≤ 65535) }
 {
     if !packet.is_empty() && packet[0] != 3 {

@@ -2,7 +2,7 @@
 ghost use Rattle.std.specs.Prelude.{◌≡◌, ◌+◌, ◌≤◌, ◌<◌, ◌++◌, [], length, List, ℕ, IsTrue, IfOk, OnOk, OnErr, None};
 ghost use Rattle.vf_tpkt.specs.Receiving.{first_packet, onward, part};
 ghost use Rattle.vf_tpkt.specs.Stream.{HasReceived};
-ghost use Rattle.vf_tpkt.specs.Wanting.{TellsOnce};
+ghost use Rattle.vf_tpkt.specs.Wanting.{TellsOnce, lacking};
 ghost use Rattle.vf_tpkt.specs.Pieces.{Tells, TellsPiece};
 ghost use Rattle.vf_tpkt.specs.Sending.{stands as stands_now, sent, most_of};
 ghost use Rattle.vf_tpkt.specs.Steps.{FitsOne, Looks, Moves, ReceivesAll};
@@ -141,11 +141,13 @@ impl Tpkt {
         }
     }
 
-    /// How many octets may come before a unit, an answer or a fault is told: fed at most so many, of which the last may
-    /// complete one, nothing is told by the octets before it. At least 1 and at most 65,535.
+    /// How many octets may come before a unit, an answer or a fault is told: those that a packet's header lacks, or those
+    /// that the packet lacks. Fed at most so many, `feed` tells one thing at most, at the last of them or at a fault, after
+    /// which it tells nothing. At least 1 and at most 65,535.
     pub fn wanted(&self) -> usize
         ensures some { 1 ≤ result }
         ensures bound { result ≤ 65535 }
+        ensures exact { result ≡ lacking self.now.packet }
         ensures once { TellsOnce self.now result }
     {
         most_wanted(self.connection.place(), self.packet.as_slice())
@@ -167,6 +169,7 @@ fn most_wanted(place: u64, packet: &[u8]) -> usize
     requires { first_packet place packet.now ≡ part }
     ensures some { 1 ≤ result }
     ensures bound { result ≤ 65535 }
+    ensures exact { result ≡ lacking packet.now }
     ensures fits { (more : List ℕ) → length more ≤ result → FitsOne (packet.now ++ more) }
 {
     wanted(place, packet).unwrap_or(1)
