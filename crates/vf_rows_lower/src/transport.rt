@@ -99,7 +99,7 @@ fn steps_tell(rt: HostRuntime) -> Result<(), Fail> {
             count = count.saturating_add(1);
         }
     }
-    assert_eq!(rt; count, 33);
+    assert_eq!(rt; count, 32);
     Ok(())
 }
 

@@ -50,8 +50,13 @@ impl End {
     }
 }
 
-/// The letters of units that are tried, the frequent ones more than once.
-const TRIED: [u8; 24] = *b"cagdDkkkklllrRsSpqeEotTx";
+/// The letters of units that are tried, the frequent ones more than once; of a resynchronization and of its answer each
+/// form is.
+const TRIED: [u8; 24] = *b"cagddDkkkkkllllrreeeetTx";
+
+const RESYNCS: [u8; 6] = *b"rRsSpq";
+
+const ANSWERS: [u8; 3] = *b"eEo";
 
 /// Some unit, by a random number and the next serial number.
 fn some_unit(alloc: Global, choice: u64, number: u32) -> Result<SessionSay, Fail> {
@@ -62,15 +67,19 @@ fn some_unit(alloc: Global, choice: u64, number: u32) -> Result<SessionSay, Fail
         2 => number.saturating_sub(2),
         _ => number.saturating_add(1),
     };
-    let letter = TRIED[(choice % 24) as usize];
-    // What ends a walk is rare.
-    let letter = match (letter, choice >> 40 & 15) {
-        (b'x', 0) => b'x',
-        (b'x', 1) => b'f',
-        (b'x', 2) => b'n',
-        (b'x', _) => b'T',
-        (b'c' | b'a', 0..=7) => letter.to_ascii_uppercase(),
-        _ => letter,
+    let form = choice >> 12;
+    let letter = match TRIED[(choice % 24) as usize] {
+        b'r' => RESYNCS[(form % 6) as usize],
+        b'e' => ANSWERS[(form % 3) as usize],
+        // What ends a walk is rare.
+        b'x' => match form % 64 {
+            0 => b'x',
+            1..=4 => b'f',
+            5..=8 => b'n',
+            _ => b'T',
+        },
+        letter if letter < b'd' && form % 2 == 0 => letter.to_ascii_uppercase(),
+        letter => letter,
     };
     unit(alloc, letter, serial, data)
 }
@@ -90,9 +99,17 @@ pub(super) fn data(unit: &SessionSay) -> &[u8] {
     }
 }
 
+/// A unit as text; a token that passes before data is told by itself.
+fn shown(alloc: Global, unit: &SessionSay) -> Result<String, Fail> {
+    match unit {
+        SessionSay::Data { .. } => Ok(String::from_str(alloc, " d")?),
+        _ => unit_text(alloc, unit),
+    }
+}
+
 /// Two units are shown alike and have the same user data.
 fn same(alloc: Global, a: &SessionSay, b: &SessionSay) -> Result<bool, Fail> {
-    Ok(unit_text(alloc, a)? == unit_text(alloc, b)? && data(a) == data(b))
+    Ok(shown(alloc, a)? == shown(alloc, b)? && data(a) == data(b))
 }
 
 /// The end says a unit if it may, by the session as by the plain program; false where these differ.
@@ -221,7 +238,7 @@ fn walk(alloc: Global, start: u64, counts: &mut Counts) -> Result<bool, Fail> {
         return Ok(false);
     }
     let mut seed = start;
-    for _ in 0..120 {
+    for _ in 0..200 {
         seed = next(seed);
         let good = match seed >> 62 {
             0 => Some(speaks(alloc, &mut calling, &mut called, seed)?),
