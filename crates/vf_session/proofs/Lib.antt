@@ -1,7 +1,8 @@
-pub mod TraceLemmas
+pub mod Follows
 pub mod GrowLemmas
-pub mod TakeLemmas
+pub mod TraceLemmas
+pub mod SentLemmas
 pub mod RoomLemmas
-pub mod SaidLemmas
 pub mod AllowedLemmas
+pub mod TakeLemmas
 pub mod MutualLemmas

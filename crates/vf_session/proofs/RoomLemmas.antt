@@ -11,9 +11,13 @@ use Rattle.vf_session.specs.declared.units.SessionSay.TheVariants as say
 use Rattle.vf_session.specs.declared.units.TokenSide.{TokenSide}
 use Rattle.vf_base.specs.declared.spdu_kind.SpduKind.TheVariants as kinds
 use Rattle.vf_session_spdu.specs.Fields.{no_fields}
-use Rattle.vf_session_spdu.specs.Numbers.{digits, digit_count, six_digits, zeros_in_front}
-use Rattle.vf_session.specs.Rooms.{connect_size, token_size, data_length, room}
-use Rattle.vf_session.specs.Saying.{fits, has_room, units_fields, reason_fields, abort_fields, resync_code, token_item}
+use Rattle.vf_session_spdu.specs.Numbers.{digits, digit_count, six_digits, leading_zeros}
+use Rattle.vf_session.specs.Rooms.{connect_size, token_size, carried, room, may_by}
+use Rattle.vf_session.specs.Units.{parameters, user_data, with_data}
+use Rattle.vf_session.specs.declared.parameters.SayParameters.{SayParameters}
+use Rattle.vf_session.specs.declared.parameters.SayParameters.TheVariants as head
+use Rattle.vf_session.specs.declared.state.SessionState.{SessionState}
+use Rattle.vf_session.specs.Sending.{may, is_allowed, fits, has_room, units_fields, reason_fields, abort_fields, resync_code, token_item}
 use Rattle.vf_session_spdu.specs.Spelling.{spelled, spelled_if, second_data, spelled_parameters}
 
 -- ---- one parameter
@@ -34,7 +38,7 @@ length-spelled_short code v h =
     length-spelled code v ∙ rw short refl
 
 pub length-digits : (n : ℕ) → length (digits n) ≡ digit_count n
-length-digits n = length-drop (zeros_in_front n) (six_digits n)
+length-digits n = length-drop (leading_zeros n) (six_digits n)
 
 digits-size : (code n : ℕ) → length (spelled code (digits n)) ≡ digit_count n + 2
 digits-size code n =
@@ -173,7 +177,7 @@ token-few : (tok : Option TokenSide) → token_size tok ≤ 3
 token-few None = omega arith
 token-few (Some side) = omega arith
 
--- a reason, and the user data behind it
+-- a reason, and the user data after it
 refuse-size : (o : List ℕ) (reason : ℕ) → length (spelled_parameters (record { kind = kinds.RF; fields = reason_fields reason; octets = o })) ≡ size_of (suc (length o))
 refuse-size o reason =
     let a = length-append (spelled 50 (reason ∷ o)) [] in
@@ -199,9 +203,9 @@ number-fits n =
     let t : nat_le (length (spelled 42 (digits n) ++ [])) 65535 ≡ true = grind (arith, nat_tests) in
     rw t refl
 
-pub fits-is : (own : TokenSide) (said : SessionSay) → fits own said ≡ nat_le (data_length said) (room said)
-fits-is own (say.Connect sync n o) = rest-fits (record { kind = kinds.CN; fields = units_fields sync n; octets = o }) (connect_size sync n) (room (say.Connect sync n o)) o (connect-size sync n o) (connect-few sync n) refl
-fits-is own (say.Accept sync n o) = rest-fits (record { kind = kinds.AC; fields = units_fields sync n; octets = o }) (connect_size sync n) (room (say.Accept sync n o)) o (accept-size sync n o) (connect-few sync n) refl
+pub fits-is : (own : TokenSide) (sent : SessionSay) → fits own sent ≡ nat_le (carried (parameters sent) (length (user_data sent))) (room (parameters sent))
+fits-is own (say.Connect sync n o) = rest-fits (record { kind = kinds.CN; fields = units_fields sync n; octets = o }) (connect_size sync n) (room (parameters (say.Connect sync n o))) o (connect-size sync n o) (connect-few sync n) refl
+fits-is own (say.Accept sync n o) = rest-fits (record { kind = kinds.AC; fields = units_fields sync n; octets = o }) (connect_size sync n) (room (parameters (say.Accept sync n o))) o (accept-size sync n o) (connect-few sync n) refl
 fits-is own (say.Refuse o) = refuse-fits o (if nat_eq (length o) 0 then 0 else 2)
 fits-is own (say.Finish o) = rest-fits (record { kind = kinds.FN; fields = no_fields; octets = o }) 0 65531 o (user-data-size o ∙ omega arith) (omega arith) refl
 fits-is own (say.Finished o) = rest-fits (record { kind = kinds.DN; fields = no_fields; octets = o }) 0 65531 o (user-data-size o ∙ omega arith) (omega arith) refl
@@ -212,10 +216,39 @@ fits-is own (say.Acknowledge n) = number-fits n
 fits-is own (say.Resync kind n tok o) =
     let few = digits-few n in
     let t = token-few tok in
-    rest-fits (record { kind = kinds.RS; fields = record no_fields { tokens = option_map (token_item own) tok; resync = Some (resync_code kind); serial = Some n }; octets = o }) (token_size tok + 5 + digit_count n) (room (say.Resync kind n tok o)) o (resync-size own kind n tok o) (omega arith) (omega arith)
+    rest-fits (record { kind = kinds.RS; fields = record no_fields { tokens = option_map (token_item own) tok; resync = Some (resync_code kind); serial = Some n }; octets = o }) (token_size tok + 5 + digit_count n) (room (parameters (say.Resync kind n tok o))) o (resync-size own kind n tok o) (omega arith) (omega arith)
 fits-is own (say.Resynced n tok o) =
     let few = digits-few n in
     let t = token-few tok in
-    rest-fits (record { kind = kinds.RA; fields = record no_fields { tokens = option_map (token_item own) tok; serial = Some n }; octets = o }) (token_size tok + 2 + digit_count n) (room (say.Resynced n tok o)) o (resynced-size own n tok o) (omega arith) (omega arith)
+    rest-fits (record { kind = kinds.RA; fields = record no_fields { tokens = option_map (token_item own) tok; serial = Some n }; octets = o }) (token_size tok + 2 + digit_count n) (room (parameters (say.Resynced n tok o))) o (resynced-size own n tok o) (omega arith) (omega arith)
 fits-is own (say.Abort o) = rest-fits (record { kind = kinds.AB; fields = abort_fields (if nat_eq (length o) 0 then 5 else 3); octets = o }) 3 65528 o (abort-size o (if nat_eq (length o) 0 then 5 else 3)) (omega arith) refl
 fits-is own (say.Token to) = refl
+
+-- ---- what may be sent
+
+pub may-is : (own : TokenSide) (offer : Bool) (s : SessionState) (unit : SessionSay) → may own offer s unit ≡ may_by own offer s (parameters unit) (length (user_data unit))
+may-is own offer s unit = ap (λ (b : Bool). is_allowed own offer s unit && b) (fits-is own unit)
+
+may-with : (own : TokenSide) (offer : Bool) (s : SessionState) (unit : SayParameters) (o : List ℕ)
+    → may_by own offer s (parameters (with_data unit o)) (length (user_data (with_data unit o))) ≡ may_by own offer s unit (length o)
+may-with own offer s (head.Connect sync n) o = refl
+may-with own offer s (head.Accept sync n) o = refl
+may-with own offer s head.Refuse o = refl
+may-with own offer s head.Finish o = refl
+may-with own offer s head.Finished o = refl
+may-with own offer s (head.Data pass) o = refl
+may-with own offer s (head.Check n) o = refl
+may-with own offer s (head.Acknowledge n) o = refl
+may-with own offer s (head.Resync kind n tok) o = refl
+may-with own offer s (head.Resynced n tok) o = refl
+may-with own offer s head.Abort o = refl
+may-with own offer s (head.Token to) o = refl
+
+pub may-carried : (own : TokenSide) (offer : Bool) (s : SessionState) (unit : SayParameters) (count : ℕ) (test : Bool) → test ≡ may_by own offer s unit count
+    → (o : List ℕ) → length o ≡ count → test ≡ may own offer s (with_data unit o)
+may-carried own offer s unit count test e o n =
+    e ∙ ap (may_by own offer s unit) (sym n) ∙ sym (may-is own offer s (with_data unit o) ∙ may-with own offer s unit o)
+
+pub may-of : (own : TokenSide) (offer : Bool) (s : SessionState) (unit : SessionSay) (count : ℕ) (test : Bool) → test ≡ may_by own offer s (parameters unit) count → count ≡ length (user_data unit)
+    → test ≡ may own offer s unit
+may-of own offer s unit count test e n = e ∙ ap (may_by own offer s (parameters unit)) n ∙ sym (may-is own offer s unit)

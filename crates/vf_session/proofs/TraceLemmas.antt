@@ -4,15 +4,17 @@ use Rattle.std.proofs.lemmas.Bool.{cases_lt}
 use Rattle.std.proofs.lemmas.Bool.Decides.{nat_tests}
 use Rattle.std.specs.List.{filter, fold}
 use Rattle.vf_session.specs.declared.phase.Phase.{Phase}
-use Rattle.vf_session.specs.declared.resync.Resync.{Resync}
-use Rattle.vf_session.specs.declared.standing.Standing.{Standing}
+use Rattle.vf_session.specs.declared.resync.PendingResync.{PendingResync}
+use Rattle.vf_session.specs.declared.state.SessionState.{SessionState}
 use Rattle.vf_session.specs.declared.units.ResyncKind.{ResyncKind}
 use Rattle.vf_session.specs.declared.units.SessionSay.{SessionSay}
 use Rattle.vf_session.specs.declared.units.SessionSay.TheVariants as say
 use Rattle.vf_session.specs.declared.units.TokenSide.{TokenSide}
 use Rattle.vf_session.specs.Advances.{Grows, kept_after}
-use Rattle.vf_session.specs.Represents.{Kept, Represents, numbers_up, newest_resync}
-use Rattle.vf_session.specs.Trace.{Trace, standing, acknowledged_by, acknowledgements, checks, since, unacknowledged, next, token, resync, settled, is_resync, resync_by, is_from, with_heard, other}
+use Rattle.vf_session.specs.Allowed.{numbers_up, newest_resync}
+use Rattle.vf_session.specs.Kept.{Kept}
+use Rattle.vf_session.proofs.Follows.{Follows}
+use Rattle.vf_session.specs.Trace.{Trace, state, acknowledged_by, acknowledgements, checks, since, unacknowledged, next, token, resync, settled, is_resync, resync_by, is_from, with_received, other}
 
 -- ---- numbers of checks
 
@@ -113,15 +115,15 @@ acknowledged-open acks cs n o N h lt u =
 
 -- ---- where the connection stands
 
-same-standing : (p p' : Phase) (a a' b b' : Bool) (f f' n n' o o' : ℕ) (t t' : TokenSide) (r r' : Option Resync)
+same-state : (p p' : Phase) (a a' b b' : Bool) (f f' n n' o o' : ℕ) (t t' : TokenSide) (r r' : Option PendingResync)
     → p ≡ p' → a ≡ a' → b ≡ b' → f ≡ f' → n ≡ n' → o ≡ o' → t ≡ t' → r ≡ r' →
-    (let s : Standing = record { phase = p; proposed = a; agreed = b; first = f; next = n; oldest = o; token = t; resync = r } in
-    let s' : Standing = record { phase = p'; proposed = a'; agreed = b'; first = f'; next = n'; oldest = o'; token = t'; resync = r' } in s ≡ s')
-same-standing p p' a a' b b' f f' n n' o o' t t' r r' ep ea eb ef en eo et er = cc
+    (let s : SessionState = record { phase = p; proposed = a; agreed = b; first = f; next = n; oldest = o; token = t; resync = r } in
+    let s' : SessionState = record { phase = p'; proposed = a'; agreed = b'; first = f'; next = n'; oldest = o'; token = t'; resync = r' } in s ≡ s')
+same-state p p' a a' b b' f f' n n' o o' t t' r r' ep ea eb ef en eo et er = cc
 
-pub stands : (kept : Kept) (trace : Trace) → Represents kept trace → standing kept.side trace ≡ kept.standing
+pub stands : (kept : Kept) (trace : Trace) → Follows kept trace → state kept.side trace ≡ kept.state
 stands kept trace r =
-    same-standing _ kept.standing.phase _ kept.standing.proposed _ kept.standing.agreed _ kept.standing.first _ kept.standing.next _ kept.standing.oldest _ kept.standing.token _ kept.standing.resync
+    same-state _ kept.state.phase _ kept.state.proposed _ kept.state.agreed _ kept.state.first _ kept.state.next _ kept.state.oldest _ kept.state.token _ kept.state.resync
     r.phase_is r.proposed_is r.agreed_is r.first_is r.next_is r.oldest_is r.token_is r.resync_is
 
 -- where no RS waits, the newest entry is none
@@ -144,8 +146,8 @@ unsettled [] h = refl
 unsettled (entry ∷ earlier) h = unsettled_told entry.from entry.told earlier (entry ∷ earlier) h
 
 -- the trace with one more unit, where no RS of this end's own is lost
-pub grows : (kept : Kept) (trace : Trace) (from : TokenSide) (told : SessionSay) → Represents kept trace → Grows kept.side kept.standing told
-    → (is_resync told ≡ true → kept.standing.resync ≡ None) → Represents (kept_after from kept told) (record { from = from; told = told } ∷ trace)
+pub grows : (kept : Kept) (trace : Trace) (from : TokenSide) (told : SessionSay) → Follows kept trace → Grows kept.side kept.state told
+    → (is_resync told ≡ true → kept.state.resync ≡ None) → Follows (kept_after from kept told) (record { from = from; told = told } ∷ trace)
 grows kept trace from (say.Connect sync n octets) r g free =
     record { phase_is = refl; proposed_is = refl; agreed_is = r.agreed_is; first_is = refl; next_is = omega arith; oldest_is = omega arith; token_is = r.token_is; resync_is = refl; newest_is = refl; settled_is = r.token_is; open_checks = numbers-none n; none_ahead = refl; in_order = omega arith }
 grows kept trace from (say.Accept sync n octets) r g free =
@@ -162,13 +164,13 @@ grows kept trace from (say.Data false octets) r g free =
     record { phase_is = r.phase_is; proposed_is = r.proposed_is; agreed_is = r.agreed_is; first_is = r.first_is; next_is = r.next_is; oldest_is = r.oldest_is; token_is = r.token_is; resync_is = r.resync_is; newest_is = sym g; settled_is = r.token_is; open_checks = r.open_checks; none_ahead = r.none_ahead; in_order = r.in_order }
 grows kept trace from (say.Check n) r g free =
     let after : next (record { from = from; told = say.Check n } ∷ trace) ≡ n + 1 = let e = r.next_is in let f = g.0 in omega arith in
-    let left : unacknowledged (record { from = from; told = say.Check n } ∷ trace) ≡ numbers_up kept.standing.oldest (n + 1 - kept.standing.oldest) = let f = g.0 in rw f (check-open (acknowledgements (since trace)) (checks (since trace)) kept.standing.next kept.standing.oldest kept.standing.next refl r.none_ahead r.in_order r.open_checks) in
-    let ordered : kept.standing.oldest ≤ n + 1 = let f = g.0 in let e = r.in_order in omega arith in
-    record { phase_is = r.phase_is; proposed_is = r.proposed_is; agreed_is = r.agreed_is; first_is = r.first_is; next_is = after; oldest_is = oldest-at (next (record { from = from; told = say.Check n } ∷ trace)) (n + 1) kept.standing.oldest (unacknowledged (record { from = from; told = say.Check n } ∷ trace)) after ordered left; token_is = r.token_is; resync_is = r.resync_is; newest_is = sym g.2; settled_is = r.token_is; open_checks = left; none_ahead = let f = g.0 in rw f (ahead-more (acknowledgements (since trace)) kept.standing.next r.none_ahead); in_order = ordered }
+    let left : unacknowledged (record { from = from; told = say.Check n } ∷ trace) ≡ numbers_up kept.state.oldest (n + 1 - kept.state.oldest) = let f = g.0 in rw f (check-open (acknowledgements (since trace)) (checks (since trace)) kept.state.next kept.state.oldest kept.state.next refl r.none_ahead r.in_order r.open_checks) in
+    let ordered : kept.state.oldest ≤ n + 1 = let f = g.0 in let e = r.in_order in omega arith in
+    record { phase_is = r.phase_is; proposed_is = r.proposed_is; agreed_is = r.agreed_is; first_is = r.first_is; next_is = after; oldest_is = oldest-at (next (record { from = from; told = say.Check n } ∷ trace)) (n + 1) kept.state.oldest (unacknowledged (record { from = from; told = say.Check n } ∷ trace)) after ordered left; token_is = r.token_is; resync_is = r.resync_is; newest_is = sym g.2; settled_is = r.token_is; open_checks = left; none_ahead = let f = g.0 in rw f (ahead-more (acknowledgements (since trace)) kept.state.next r.none_ahead); in_order = ordered }
 grows kept trace from (say.Acknowledge n) r g free =
-    let left : unacknowledged (record { from = from; told = say.Acknowledge n } ∷ trace) ≡ numbers_up (n + 1) (kept.standing.next - (n + 1)) = acknowledged-open (acknowledgements (since trace)) (checks (since trace)) n kept.standing.oldest kept.standing.next g.0 g.1 r.open_checks in
-    let ordered : n + 1 ≤ kept.standing.next = let f = g.1 in omega arith in
-    record { phase_is = r.phase_is; proposed_is = r.proposed_is; agreed_is = r.agreed_is; first_is = r.first_is; next_is = r.next_is; oldest_is = oldest-at (next (record { from = from; told = say.Acknowledge n } ∷ trace)) kept.standing.next (n + 1) (unacknowledged (record { from = from; told = say.Acknowledge n } ∷ trace)) r.next_is ordered left; token_is = r.token_is; resync_is = r.resync_is; newest_is = sym g.2; settled_is = r.token_is; open_checks = left; none_ahead = ahead-acknowledged (acknowledgements (since trace)) n kept.standing.next g.1 r.none_ahead; in_order = ordered }
+    let left : unacknowledged (record { from = from; told = say.Acknowledge n } ∷ trace) ≡ numbers_up (n + 1) (kept.state.next - (n + 1)) = acknowledged-open (acknowledgements (since trace)) (checks (since trace)) n kept.state.oldest kept.state.next g.0 g.1 r.open_checks in
+    let ordered : n + 1 ≤ kept.state.next = let f = g.1 in omega arith in
+    record { phase_is = r.phase_is; proposed_is = r.proposed_is; agreed_is = r.agreed_is; first_is = r.first_is; next_is = r.next_is; oldest_is = oldest-at (next (record { from = from; told = say.Acknowledge n } ∷ trace)) kept.state.next (n + 1) (unacknowledged (record { from = from; told = say.Acknowledge n } ∷ trace)) r.next_is ordered left; token_is = r.token_is; resync_is = r.resync_is; newest_is = sym g.2; settled_is = r.token_is; open_checks = left; none_ahead = ahead-acknowledged (acknowledgements (since trace)) n kept.state.next g.1 r.none_ahead; in_order = ordered }
 grows kept trace from (say.Resync kind n tok octets) r g free =
     let before : token trace ≡ kept.token = sym (ap token (unsettled trace (r.newest_is ∙ free refl))) ∙ r.settled_is in
     record { phase_is = refl; proposed_is = r.proposed_is; agreed_is = r.agreed_is; first_is = r.first_is; next_is = r.next_is; oldest_is = r.oldest_is; token_is = ap (unwrap_or tok) before; resync_is = refl; newest_is = refl; settled_is = before; open_checks = r.open_checks; none_ahead = r.none_ahead; in_order = r.in_order }
@@ -179,57 +181,57 @@ grows kept trace from (say.Abort octets) r g free =
 grows kept trace from (say.Token to) r g free =
     record { phase_is = r.phase_is; proposed_is = r.proposed_is; agreed_is = r.agreed_is; first_is = r.first_is; next_is = r.next_is; oldest_is = r.oldest_is; token_is = refl; resync_is = r.resync_is; newest_is = sym g; settled_is = refl; open_checks = r.open_checks; none_ahead = r.none_ahead; in_order = r.in_order }
 
-none_waits : (own : TokenSide) (r : Option Resync) → r ≡ None → is_from own r ≡ true → ⊥
+none_waits : (own : TokenSide) (r : Option PendingResync) → r ≡ None → is_from own r ≡ true → ⊥
 none_waits own None e h = cc
 none_waits own (Some r) e h = cc
 
 -- an RS of this end's own is lost: the newest entry goes out
 lost_told : (kept : Kept) (from by : TokenSide) (newest : SessionSay) (earlier : Trace) (kind : ResyncKind) (n : ℕ) (tok : Option TokenSide) (octets : List ℕ)
-    → Represents kept (record { from = by; told = newest } ∷ earlier) → is_from kept.side kept.standing.resync ≡ true
-    → Represents (kept_after from kept (say.Resync kind n tok octets)) (record { from = from; told = say.Resync kind n tok octets } ∷ cond (is_resync newest) earlier (record { from = by; told = newest } ∷ earlier))
-lost_told kept from by (say.Connect sync m octets') earlier kind n tok octets r own = absurd (none_waits kept.side kept.standing.resync (sym r.newest_is) own)
-lost_told kept from by (say.Accept sync m octets') earlier kind n tok octets r own = absurd (none_waits kept.side kept.standing.resync (sym r.newest_is) own)
-lost_told kept from by (say.Refuse octets') earlier kind n tok octets r own = absurd (none_waits kept.side kept.standing.resync (sym r.newest_is) own)
-lost_told kept from by (say.Finish octets') earlier kind n tok octets r own = absurd (none_waits kept.side kept.standing.resync (sym r.newest_is) own)
-lost_told kept from by (say.Finished octets') earlier kind n tok octets r own = absurd (none_waits kept.side kept.standing.resync (sym r.newest_is) own)
-lost_told kept from by (say.Data pass octets') earlier kind n tok octets r own = absurd (none_waits kept.side kept.standing.resync (sym r.newest_is) own)
-lost_told kept from by (say.Check m) earlier kind n tok octets r own = absurd (none_waits kept.side kept.standing.resync (sym r.newest_is) own)
-lost_told kept from by (say.Acknowledge m) earlier kind n tok octets r own = absurd (none_waits kept.side kept.standing.resync (sym r.newest_is) own)
+    → Follows kept (record { from = by; told = newest } ∷ earlier) → is_from kept.side kept.state.resync ≡ true
+    → Follows (kept_after from kept (say.Resync kind n tok octets)) (record { from = from; told = say.Resync kind n tok octets } ∷ cond (is_resync newest) earlier (record { from = by; told = newest } ∷ earlier))
+lost_told kept from by (say.Connect sync m octets') earlier kind n tok octets r own = absurd (none_waits kept.side kept.state.resync (sym r.newest_is) own)
+lost_told kept from by (say.Accept sync m octets') earlier kind n tok octets r own = absurd (none_waits kept.side kept.state.resync (sym r.newest_is) own)
+lost_told kept from by (say.Refuse octets') earlier kind n tok octets r own = absurd (none_waits kept.side kept.state.resync (sym r.newest_is) own)
+lost_told kept from by (say.Finish octets') earlier kind n tok octets r own = absurd (none_waits kept.side kept.state.resync (sym r.newest_is) own)
+lost_told kept from by (say.Finished octets') earlier kind n tok octets r own = absurd (none_waits kept.side kept.state.resync (sym r.newest_is) own)
+lost_told kept from by (say.Data pass octets') earlier kind n tok octets r own = absurd (none_waits kept.side kept.state.resync (sym r.newest_is) own)
+lost_told kept from by (say.Check m) earlier kind n tok octets r own = absurd (none_waits kept.side kept.state.resync (sym r.newest_is) own)
+lost_told kept from by (say.Acknowledge m) earlier kind n tok octets r own = absurd (none_waits kept.side kept.state.resync (sym r.newest_is) own)
 lost_told kept from by (say.Resync kind' m tok' octets') earlier kind n tok octets r own =
     record { phase_is = refl; proposed_is = r.proposed_is; agreed_is = r.agreed_is; first_is = r.first_is; next_is = r.next_is; oldest_is = r.oldest_is; token_is = ap (unwrap_or tok) r.settled_is; resync_is = refl; newest_is = refl; settled_is = r.settled_is; open_checks = r.open_checks; none_ahead = r.none_ahead; in_order = r.in_order }
-lost_told kept from by (say.Resynced m tok' octets') earlier kind n tok octets r own = absurd (none_waits kept.side kept.standing.resync (sym r.newest_is) own)
-lost_told kept from by (say.Abort octets') earlier kind n tok octets r own = absurd (none_waits kept.side kept.standing.resync (sym r.newest_is) own)
-lost_told kept from by (say.Token to) earlier kind n tok octets r own = absurd (none_waits kept.side kept.standing.resync (sym r.newest_is) own)
+lost_told kept from by (say.Resynced m tok' octets') earlier kind n tok octets r own = absurd (none_waits kept.side kept.state.resync (sym r.newest_is) own)
+lost_told kept from by (say.Abort octets') earlier kind n tok octets r own = absurd (none_waits kept.side kept.state.resync (sym r.newest_is) own)
+lost_told kept from by (say.Token to) earlier kind n tok octets r own = absurd (none_waits kept.side kept.state.resync (sym r.newest_is) own)
 
 pub lost : (kept : Kept) (trace : Trace) (from : TokenSide) (kind : ResyncKind) (n : ℕ) (tok : Option TokenSide) (octets : List ℕ)
-    → Represents kept trace → is_from kept.side kept.standing.resync ≡ true
-    → Represents (kept_after from kept (say.Resync kind n tok octets)) (record { from = from; told = say.Resync kind n tok octets } ∷ settled trace)
-lost kept [] from kind n tok octets r own = absurd (none_waits kept.side kept.standing.resync (sym r.newest_is) own)
+    → Follows kept trace → is_from kept.side kept.state.resync ≡ true
+    → Follows (kept_after from kept (say.Resync kind n tok octets)) (record { from = from; told = say.Resync kind n tok octets } ∷ settled trace)
+lost kept [] from kind n tok octets r own = absurd (none_waits kept.side kept.state.resync (sym r.newest_is) own)
 lost kept (entry ∷ earlier) from kind n tok octets r own = lost_told kept from entry.from entry.told earlier kind n tok octets r own
 
--- ---- what was heard, and what was said
+-- ---- what was received, and what was sent
 
-heard-resync : (kept : Kept) (trace : Trace) (kind : ResyncKind) (n : ℕ) (tok : Option TokenSide) (octets : List ℕ) → Represents kept trace
-    → ((kept.standing.resync ≡ None) ⊎ (is_from kept.side kept.standing.resync ≡ true))
-    → Represents (kept_after (other kept.side) kept (say.Resync kind n tok octets)) (with_heard kept.side (say.Resync kind n tok octets) trace)
-heard-resync kept trace kind n tok octets r (inl none) =
+received-resync : (kept : Kept) (trace : Trace) (kind : ResyncKind) (n : ℕ) (tok : Option TokenSide) (octets : List ℕ) → Follows kept trace
+    → ((kept.state.resync ≡ None) ⊎ (is_from kept.side kept.state.resync ≡ true))
+    → Follows (kept_after (other kept.side) kept (say.Resync kind n tok octets)) (with_received kept.side (say.Resync kind n tok octets) trace)
+received-resync kept trace kind n tok octets r (inl none) =
     let test : is_from kept.side (resync trace) ≡ false = ap (is_from kept.side) (r.resync_is ∙ none) in
     rw test (grows kept trace (other kept.side) (say.Resync kind n tok octets) r (inl none) (λ h. none))
-heard-resync kept trace kind n tok octets r (inr own) =
+received-resync kept trace kind n tok octets r (inr own) =
     let test : is_from kept.side (resync trace) ≡ true = ap (is_from kept.side) r.resync_is ∙ own in
     rw test (lost kept trace (other kept.side) kind n tok octets r own)
 
-pub heard : (kept : Kept) (trace : Trace) (told : SessionSay) → Represents kept trace → Grows kept.side kept.standing told
-    → Represents (kept_after (other kept.side) kept told) (with_heard kept.side told trace)
-heard kept trace (say.Connect sync n octets) r g = grows kept trace (other kept.side) (say.Connect sync n octets) r g (λ h. absurd cc)
-heard kept trace (say.Accept sync n octets) r g = grows kept trace (other kept.side) (say.Accept sync n octets) r g (λ h. absurd cc)
-heard kept trace (say.Refuse octets) r g = grows kept trace (other kept.side) (say.Refuse octets) r g (λ h. absurd cc)
-heard kept trace (say.Finish octets) r g = grows kept trace (other kept.side) (say.Finish octets) r g (λ h. absurd cc)
-heard kept trace (say.Finished octets) r g = grows kept trace (other kept.side) (say.Finished octets) r g (λ h. absurd cc)
-heard kept trace (say.Data pass octets) r g = grows kept trace (other kept.side) (say.Data pass octets) r g (λ h. absurd cc)
-heard kept trace (say.Check n) r g = grows kept trace (other kept.side) (say.Check n) r g (λ h. absurd cc)
-heard kept trace (say.Acknowledge n) r g = grows kept trace (other kept.side) (say.Acknowledge n) r g (λ h. absurd cc)
-heard kept trace (say.Resync kind n tok octets) r g = heard-resync kept trace kind n tok octets r g
-heard kept trace (say.Resynced n tok octets) r g = grows kept trace (other kept.side) (say.Resynced n tok octets) r g (λ h. absurd cc)
-heard kept trace (say.Abort octets) r g = grows kept trace (other kept.side) (say.Abort octets) r g (λ h. absurd cc)
-heard kept trace (say.Token to) r g = grows kept trace (other kept.side) (say.Token to) r g (λ h. absurd cc)
+pub received : (kept : Kept) (trace : Trace) (told : SessionSay) → Follows kept trace → Grows kept.side kept.state told
+    → Follows (kept_after (other kept.side) kept told) (with_received kept.side told trace)
+received kept trace (say.Connect sync n octets) r g = grows kept trace (other kept.side) (say.Connect sync n octets) r g (λ h. absurd cc)
+received kept trace (say.Accept sync n octets) r g = grows kept trace (other kept.side) (say.Accept sync n octets) r g (λ h. absurd cc)
+received kept trace (say.Refuse octets) r g = grows kept trace (other kept.side) (say.Refuse octets) r g (λ h. absurd cc)
+received kept trace (say.Finish octets) r g = grows kept trace (other kept.side) (say.Finish octets) r g (λ h. absurd cc)
+received kept trace (say.Finished octets) r g = grows kept trace (other kept.side) (say.Finished octets) r g (λ h. absurd cc)
+received kept trace (say.Data pass octets) r g = grows kept trace (other kept.side) (say.Data pass octets) r g (λ h. absurd cc)
+received kept trace (say.Check n) r g = grows kept trace (other kept.side) (say.Check n) r g (λ h. absurd cc)
+received kept trace (say.Acknowledge n) r g = grows kept trace (other kept.side) (say.Acknowledge n) r g (λ h. absurd cc)
+received kept trace (say.Resync kind n tok octets) r g = received-resync kept trace kind n tok octets r g
+received kept trace (say.Resynced n tok octets) r g = grows kept trace (other kept.side) (say.Resynced n tok octets) r g (λ h. absurd cc)
+received kept trace (say.Abort octets) r g = grows kept trace (other kept.side) (say.Abort octets) r g (λ h. absurd cc)
+received kept trace (say.Token to) r g = grows kept trace (other kept.side) (say.Token to) r g (λ h. absurd cc)

@@ -1,16 +1,16 @@
 -- One more unit, by what a session keeps: what the session's functions promise to one another.
 use Rattle.std.specs.Prelude.{◌≡◌, ◌+◌, ◌≤◌, ◌<◌, true, ◌⊎◌, List, Some, None, unwrap_or, if◌then◌else◌}
 use Rattle.vf_session.specs.declared.phase.Phase.TheVariants.{Asked, Open, Leaving, Left, Aborted, Over}
-use Rattle.vf_session.specs.declared.standing.Standing.{Standing}
+use Rattle.vf_session.specs.declared.state.SessionState.{SessionState}
 use Rattle.vf_session.specs.declared.units.SessionSay.{SessionSay}
 use Rattle.vf_session.specs.declared.units.SessionSay.TheVariants as say
 use Rattle.vf_session.specs.declared.units.TokenSide.{TokenSide}
 use Rattle.vf_session_spdu.specs.Numbers.{last_serial}
-use Rattle.vf_session.specs.Represents.{Kept}
+use Rattle.vf_session.specs.Kept.{Kept}
 use Rattle.vf_session.specs.Trace.{other, is_side, is_from, is_resync}
 
--- A unit that may be heard or said has numbers within their range, and comes while no RS waits where it must.
-abbrev pub Grows : TokenSide → Standing → SessionSay → Type 0
+-- A unit that may be received or sent has numbers within their range, and comes while no RS waits where it must.
+abbrev pub Grows : TokenSide → SessionState → SessionSay → Type 0
 Grows own s (say.Connect sync n octets) = n ≤ last_serial
 Grows own s (say.Accept sync n octets) = n ≤ last_serial
 Grows own s (say.Refuse octets) = Unit {0}
@@ -25,7 +25,7 @@ Grows own s (say.Abort octets) = Unit {0}
 Grows own s (say.Token to) = s.resync ≡ None
 
 -- where the connection stands after a unit of one end; `before` has the token where an RS that waits has lost
-abbrev pub advanced : TokenSide → TokenSide → TokenSide → Standing → SessionSay → Standing
+abbrev pub advanced : TokenSide → TokenSide → TokenSide → SessionState → SessionSay → SessionState
 advanced own from before s (say.Connect sync n octets) = record s { phase = Asked; proposed = sync; first = n; next = n; oldest = n; resync = None }
 advanced own from before s (say.Accept sync n octets) = record s { phase = Open; agreed = sync; first = n; next = n; oldest = n; resync = None }
 advanced own from before s (say.Refuse octets) = record s { phase = Over; resync = None }
@@ -42,5 +42,5 @@ advanced own from before s (say.Token to) = record s { token = to }
 
 abbrev pub kept_after : TokenSide → Kept → SessionSay → Kept
 kept_after from kept told =
-    let s = advanced kept.side from kept.token kept.standing told in
-    record { side = kept.side; offer = kept.offer; standing = s; token = if is_resync told then kept.token else s.token }
+    let s = advanced kept.side from kept.token kept.state told in
+    record { side = kept.side; offer = kept.offer; state = s; token = if is_resync told then kept.token else s.token }

@@ -1,9 +1,11 @@
 -- How much user data there is room for beside the other parameters of an SPDU, as its length is computed: what the
 -- session's functions promise to one another.
-use Rattle.std.specs.Prelude.{ℕ, ◌+◌, ◌-◌, Bool, true, false, List, length, Option, None, Some}
-use Rattle.vf_session.specs.declared.units.SessionSay.{SessionSay}
-use Rattle.vf_session.specs.declared.units.SessionSay.TheVariants as say
+use Rattle.std.specs.Prelude.{ℕ, ◌+◌, ◌-◌, Bool, true, false, ◌&&◌, nat_le, Option, None, Some}
+use Rattle.vf_session.specs.declared.parameters.SayParameters.{SayParameters}
+use Rattle.vf_session.specs.declared.parameters.SayParameters.TheVariants as head
+use Rattle.vf_session.specs.declared.state.SessionState.{SessionState}
 use Rattle.vf_session.specs.declared.units.TokenSide.{TokenSide}
+use Rattle.vf_session.specs.Sending.{allows}
 use Rattle.vf_session_spdu.specs.Numbers.{digit_count}
 
 abbrev pub connect_size : Bool → ℕ → ℕ
@@ -14,24 +16,25 @@ abbrev pub token_size : Option TokenSide → ℕ
 token_size None = 0
 token_size (Some side) = 3
 
-abbrev pub data_length : SessionSay → ℕ
-data_length (say.Connect sync serial octets) = length octets
-data_length (say.Accept sync serial octets) = length octets
-data_length (say.Refuse octets) = length octets
-data_length (say.Finish octets) = length octets
-data_length (say.Finished octets) = length octets
-data_length (say.Resync kind serial token octets) = length octets
-data_length (say.Resynced serial token octets) = length octets
-data_length (say.Abort octets) = length octets
-data_length said = 0
+-- The octets of user data among the parameters, of so many in all; those of a DT stand after them.
+abbrev pub carried : SayParameters → ℕ → ℕ
+carried (head.Data pass) count = 0
+carried (head.Check serial) count = 0
+carried (head.Acknowledge serial) count = 0
+carried (head.Token to) count = 0
+carried unit count = count
 
-abbrev pub room : SessionSay → ℕ
-room (say.Connect sync serial octets) = 65531 - connect_size sync serial
-room (say.Accept sync serial octets) = 65531 - connect_size sync serial
-room (say.Refuse octets) = 65530
-room (say.Finish octets) = 65531
-room (say.Finished octets) = 65531
-room (say.Resync kind serial token octets) = 65526 - token_size token - digit_count serial
-room (say.Resynced serial token octets) = 65529 - token_size token - digit_count serial
-room (say.Abort octets) = 65528
-room said = 0
+abbrev pub room : SayParameters → ℕ
+room (head.Connect sync serial) = 65531 - connect_size sync serial
+room (head.Accept sync serial) = 65531 - connect_size sync serial
+room head.Refuse = 65530
+room head.Finish = 65531
+room head.Finished = 65531
+room (head.Resync kind serial token) = 65526 - token_size token - digit_count serial
+room (head.Resynced serial token) = 65529 - token_size token - digit_count serial
+room head.Abort = 65528
+room unit = 0
+
+-- what may be sent, by the parameters of the unit and by how many octets of user data it has
+abbrev pub may_by : TokenSide → Bool → SessionState → SayParameters → ℕ → Bool
+may_by own offer s unit count = allows own offer s unit count && nat_le (carried unit count) (room unit)

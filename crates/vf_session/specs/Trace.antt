@@ -1,12 +1,12 @@
--- The trace of a session connection: what was heard and said on it, and what follows from that (ISO 8327, 5.4 and 7).
+-- The trace of a session connection: what was received and sent on it, and what follows from that (ISO 8327, 5.4 and 7).
 -- The newest entry stands first, so that each word below is a filter on a list. Discarded SPDUs and those that tell
 -- nothing aren't in it.
 use Rattle.std.specs.Prelude.{ℕ, ◌+◌, Bool, true, false, ◌&&◌, nat_le, min, List, [], ◌∷◌, length, filter, fold, Option, None, Some, is_some, unwrap_or, if◌then◌else◌}
 use Rattle.std.specs.List.{list_any, filter_map}
 use Rattle.vf_session.specs.declared.phase.Phase.{Phase}
 use Rattle.vf_session.specs.declared.phase.Phase.TheVariants.{Idle, Asked, Open, Leaving, Left, Aborted, Over}
-use Rattle.vf_session.specs.declared.resync.Resync.{Resync}
-use Rattle.vf_session.specs.declared.standing.Standing.{Standing}
+use Rattle.vf_session.specs.declared.resync.PendingResync.{PendingResync}
+use Rattle.vf_session.specs.declared.state.SessionState.{SessionState}
 use Rattle.vf_session.specs.declared.units.ResyncKind.{ResyncKind}
 use Rattle.vf_session.specs.declared.units.ResyncKind.TheVariants.{Restart, Abandon}
 use Rattle.vf_session.specs.declared.units.SessionSay.{SessionSay}
@@ -14,7 +14,7 @@ use Rattle.vf_session.specs.declared.units.SessionSay.TheVariants.{Connect, Acce
 use Rattle.vf_session.specs.declared.units.TokenSide.{TokenSide}
 use Rattle.vf_session.specs.declared.units.TokenSide.TheVariants.{Initiator, Responder}
 
--- what was said, and by which end
+-- what was sent, and by which end
 pub record Entry : Type 0 where
   pub from : TokenSide
   pub told : SessionSay
@@ -36,7 +36,7 @@ abbrev pub latest : {A : Type 0} → (Entry → Option A) → A → Trace → A
 latest decides start [] = start
 latest decides start (entry ∷ earlier) = unwrap_or (decides entry) (latest decides start earlier)
 
--- Where the connection stands, as one end sees it. An RS makes an FN void, since the end that said the RS discards it.
+-- Where the connection stands, as one end sees it. An RS makes an FN void, since the end that sent the RS discards it.
 abbrev pub phase_told : TokenSide → TokenSide → SessionSay → Option Phase
 phase_told own from (Connect sync serial octets) = Some Asked
 phase_told own from (Accept sync serial octets) = Some Open
@@ -87,7 +87,7 @@ counts_from told = None
 abbrev pub origin : Trace → ℕ
 origin trace = latest (λ entry. counts_from entry.told) 1 trace
 
--- what was heard and said since then
+-- what was received and sent since then
 abbrev pub since : Trace → Trace
 since [] = []
 since (entry ∷ earlier) = if is_some (counts_from entry.told) then [] else entry ∷ since earlier
@@ -135,7 +135,7 @@ abbrev pub token : Trace → TokenSide
 token trace = latest (λ entry. names_token entry.from entry.told) Initiator trace
 
 -- The RS that has no RA yet. A connection begins and ends without one.
-abbrev pub resync_by : TokenSide → SessionSay → Option (Option Resync)
+abbrev pub resync_by : TokenSide → SessionSay → Option (Option PendingResync)
 resync_by from (Resyncs kind serial token octets) = Some (Some (record { from = from; kind = kind; serial = serial; token = token }))
 resync_by from (Resynced serial token octets) = Some None
 resync_by from (Connect sync serial octets) = Some None
@@ -145,7 +145,7 @@ resync_by from (Finished octets) = Some None
 resync_by from (Abort octets) = Some None
 resync_by from told = None
 
-abbrev pub resync : Trace → Option Resync
+abbrev pub resync : Trace → Option PendingResync
 resync trace = latest (λ entry. resync_by entry.from entry.told) None trace
 
 -- Of two RS that cross, abandon wins over restart, and of equals that of the calling end (profile).
@@ -154,12 +154,12 @@ wins_by Abandon Restart from = true
 wins_by Restart Abandon from = false
 wins_by a b from = is_side from Initiator
 
-abbrev pub wins : Resync → Resync → Bool
+abbrev pub wins : PendingResync → PendingResync → Bool
 wins a b = wins_by a.kind b.kind a.from
 
 -- where the connection stands after a trace
-abbrev pub standing : TokenSide → Trace → Standing
-standing own trace =
+abbrev pub state : TokenSide → Trace → SessionState
+state own trace =
     record { phase = phase own trace; proposed = proposed trace; agreed = agreed trace; first = first trace; next = next trace; oldest = oldest trace; token = token trace; resync = resync trace }
 
 -- A losing RS isn't in the trace: an RS of this end's own, which is the newest entry while it waits, goes out of it
@@ -172,15 +172,15 @@ abbrev pub settled : Trace → Trace
 settled [] = []
 settled (entry ∷ earlier) = if is_resync entry.told then earlier else entry ∷ earlier
 
--- this end said an RS that waits for its RA; the other end is owed one
-abbrev pub is_from : TokenSide → Option Resync → Bool
+-- this end sent an RS that waits for its RA; the other end is owed one
+abbrev pub is_from : TokenSide → Option PendingResync → Bool
 is_from side None = false
 is_from side (Some resync) = is_side side resync.from
 
--- the trace with what the other end said, or with what this end said
-abbrev pub with_heard : TokenSide → SessionSay → Trace → Trace
-with_heard own told trace =
+-- the trace with what the other end sent, or with what this end sent
+abbrev pub with_received : TokenSide → SessionSay → Trace → Trace
+with_received own told trace =
     record { from = other own; told = told } ∷ (if is_resync told && is_from own (resync trace) then settled trace else trace)
 
-abbrev pub with_said : TokenSide → SessionSay → Trace → Trace
-with_said own told trace = record { from = own; told = told } ∷ trace
+abbrev pub with_sent : TokenSide → SessionSay → Trace → Trace
+with_sent own told trace = record { from = own; told = told } ∷ trace

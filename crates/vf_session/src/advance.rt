@@ -1,11 +1,11 @@
 //! One more unit.
 ghost use Rattle.std.specs.Prelude.{◌≡◌, ◌≤◌, if◌then◌else◌, None};
-ghost use Rattle.vf_session.specs.Advances.{Grows, advanced as stands_after};
+ghost use Rattle.vf_session.specs.Advances.{Grows, advanced as state_after};
 ghost use Rattle.vf_session.specs.Trace.{is_resync as resync_test, is_side as same_side};
 
-use crate::hearing::{is_side, other};
-use crate::resync::Resync;
-use crate::standing::Standing;
+use crate::meaning::{is_side, other};
+use crate::resync::PendingResync;
+use crate::state::SessionState;
 use crate::{Phase, SessionSay, TokenSide};
 
 /// An RS of either end.
@@ -20,12 +20,12 @@ pub(crate) fn advanced(
     own: TokenSide,
     from: TokenSide,
     before: TokenSide,
-    s: Standing,
+    s: SessionState,
     told: &SessionSay,
-) -> Standing
+) -> SessionState
     requires grows { Grows own s told.now }
     requires next { s.next ≤ 1000000 }
-    ensures { result ≡ stands_after own from before s told.now }
+    ensures { result ≡ state_after own from before s told.now }
 {
     let mut after = s;
     match told {
@@ -61,7 +61,7 @@ pub(crate) fn advanced(
         } => {
             after.phase = Phase::Open;
             after.token = token.unwrap_or(before);
-            after.resync = Some(Resync {
+            after.resync = Some(PendingResync {
                 from,
                 kind: *kind,
                 serial: *serial,
@@ -84,7 +84,7 @@ pub(crate) fn advanced(
 }
 
 /// Serial numbers begin here.
-fn begin_at(s: &mut Standing, serial: u32)
+fn begin_at(s: &mut SessionState, serial: u32)
     ensures { s.new ≡ record s.old { first = serial; next = serial; oldest = serial; resync = None } }
 {
     s.first = serial;

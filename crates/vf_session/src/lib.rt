@@ -3,24 +3,26 @@
 
 mod advance;
 mod errors;
-mod hearing;
+mod meaning;
 mod laws;
+mod parameters;
 mod phase;
 mod resync;
-mod saying;
+mod sending;
 mod session;
 mod spdus;
-mod standing;
+mod state;
 mod units;
 
 pub use errors::SessionError;
-pub use laws::{allowed_traces_are_kept, said_is_heard};
+pub use laws::{allowed_traces_are_kept, sent_is_received};
+pub use meaning::SpduMeaning;
+pub use parameters::SayParameters;
 pub use phase::Phase;
+pub use resync::PendingResync;
 pub use session::Session;
+pub use state::SessionState;
 pub use units::{ResyncKind, SessionOut, SessionSay, TokenSide};
 pub use vf_session_spdu::{
-    Spdu, SpduError, SpduFields, fault_place, place_behind_gt, read, write, written_is_read_again,
+    Spdu, SpduError, SpduFields, fault_place, place_after_gt, read, write, written_is_read_again,
 };
-
-#[cfg(test)]
-mod tests;

@@ -1,16 +1,16 @@
 /// Where a session connection stands, as one end sees it.
 #[derive(Clone, Copy, Debug, PartialEq, Eq)]
 pub enum Phase {
-    /// No CN was said or heard.
+    /// No CN was sent or received.
     Idle,
-    /// A CN was said or heard, and isn't answered.
+    /// A CN was sent or received, and isn't answered.
     Asked,
     Open,
-    /// This end said an FN, which isn't answered.
+    /// This end sent an FN, which isn't answered.
     Leaving,
-    /// The other end said an FN, which isn't answered.
+    /// The other end sent an FN, which isn't answered.
     Left,
-    /// This end said an AB.
+    /// This end sent an AB.
     Aborted,
     /// It is refused, released, or aborted by the other end.
     Over,

@@ -2,11 +2,11 @@ use crate::{ResyncKind, TokenSide};
 
 /// A resynchronization that was asked for.
 #[derive(Clone, Copy)]
-pub(crate) struct Resync {
-    /// Who said the RS.
-    pub(crate) from: TokenSide,
-    pub(crate) kind: ResyncKind,
-    pub(crate) serial: u32,
+pub struct PendingResync {
+    /// Who sent the RS.
+    pub from: TokenSide,
+    pub kind: ResyncKind,
+    pub serial: u32,
     /// Who has the token after it, where the RS names one.
-    pub(crate) token: Option<TokenSide>,
+    pub token: Option<TokenSide>,
 }

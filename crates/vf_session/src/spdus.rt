@@ -1,10 +1,10 @@
-//! The SPDUs in which a unit is said.
+//! The SPDUs in which a unit is sent.
 ghost use Rattle.std.specs.Prelude.{◌≡◌, ◌++◌, ◌∷◌, [], true, false, IfOk, OnOk, OnErr, Some};
 ghost use Rattle.std.specs.Option.{option_map};
 ghost use Rattle.vf_session_spdu.specs.Fields.{no_fields};
-ghost use Rattle.vf_session.specs.Saying.{abort_fields as with_abort, gt as gt_spdu, reason_fields as with_reason, resync_code as code_of_resync, serial_fields as with_serial, spdus, token_item as item_of, units_fields as with_units};
+ghost use Rattle.vf_session.specs.Sending.{abort_fields as with_abort, gt as gt_spdu, reason_fields as with_reason, resync_code as code_of_resync, serial_fields as with_serial, spdus, token_item as item_of, units_fields as with_units};
 
-use crate::hearing::is_side;
+use crate::meaning::is_side;
 use crate::{ResyncKind, SessionSay, Spdu, SpduFields, TokenSide};
 use std::alloc::Global;
 use vf_base::{NoMemory, Octets, SpduKind};

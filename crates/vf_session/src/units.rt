@@ -42,7 +42,7 @@ pub enum SessionSay {
     Finished {
         data: Octets,
     },
-    /// `pass` tells whether the GT in front passes the token.
+    /// `pass` tells whether the GT before passes the token.
     Data {
         pass: bool,
         data: Octets,
@@ -148,5 +148,5 @@ impl SessionSay {
     }
 }
 
-/// What the other end said, in the same words. A GT that passes the token gives `Token`, so that `pass` is false.
+/// What the other end sent, in the same words. A GT that passes the token gives `Token`, so that `pass` is false.
 pub type SessionOut = SessionSay;

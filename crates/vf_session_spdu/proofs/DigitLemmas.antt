@@ -3,10 +3,10 @@ use Rattle.std.proofs.Common.{◌≡◌, ℕ, ◌+◌, ◌/◌, ◌%◌, ◌≤�
 use Rattle.std.proofs.lemmas.Bool.{cases_lt}
 use Rattle.std.proofs.lemmas.Bool.Decides.{nat_tests}
 use Rattle.vf_session_spdu.specs.declared.table.Form.TheVariants.{Digits}
-use Rattle.vf_session_spdu.specs.Numbers.{number, digits, six_digits, zeros_in_front, last_serial}
+use Rattle.vf_session_spdu.specs.Numbers.{number, digits, six_digits, leading_zeros, last_serial}
 use Rattle.vf_session_spdu.specs.Table.{fits, is_digit}
 
--- ---- the digits behind so many zeros
+-- ---- the digits after so many zeros
 
 is-digit : (n : ℕ) → is_digit (n % 10 + 48) ≡ true
 is-digit n =
@@ -57,7 +57,7 @@ record Spelled (n : ℕ) : Type 0 where
   fit : fits Digits (digits n) ≡ true
   spell : number (digits n) ≡ n
 
-by-zeros : (n z : ℕ) → zeros_in_front n ≡ z → fits Digits (drop z (six_digits n)) ≡ true → number (drop z (six_digits n)) ≡ n → Spelled n
+by-zeros : (n z : ℕ) → leading_zeros n ≡ z → fits Digits (drop z (six_digits n)) ≡ true → number (drop z (six_digits n)) ≡ n → Spelled n
 by-zeros n z e f g =
     let F : ℕ → Type 0 = λ k. fits Digits (drop k (six_digits n)) ≡ true in
     let G : ℕ → Type 0 = λ k. number (drop k (six_digits n)) ≡ n in

@@ -8,22 +8,22 @@ use Rattle.vf_base.specs.declared.spdu_kind.SpduKind.TheVariants.{CN, AC, RF, FN
 use Rattle.vf_session_spdu.specs.declared.errors.SpduError.{SpduError}
 use Rattle.vf_session_spdu.specs.declared.spdu.Spdu.{Spdu}
 use Rattle.vf_session_spdu.specs.declared.spdu.SpduFields.{SpduFields}
-use Rattle.vf_session_spdu.specs.Fields.{Fails, bare, with_octets, taking, complete}
-use Rattle.vf_session_spdu.specs.Grammar.{IsLength, AreJoined, AreOctets, Element, SpellsElement, StandsIn, Filled, filled_in, filled, IsOfForm, IsThere, fields_of, data_of, HasData, Spells, goes_behind, Holds}
+use Rattle.vf_session_spdu.specs.Fields.{Fails, bare, with_octets, with_parts, complete}
+use Rattle.vf_session_spdu.specs.Grammar.{IsLength, AreConcatenated, AreOctets, Element, SpellsElement, StandsIn, Filled, filled_in, filled, IsOfForm, IsThere, fields_of, data_of, HasData, Spells, goes_after, Holds}
 use Rattle.vf_session_spdu.specs.Kinds.{code_of, first_kind, second_kind}
-use Rattle.vf_session_spdu.specs.Parts.{Front, short, whole, front, parts, outer}
-use Rattle.vf_session_spdu.specs.Reading.{Behind, assembled, behind, is_dt, is_gt, one, one_by, nothing_behind, second, second_by, follows, first_by, reading}
+use Rattle.vf_session_spdu.specs.Parts.{Measured, short, whole, measured, parts, outer}
+use Rattle.vf_session_spdu.specs.Reading.{Followed, assembled, followed, is_dt, is_gt, one, one_by, nothing_after, second, second_by, follows, first_by, reading}
 use Rattle.vf_session_spdu.specs.Table.{rows}
 use Rattle.vf_session_spdu.proofs.AfterLemmas.{after-bare, says, complete-there, there-complete}
-use Rattle.vf_session_spdu.proofs.FrontLemmas.{indicates, front-unit}
-use Rattle.vf_session_spdu.proofs.GrammarLemmas.{all-split, fronted, joined-sound, joined-full, element-sound, element-full}
+use Rattle.vf_session_spdu.proofs.MeasureLemmas.{indicates, measured-unit}
+use Rattle.vf_session_spdu.proofs.GrammarLemmas.{all-split, is_measured, concatenated-sound, concatenated-full, element-sound, element-full}
 use Rattle.vf_session_spdu.proofs.ReadableLemmas.{bound, is_ok}
 
 -- ---- the parameters of an SPDU
 
 pub record Assembled (kind : SpduKind) (value : List ℕ) (s : Spdu) : Type 0 where
   pub elements : List Element
-  pub joined : AreJoined SpellsElement elements value
+  pub concatenated : AreConcatenated SpellsElement elements value
   pub standing : AllByRecursion (StandsIn kind) elements
   pub formed : AllByRecursion IsOfForm (filled kind elements)
   pub there : AllByRecursion (IsThere (filled kind elements)) (rows kind)
@@ -31,16 +31,16 @@ pub record Assembled (kind : SpduKind) (value : List ℕ) (s : Spdu) : Type 0 wh
 
 assembled-sound : (kind : SpduKind) (place : ℕ) (value : List ℕ) (s : Spdu) → AreOctets value → assembled kind place value ≡ Ok s → Assembled kind value s
 assembled-sound kind place value s o h =
-    let b = bound (taking (bare kind) (parts kind place value)) complete s h in
-    let r = joined-sound kind SpellsElement (StandsIn kind) (filled_in kind) (outer kind) (element-sound kind) (length value) place value (bare kind) b.0 (omega arith) refl o b.1 in
+    let b = bound (with_parts (bare kind) (parts kind place value)) complete s h in
+    let r = concatenated-sound kind SpellsElement (StandsIn kind) (filled_in kind) (outer kind) (element-sound kind) (length value) place value (bare kind) b.0 (omega arith) refl o b.1 in
     let e : b.0 ≡ says kind (filled kind r.all) = r.is_after ∙ after-bare kind (filled kind r.all) in
     let c = complete-there kind (filled kind r.all) s (sym (ap complete e) ∙ b.2) in
-    record { elements = r.all; joined = r.joined; standing = r.standing; formed = r.formed; there = c.0; spdu_is = c.1 }
+    record { elements = r.all; concatenated = r.concatenated; standing = r.standing; formed = r.formed; there = c.0; spdu_is = c.1 }
 
-assembled-full : (kind : SpduKind) (place : ℕ) (value : List ℕ) (elements : List Element) → AreJoined SpellsElement elements value → AllByRecursion (StandsIn kind) elements
+assembled-full : (kind : SpduKind) (place : ℕ) (value : List ℕ) (elements : List Element) → AreConcatenated SpellsElement elements value → AllByRecursion (StandsIn kind) elements
     → AllByRecursion IsOfForm (filled kind elements) → AllByRecursion (IsThere (filled kind elements)) (rows kind) → assembled kind place value ≡ Ok (says kind (filled kind elements))
-assembled-full kind place value elements joined standing formed there =
-    let t = joined-full kind SpellsElement (StandsIn kind) (filled_in kind) (outer kind) (element-full kind) elements value (bare kind) refl joined standing formed place in
+assembled-full kind place value elements concatenated standing formed there =
+    let t = concatenated-full kind SpellsElement (StandsIn kind) (filled_in kind) (outer kind) (element-full kind) elements value (bare kind) refl concatenated standing formed place in
     rw t (ap complete (after-bare kind (filled kind elements)) ∙ there-complete kind (filled kind elements) there)
 
 -- ---- an SPDU that was read
@@ -82,20 +82,20 @@ spells-made kind indicator value o more octets s a size d e =
     record {
       elements = a.elements;
       parameters = value;
-      joined = a.joined;
+      concatenated = a.concatenated;
       stand = a.standing;
       of_form = a.formed;
       complete = a.there;
       fields_are = refl;
-      front = code_of kind ∷ (indicator ++ value);
-      behind = more;
+      head = code_of kind ∷ (indicator ++ value);
+      after = more;
       is_unit = (indicator, size, refl);
       has_data = d;
       octets_are = e;
     }
 
--- what was read of these octets, behind an identifier
-pub record Found (kind : SpduKind) (octets : List ℕ) (b : Behind) : Type 0 where
+-- what was read of these octets, after an identifier
+pub record Found (kind : SpduKind) (octets : List ℕ) (b : Followed) : Type 0 where
   pub used : List ℕ
   pub octets_are : octets ≡ used ++ b.more
   pub kind_is : b.spdu.kind ≡ kind
@@ -122,26 +122,26 @@ found-by kind indicator value more s at false e a size =
       spells = spells-made kind indicator value (data_of xs) [] (code_of kind ∷ (indicator ++ value)) s a size (other-data kind xs e) (ap (λ (o : List ℕ). code_of kind ∷ o) (sym (append-nil (indicator ++ value))));
     })
 
-one-by-sound : (kind : SpduKind) (place : ℕ) (octets : List ℕ) (x : Front) (b : Behind) → AreOctets octets → front octets ≡ x → one_by kind place x ≡ Ok b → Found kind octets b
+one-by-sound : (kind : SpduKind) (place : ℕ) (octets : List ℕ) (x : Measured) (b : Followed) → AreOctets octets → measured octets ≡ x → one_by kind place x ≡ Ok b → Found kind octets b
 one-by-sound kind place octets short b o e h = absurd cc
 one-by-sound kind place octets (whole z v m) b o e h =
-    let f = fronted octets z v m o e in
+    let f = is_measured octets z v m o e in
     let A : List ℕ → Type 0 = λ o. AreOctets o in
     let parts = all-split (λ (n : ℕ). n < 256) f.indicator (v ++ m) (subst A f.octets_are o) in
     let values = all-split (λ (n : ℕ). n < 256) v m parts.1 in
-    let s = bound (assembled kind (place + 1 + z) v) (λ spdu. Ok (behind kind spdu (place + 1 + z + length v) m)) b h in
+    let s = bound (assembled kind (place + 1 + z) v) (λ spdu. Ok (followed kind spdu (place + 1 + z + length v) m)) b h in
     let a = assembled-sound kind (place + 1 + z) v s.0 values.0 s.1 in
-    let B : Behind → Type 0 = λ b. Found kind octets b in
-    let C : List ℕ → Type 0 = λ o. Found kind o (behind kind s.0 (place + 1 + z + length v) m) in
-    subst B (is_ok (behind kind s.0 (place + 1 + z + length v) m) b s.2) (subst C (sym f.octets_are) (found-by kind f.indicator v m s.0 (place + 1 + z + length v) (is_dt kind) refl a f.is_length))
+    let B : Followed → Type 0 = λ b. Found kind octets b in
+    let C : List ℕ → Type 0 = λ o. Found kind o (followed kind s.0 (place + 1 + z + length v) m) in
+    subst B (is_ok (followed kind s.0 (place + 1 + z + length v) m) b s.2) (subst C (sym f.octets_are) (found-by kind f.indicator v m s.0 (place + 1 + z + length v) (is_dt kind) refl a f.is_length))
 
-one-sound : (kind : SpduKind) (place : ℕ) (octets : List ℕ) (b : Behind) → AreOctets octets → one kind place octets ≡ Ok b → Found kind octets b
-one-sound kind place octets b o h = one-by-sound kind place octets (front octets) b o refl h
+one-sound : (kind : SpduKind) (place : ℕ) (octets : List ℕ) (b : Followed) → AreOctets octets → one kind place octets ≡ Ok b → Found kind octets b
+one-sound kind place octets b o h = one-by-sound kind place octets (measured octets) b o refl h
 
 -- ---- the kinds
 
 abbrev pub Begins : ℕ → SpduKind → Type 0
-Begins code kind = (code ≡ code_of kind) × (goes_behind kind ≡ false)
+Begins code kind = (code ≡ code_of kind) × (goes_after kind ≡ false)
 
 begun : (b : Bool) (code n : ℕ) (k kind : SpduKind) (rest : Option SpduKind) → nat_eq code n ≡ b → Begins n k → (rest ≡ Some kind → Begins code kind) → cond b (Some k) rest ≡ Some kind → Begins code kind
 begun true code n k kind rest t b more h =
@@ -162,7 +162,7 @@ begins-kind code kind =
     (begun (nat_eq code 26) code 26 AA kind _ refl (refl, refl)
     (begun (nat_eq code 1) code 1 GT kind None refl (refl, refl) (λ h. absurd cc))))))))
 
-kind-begins : (kind : SpduKind) → goes_behind kind ≡ false → first_kind (code_of kind) ≡ Some kind
+kind-begins : (kind : SpduKind) → goes_after kind ≡ false → first_kind (code_of kind) ≡ Some kind
 kind-begins CN h = refl
 kind-begins AC h = refl
 kind-begins RF h = refl
@@ -178,25 +178,25 @@ kind-begins RS h = absurd cc
 kind-begins RA h = absurd cc
 
 abbrev pub Follows : ℕ → SpduKind → Type 0
-Follows code kind = (code ≡ code_of kind) × (goes_behind kind ≡ true)
+Follows code kind = (code ≡ code_of kind) × (goes_after kind ≡ true)
 
-followed : (b : Bool) (code n : ℕ) (k kind : SpduKind) (rest : Option SpduKind) → nat_eq code n ≡ b → Follows n k → (rest ≡ Some kind → Follows code kind) → cond b (Some k) rest ≡ Some kind → Follows code kind
-followed true code n k kind rest t b more h =
+follows-code : (b : Bool) (code n : ℕ) (k kind : SpduKind) (rest : Option SpduKind) → nat_eq code n ≡ b → Follows n k → (rest ≡ Some kind → Follows code kind) → cond b (Some k) rest ≡ Some kind → Follows code kind
+follows-code true code n k kind rest t b more h =
     let e : k ≡ kind = cc in
     let c : code ≡ n = grind (arith, nat_tests) in
     let P : SpduKind → Type 0 = λ k. Follows code k in
     subst P e (c ∙ b.0, b.1)
-followed false code n k kind rest t b more h = more h
+follows-code false code n k kind rest t b more h = more h
 
 pub follows-kind : (code : ℕ) (kind : SpduKind) → second_kind code ≡ Some kind → Follows code kind
 follows-kind code kind =
-    followed (nat_eq code 1) code 1 DT kind _ refl (refl, refl)
-    (followed (nat_eq code 49) code 49 MIP kind _ refl (refl, refl)
-    (followed (nat_eq code 50) code 50 MIA kind _ refl (refl, refl)
-    (followed (nat_eq code 53) code 53 RS kind _ refl (refl, refl)
-    (followed (nat_eq code 34) code 34 RA kind None refl (refl, refl) (λ h. absurd cc)))))
+    follows-code (nat_eq code 1) code 1 DT kind _ refl (refl, refl)
+    (follows-code (nat_eq code 49) code 49 MIP kind _ refl (refl, refl)
+    (follows-code (nat_eq code 50) code 50 MIA kind _ refl (refl, refl)
+    (follows-code (nat_eq code 53) code 53 RS kind _ refl (refl, refl)
+    (follows-code (nat_eq code 34) code 34 RA kind None refl (refl, refl) (λ h. absurd cc)))))
 
-kind-follows : (kind : SpduKind) → goes_behind kind ≡ true → second_kind (code_of kind) ≡ Some kind
+kind-follows : (kind : SpduKind) → goes_after kind ≡ true → second_kind (code_of kind) ≡ Some kind
 kind-follows CN h = absurd cc
 kind-follows AC h = absurd cc
 kind-follows RF h = absurd cc
@@ -213,17 +213,17 @@ kind-follows RA h = refl
 
 -- ---- what was read is held
 
-whole-spells : (kind : SpduKind) (code : ℕ) (octets : List ℕ) (b : Behind) → code ≡ code_of kind → (f : Found kind octets b) → b.more ≡ [] → Spells b.spdu (code ∷ octets)
+whole-spells : (kind : SpduKind) (code : ℕ) (octets : List ℕ) (b : Followed) → code ≡ code_of kind → (f : Found kind octets b) → b.more ≡ [] → Spells b.spdu (code ∷ octets)
 whole-spells kind code octets b e f none =
     let all : f.used ≡ octets = sym (append-nil f.used) ∙ ap (λ (o : List ℕ). f.used ++ o) (sym none) ∙ sym f.octets_are in
     let P : List ℕ → Type 0 = λ o. Spells b.spdu o in
     subst P (ap (λ (o : List ℕ). code_of kind ∷ o) all ∙ ap (λ (c : ℕ). c ∷ octets) (sym e)) f.spells
 
-alone-held : (kind : SpduKind) (code : ℕ) (octets : List ℕ) (b : Behind) → Begins code kind → Found kind octets b → b.more ≡ [] → Holds (code ∷ octets) (b.spdu ∷ [])
-alone-held kind code octets b k f none = (ap goes_behind f.kind_is ∙ k.1, whole-spells kind code octets b k.0 f none)
+alone-held : (kind : SpduKind) (code : ℕ) (octets : List ℕ) (b : Followed) → Begins code kind → Found kind octets b → b.more ≡ [] → Holds (code ∷ octets) (b.spdu ∷ [])
+alone-held kind code octets b k f none = (ap goes_after f.kind_is ∙ k.1, whole-spells kind code octets b k.0 f none)
 
--- nothing stands behind the last SPDU
-last-is : (place : ℕ) (more : List ℕ) (spdus found : List Spdu) → nothing_behind place more spdus ≡ Ok found → (more ≡ []) × (spdus ≡ found)
+-- nothing stands after the last SPDU
+last-is : (place : ℕ) (more : List ℕ) (spdus found : List Spdu) → nothing_after place more spdus ≡ Ok found → (more ≡ []) × (spdus ≡ found)
 last-is place [] spdus found h = (refl, is_ok spdus found h)
 last-is place (x ∷ more) spdus found h = absurd cc
 
@@ -242,12 +242,12 @@ gt-is MIA h = absurd cc
 gt-is RS h = absurd cc
 gt-is RA h = absurd cc
 
--- a GT, and behind it an SPDU
-two-held : (kind : SpduKind) (code : ℕ) (octets : List ℕ) (b : Behind) (code' : ℕ) (octets' : List ℕ) (kind' : SpduKind) (b' : Behind) → Begins code kind → is_gt kind ≡ true → Found kind octets b → b.more ≡ code' ∷ octets'
+-- a GT, and after it an SPDU
+two-held : (kind : SpduKind) (code : ℕ) (octets : List ℕ) (b : Followed) (code' : ℕ) (octets' : List ℕ) (kind' : SpduKind) (b' : Followed) → Begins code kind → is_gt kind ≡ true → Found kind octets b → b.more ≡ code' ∷ octets'
     → Follows code' kind' → Found kind' octets' b' → b'.more ≡ [] → Holds (code ∷ octets) (b.spdu ∷ b'.spdu ∷ [])
 two-held kind code octets b code' octets' kind' b' k g f more k' f' none = (
   f.kind_is ∙ gt-is kind g,
-  ap goes_behind f'.kind_is ∙ k'.1,
+  ap goes_after f'.kind_is ∙ k'.1,
   code_of kind ∷ f.used,
   code' ∷ octets',
   f.spells,
@@ -255,24 +255,24 @@ two-held kind code octets b code' octets' kind' b' k g f more k' f' none = (
   ap (λ (c : ℕ). c ∷ octets) k.0 ∙ ap (λ (o : List ℕ). code_of kind ∷ o) (f.octets_are ∙ ap (λ (o : List ℕ). f.used ++ o) more),
 )
 
-second-by-held : (kind : SpduKind) (code : ℕ) (octets : List ℕ) (b : Behind) (code' : ℕ) (octets' : List ℕ) (k' : Option SpduKind) (spdus : List Spdu) → Begins code kind → is_gt kind ≡ true → Found kind octets b
+second-by-held : (kind : SpduKind) (code : ℕ) (octets : List ℕ) (b : Followed) (code' : ℕ) (octets' : List ℕ) (k' : Option SpduKind) (spdus : List Spdu) → Begins code kind → is_gt kind ≡ true → Found kind octets b
     → b.more ≡ code' ∷ octets' → AreOctets octets' → second_kind code' ≡ k' → second_by b.spdu b.place k' octets' ≡ Ok spdus → Holds (code ∷ octets) spdus
 second-by-held kind code octets b code' octets' None spdus k g f more o e h = absurd cc
 second-by-held kind code octets b code' octets' (Some kind') spdus k g f more o e h =
-    let s = bound (one kind' b.place octets') (λ x. nothing_behind x.place x.more (b.spdu ∷ x.spdu ∷ [])) spdus h in
+    let s = bound (one kind' b.place octets') (λ x. nothing_after x.place x.more (b.spdu ∷ x.spdu ∷ [])) spdus h in
     let l = last-is s.0.place s.0.more (b.spdu ∷ s.0.spdu ∷ []) spdus s.2 in
     let P : List Spdu → Type 0 = λ spdus. Holds (code ∷ octets) spdus in
     subst P l.1 (two-held kind code octets b code' octets' kind' s.0 k g f more (follows-kind code' kind' e) (one-sound kind' b.place octets' s.0 o s.1) l.0)
 
-second-held : (kind : SpduKind) (code : ℕ) (octets : List ℕ) (b : Behind) (more : List ℕ) (spdus : List Spdu) → Begins code kind → is_gt kind ≡ true → Found kind octets b
+second-held : (kind : SpduKind) (code : ℕ) (octets : List ℕ) (b : Followed) (more : List ℕ) (spdus : List Spdu) → Begins code kind → is_gt kind ≡ true → Found kind octets b
     → b.more ≡ more → AreOctets more → second b.spdu b.place more ≡ Ok spdus → Holds (code ∷ octets) spdus
 second-held kind code octets b [] spdus k g f e o h =
     let P : List Spdu → Type 0 = λ spdus. Holds (code ∷ octets) spdus in
     subst P (is_ok (b.spdu ∷ []) spdus h) (alone-held kind code octets b k f e)
 second-held kind code octets b (code' ∷ octets') spdus k g f e o h = second-by-held kind code octets b code' octets' (second_kind code') spdus k g f e o.1 refl h
 
-follows-held : (kind : SpduKind) (code : ℕ) (octets : List ℕ) (b : Behind) (spdus : List Spdu) (g : Bool) → is_gt kind ≡ g → Begins code kind → Found kind octets b → AreOctets octets
-    → cond g (second b.spdu b.place b.more) (nothing_behind b.place b.more (b.spdu ∷ [])) ≡ Ok spdus → Holds (code ∷ octets) spdus
+follows-held : (kind : SpduKind) (code : ℕ) (octets : List ℕ) (b : Followed) (spdus : List Spdu) (g : Bool) → is_gt kind ≡ g → Begins code kind → Found kind octets b → AreOctets octets
+    → cond g (second b.spdu b.place b.more) (nothing_after b.place b.more (b.spdu ∷ [])) ≡ Ok spdus → Holds (code ∷ octets) spdus
 follows-held kind code octets b spdus true e k f o h =
     let A : List ℕ → Type 0 = λ o. AreOctets o in
     let parts = all-split (λ (n : ℕ). n < 256) f.used b.more (subst A f.octets_are o) in
@@ -294,33 +294,33 @@ reading-held (code ∷ octets) spdus o h = first-held code octets (first_kind co
 
 -- ---- what is held is read
 
-one-front : (kind : SpduKind) (place : ℕ) (indicator value more : List ℕ) (elements : List Element) → IsLength (length value) indicator → AreJoined SpellsElement elements value → AllByRecursion (StandsIn kind) elements
+one-measured : (kind : SpduKind) (place : ℕ) (indicator value more : List ℕ) (elements : List Element) → IsLength (length value) indicator → AreConcatenated SpellsElement elements value → AllByRecursion (StandsIn kind) elements
     → AllByRecursion IsOfForm (filled kind elements) → AllByRecursion (IsThere (filled kind elements)) (rows kind)
-    → one kind place ((indicator ++ value) ++ more) ≡ Ok (behind kind (says kind (filled kind elements)) (place + 1 + length indicator + length value) more)
-one-front kind place indicator value more elements size joined standing formed there =
-    ap (one kind place) (append_assoc indicator value more) ∙ ap (one_by kind place) (front-unit indicator value more (indicates (length value) indicator size))
-    ∙ rw (assembled-full kind (place + 1 + length indicator) value elements joined standing formed there) refl
+    → one kind place ((indicator ++ value) ++ more) ≡ Ok (followed kind (says kind (filled kind elements)) (place + 1 + length indicator + length value) more)
+one-measured kind place indicator value more elements size concatenated standing formed there =
+    ap (one kind place) (append_assoc indicator value more) ∙ ap (one_by kind place) (measured-unit indicator value more (indicates (length value) indicator size))
+    ∙ rw (assembled-full kind (place + 1 + length indicator) value elements concatenated standing formed there) refl
 
-same-behind : (kind : SpduKind) (f f' : SpduFields) (o o' more more' : List ℕ) (at : ℕ) → f ≡ f' → o ≡ o' → more ≡ more' →
-    (let b : Behind = record { spdu = record { kind = kind; fields = f; octets = o }; place = at; more = more } in
-    let b' : Behind = record { spdu = record { kind = kind; fields = f'; octets = o' }; place = at; more = more' } in b ≡ b')
-same-behind kind f f' o o' more more' at e1 e2 e3 = cc
+same-after : (kind : SpduKind) (f f' : SpduFields) (o o' more more' : List ℕ) (at : ℕ) → f ≡ f' → o ≡ o' → more ≡ more' →
+    (let b : Followed = record { spdu = record { kind = kind; fields = f; octets = o }; place = at; more = more } in
+    let b' : Followed = record { spdu = record { kind = kind; fields = f'; octets = o' }; place = at; more = more' } in b ≡ b')
+same-after kind f f' o o' more more' at e1 e2 e3 = cc
 
 ended : (kind : SpduKind) (fields : SpduFields) (o : List ℕ) (xs : List Filled) (more : List ℕ) (at : ℕ) → fields ≡ fields_of xs → HasData kind xs o more
-    → behind kind (says kind xs) at more ≡ record { spdu = record { kind = kind; fields = fields; octets = o }; place = at; more = [] }
-ended CN fields o xs more at f d = same-behind CN (fields_of xs) fields (data_of xs) o more [] at (sym f) (sym d.0) d.1
-ended AC fields o xs more at f d = same-behind AC (fields_of xs) fields (data_of xs) o more [] at (sym f) (sym d.0) d.1
-ended RF fields o xs more at f d = same-behind RF (fields_of xs) fields (data_of xs) o more [] at (sym f) (sym d.0) d.1
-ended FN fields o xs more at f d = same-behind FN (fields_of xs) fields (data_of xs) o more [] at (sym f) (sym d.0) d.1
-ended DN fields o xs more at f d = same-behind DN (fields_of xs) fields (data_of xs) o more [] at (sym f) (sym d.0) d.1
-ended AB fields o xs more at f d = same-behind AB (fields_of xs) fields (data_of xs) o more [] at (sym f) (sym d.0) d.1
-ended AA fields o xs more at f d = same-behind AA (fields_of xs) fields (data_of xs) o more [] at (sym f) (sym d.0) d.1
-ended DT fields o xs more at f d = same-behind DT (fields_of xs) fields more o [] [] at (sym f) (sym d) refl
-ended GT fields o xs more at f d = same-behind GT (fields_of xs) fields (data_of xs) o more [] at (sym f) (sym d.0) d.1
-ended MIP fields o xs more at f d = same-behind MIP (fields_of xs) fields (data_of xs) o more [] at (sym f) (sym d.0) d.1
-ended MIA fields o xs more at f d = same-behind MIA (fields_of xs) fields (data_of xs) o more [] at (sym f) (sym d.0) d.1
-ended RS fields o xs more at f d = same-behind RS (fields_of xs) fields (data_of xs) o more [] at (sym f) (sym d.0) d.1
-ended RA fields o xs more at f d = same-behind RA (fields_of xs) fields (data_of xs) o more [] at (sym f) (sym d.0) d.1
+    → followed kind (says kind xs) at more ≡ record { spdu = record { kind = kind; fields = fields; octets = o }; place = at; more = [] }
+ended CN fields o xs more at f d = same-after CN (fields_of xs) fields (data_of xs) o more [] at (sym f) (sym d.0) d.1
+ended AC fields o xs more at f d = same-after AC (fields_of xs) fields (data_of xs) o more [] at (sym f) (sym d.0) d.1
+ended RF fields o xs more at f d = same-after RF (fields_of xs) fields (data_of xs) o more [] at (sym f) (sym d.0) d.1
+ended FN fields o xs more at f d = same-after FN (fields_of xs) fields (data_of xs) o more [] at (sym f) (sym d.0) d.1
+ended DN fields o xs more at f d = same-after DN (fields_of xs) fields (data_of xs) o more [] at (sym f) (sym d.0) d.1
+ended AB fields o xs more at f d = same-after AB (fields_of xs) fields (data_of xs) o more [] at (sym f) (sym d.0) d.1
+ended AA fields o xs more at f d = same-after AA (fields_of xs) fields (data_of xs) o more [] at (sym f) (sym d.0) d.1
+ended DT fields o xs more at f d = same-after DT (fields_of xs) fields more o [] [] at (sym f) (sym d) refl
+ended GT fields o xs more at f d = same-after GT (fields_of xs) fields (data_of xs) o more [] at (sym f) (sym d.0) d.1
+ended MIP fields o xs more at f d = same-after MIP (fields_of xs) fields (data_of xs) o more [] at (sym f) (sym d.0) d.1
+ended MIA fields o xs more at f d = same-after MIA (fields_of xs) fields (data_of xs) o more [] at (sym f) (sym d.0) d.1
+ended RS fields o xs more at f d = same-after RS (fields_of xs) fields (data_of xs) o more [] at (sym f) (sym d.0) d.1
+ended RA fields o xs more at f d = same-after RA (fields_of xs) fields (data_of xs) o more [] at (sym f) (sym d.0) d.1
 
 -- an SPDU at the end of its TSDU
 pub record Last (spdu : Spdu) (place : ℕ) (octets : List ℕ) : Type 0 where
@@ -334,25 +334,25 @@ last-full spdu place octets s =
     let indicator = s.is_unit.0 in
     let at = place + 1 + length indicator + length s.parameters in
     record {
-      rest = (indicator ++ s.parameters) ++ s.behind;
+      rest = (indicator ++ s.parameters) ++ s.after;
       at = at;
-      octets_are = s.octets_are ∙ ap (λ (o : List ℕ). o ++ s.behind) s.is_unit.2;
-      one_is = one-front spdu.kind place indicator s.parameters s.behind s.elements s.is_unit.1 s.joined s.stand s.of_form s.complete
-          ∙ ap (λ (b : Behind). Ok b) (ended spdu.kind spdu.fields spdu.octets (filled spdu.kind s.elements) s.behind at s.fields_are s.has_data);
+      octets_are = s.octets_are ∙ ap (λ (o : List ℕ). o ++ s.after) s.is_unit.2;
+      one_is = one-measured spdu.kind place indicator s.parameters s.after s.elements s.is_unit.1 s.concatenated s.stand s.of_form s.complete
+          ∙ ap (λ (b : Followed). Ok b) (ended spdu.kind spdu.fields spdu.octets (filled spdu.kind s.elements) s.after at s.fields_are s.has_data);
     }
 
-alone-by : (b : Bool) (spdu : Spdu) (at : ℕ) → cond b (second spdu at []) (nothing_behind at [] (spdu ∷ [])) ≡ Ok (spdu ∷ [])
+alone-by : (b : Bool) (spdu : Spdu) (at : ℕ) → cond b (second spdu at []) (nothing_after at [] (spdu ∷ [])) ≡ Ok (spdu ∷ [])
 alone-by true spdu at = refl
 alone-by false spdu at = refl
 
-alone-full : (tsdu : List ℕ) (spdu : Spdu) → goes_behind spdu.kind ≡ false → Spells spdu tsdu → reading tsdu ≡ Ok (spdu ∷ [])
+alone-full : (tsdu : List ℕ) (spdu : Spdu) → goes_after spdu.kind ≡ false → Spells spdu tsdu → reading tsdu ≡ Ok (spdu ∷ [])
 alone-full tsdu spdu k s =
     let l = last-full spdu 0 tsdu s in
     ap reading l.octets_are ∙ ap (λ (kind : Option SpduKind). first_by kind l.rest) (kind-begins spdu.kind k) ∙ rw l.one_is (alone-by (is_gt spdu.kind) spdu l.at)
 
--- a GT in front of more
+-- a GT before more
 onward : (kind : SpduKind) (fields : SpduFields) (o : List ℕ) (xs : List Filled) (mine more : List ℕ) (at : ℕ) → kind ≡ GT → fields ≡ fields_of xs → HasData kind xs o mine
-    → (mine ≡ []) × (behind kind (says kind xs) at more ≡ record { spdu = record { kind = kind; fields = fields; octets = o }; place = at; more = more })
+    → (mine ≡ []) × (followed kind (says kind xs) at more ≡ record { spdu = record { kind = kind; fields = fields; octets = o }; place = at; more = more })
 onward CN fields o xs mine more at k f d = absurd cc
 onward AC fields o xs mine more at k f d = absurd cc
 onward RF fields o xs mine more at k f d = absurd cc
@@ -361,36 +361,36 @@ onward DN fields o xs mine more at k f d = absurd cc
 onward AB fields o xs mine more at k f d = absurd cc
 onward AA fields o xs mine more at k f d = absurd cc
 onward DT fields o xs mine more at k f d = absurd cc
-onward GT fields o xs mine more at k f d = (d.1, same-behind GT (fields_of xs) fields (data_of xs) o more more at (sym f) (sym d.0) refl)
+onward GT fields o xs mine more at k f d = (d.1, same-after GT (fields_of xs) fields (data_of xs) o more more at (sym f) (sym d.0) refl)
 onward MIP fields o xs mine more at k f d = absurd cc
 onward MIA fields o xs mine more at k f d = absurd cc
 onward RS fields o xs mine more at k f d = absurd cc
 onward RA fields o xs mine more at k f d = absurd cc
 
-pub record Front' (gt : Spdu) (octets more : List ℕ) : Type 0 where
+pub record MeasuredGt (gt : Spdu) (octets more : List ℕ) : Type 0 where
   pub rest : List ℕ
   pub at : ℕ
   pub octets_are : octets ≡ code_of GT ∷ rest
   pub one_is : one GT 0 rest ≡ Ok (record { spdu = gt; place = at; more = more })
 
-front-full : (gt : Spdu) (octets more : List ℕ) → gt.kind ≡ GT → Spells gt octets → Front' gt (octets ++ more) more
-front-full gt octets more k s =
+measured-full : (gt : Spdu) (octets more : List ℕ) → gt.kind ≡ GT → Spells gt octets → MeasuredGt gt (octets ++ more) more
+measured-full gt octets more k s =
     let indicator = s.is_unit.0 in
     let at = 0 + 1 + length indicator + length s.parameters in
     let rest = (indicator ++ s.parameters) ++ more in
-    let o = onward gt.kind gt.fields gt.octets (filled gt.kind s.elements) s.behind more at k s.fields_are s.has_data in
-    let own : octets ≡ code_of gt.kind ∷ (indicator ++ s.parameters) = s.octets_are ∙ ap (λ (b : List ℕ). s.front ++ b) o.0 ∙ append-nil s.front ∙ s.is_unit.2 in
+    let o = onward gt.kind gt.fields gt.octets (filled gt.kind s.elements) s.after more at k s.fields_are s.has_data in
+    let own : octets ≡ code_of gt.kind ∷ (indicator ++ s.parameters) = s.octets_are ∙ ap (λ (b : List ℕ). s.head ++ b) o.0 ∙ append-nil s.head ∙ s.is_unit.2 in
     record {
       rest = rest;
       at = at;
       octets_are = ap (λ (o : List ℕ). o ++ more) own ∙ ap (λ (kind : SpduKind). code_of kind ∷ rest) k;
       one_is = ap (λ (kind : SpduKind). one kind 0 rest) (sym k)
-          ∙ one-front gt.kind 0 indicator s.parameters more s.elements s.is_unit.1 s.joined s.stand s.of_form s.complete ∙ ap (λ (b : Behind). Ok b) o.1;
+          ∙ one-measured gt.kind 0 indicator s.parameters more s.elements s.is_unit.1 s.concatenated s.stand s.of_form s.complete ∙ ap (λ (b : Followed). Ok b) o.1;
     }
 
-two-full : (tsdu : List ℕ) (gt spdu : Spdu) (first rest : List ℕ) → gt.kind ≡ GT → goes_behind spdu.kind ≡ true → Spells gt first → Spells spdu rest → tsdu ≡ first ++ rest → reading tsdu ≡ Ok (gt ∷ spdu ∷ [])
+two-full : (tsdu : List ℕ) (gt spdu : Spdu) (first rest : List ℕ) → gt.kind ≡ GT → goes_after spdu.kind ≡ true → Spells gt first → Spells spdu rest → tsdu ≡ first ++ rest → reading tsdu ≡ Ok (gt ∷ spdu ∷ [])
 two-full tsdu gt spdu first rest k k' s s' e =
-    let f = front-full gt first rest k s in
+    let f = measured-full gt first rest k s in
     let l = last-full spdu f.at rest s' in
     ap reading (e ∙ f.octets_are)
     ∙ rw f.one_is (ap (second gt f.at) l.octets_are ∙ ap (λ (kind : Option SpduKind). second_by gt f.at kind l.rest) (kind-follows spdu.kind k') ∙ rw l.one_is refl)

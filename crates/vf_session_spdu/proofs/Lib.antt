@@ -1,6 +1,6 @@
 pub mod NumberLemmas
 pub mod PartLemmas
-pub mod FrontLemmas
+pub mod MeasureLemmas
 pub mod DigitLemmas
 pub mod ParameterLemmas
 pub mod RoundTrip

@@ -10,11 +10,11 @@ use Rattle.vf_session_spdu.specs.declared.spdu.Spdu.{Spdu}
 use Rattle.vf_session_spdu.specs.declared.table.Form.{Form}
 use Rattle.vf_session_spdu.specs.declared.table.Form.TheVariants.{Fixed, Either, Octet, Pair, Digits, Reasoned, AtMost, UserData}
 use Rattle.vf_session_spdu.specs.declared.table.Row.{Row}
-use Rattle.vf_session_spdu.specs.Fields.{◌>>=◌, bare, with_value, taken_by, taken, taking, is_absent, missing, complete, complete_by}
-use Rattle.vf_session_spdu.specs.Grammar.{goes_behind}
+use Rattle.vf_session_spdu.specs.Fields.{◌>>=◌, bare, with_value, with_row, with_part, with_parts, is_absent, missing, complete, complete_by}
+use Rattle.vf_session_spdu.specs.Grammar.{goes_after}
 use Rattle.vf_session_spdu.specs.Kinds.{code_of, first_kind, second_kind}
-use Rattle.vf_session_spdu.specs.Parts.{Part, parameter, cut, Front, short, whole, front, parts}
-use Rattle.vf_session_spdu.specs.Reading.{Behind, assembled, behind, is_gt, one, one_by, nothing_behind, second, second_by, follows, first_by, reading, is_good, first_is_good, faulty_place, fault_place, place_behind_gt}
+use Rattle.vf_session_spdu.specs.Parts.{Part, parameter, cut, Measured, short, whole, measured, parts}
+use Rattle.vf_session_spdu.specs.Reading.{Followed, assembled, followed, is_gt, one, one_by, nothing_after, second, second_by, follows, first_by, reading, is_good, first_is_good, faulty_place, fault_place, place_after_gt}
 use Rattle.vf_session_spdu.specs.Steps.{place_if_gt}
 use Rattle.vf_session_spdu.specs.Table.{rows, row_at, fits}
 use Rattle.vf_session_spdu.proofs.HoldsLemmas.{begins-kind, follows-kind, gt-is}
@@ -73,13 +73,13 @@ leaves-by : (s s' : Spdu) (b : Bool) (code : ℕ) → s'.kind ≡ s.kind → has
 leaves-by s s' true code k h = k
 leaves-by s s' false code k h = h
 
-row-leaves : (s : Spdu) (group code : ℕ) (v : List ℕ) (row : Option Row) → row_at s.kind group code ≡ row → Leaves s (taken_by row code v s)
+row-leaves : (s : Spdu) (group code : ℕ) (v : List ℕ) (row : Option Row) → row_at s.kind group code ≡ row → Leaves s (with_row row code v s)
 row-leaves s group code v None e = refl
 row-leaves s group code v (Some row) e = leaves-by s (with_value row.form code v s) (fits row.form v) code (value-kind row.form code v s) (row-code s.kind group code row e)
 
-taken-leaves : (s : Spdu) (p : Part) → Leaves s (taken s p)
-taken-leaves s (parameter group code v) = row-leaves s group code v (row_at s.kind group code) refl
-taken-leaves s (cut place) = tt
+with_part-leaves : (s : Spdu) (p : Part) → Leaves s (with_part s p)
+with_part-leaves s (parameter group code v) = row-leaves s group code v (row_at s.kind group code) refl
+with_part-leaves s (cut place) = tt
 
 leaves-kind : (s t : Spdu) (r : Result Spdu SpduError) → t.kind ≡ s.kind → Leaves t r → Leaves s r
 leaves-kind s t (Ok u) k h = h ∙ k
@@ -89,9 +89,9 @@ leaves-along : (s : Spdu) (r : Result Spdu SpduError) (f : Spdu → Result Spdu 
 leaves-along s (Ok t) f h more = leaves-kind s t (f t) h (more t)
 leaves-along s (Err e) f h more = h
 
-taking-leaves : (ps : List Part) (s : Spdu) → Leaves s (taking s ps)
-taking-leaves [] s = refl
-taking-leaves (p ∷ ps) s = leaves-along s (taken s p) (λ s. taking s ps) (taken-leaves s p) (taking-leaves ps)
+with_parts-leaves : (ps : List Part) (s : Spdu) → Leaves s (with_parts s ps)
+with_parts-leaves [] s = refl
+with_parts-leaves (p ∷ ps) s = leaves-along s (with_part s p) (λ s. with_parts s ps) (with_part-leaves s p) (with_parts-leaves ps)
 
 -- ---- one SPDU
 
@@ -101,19 +101,19 @@ missing-leaves s (Some row) e =
     any-found (λ row. row.required && is_absent s.fields row.code) (λ row. row.required) (λ x. and_first x.required (is_absent s.fields x.code)) (rows s.kind) row e
 
 assembled-leaves : (kind : SpduKind) (place : ℕ) (v : List ℕ) → Leaves (bare kind) (assembled kind place v)
-assembled-leaves kind place v = leaves-along (bare kind) (taking (bare kind) (parts kind place v)) complete (taking-leaves (parts kind place v) (bare kind)) (λ t. missing-leaves t (missing t) refl)
+assembled-leaves kind place v = leaves-along (bare kind) (with_parts (bare kind) (parts kind place v)) complete (with_parts-leaves (parts kind place v) (bare kind)) (λ t. missing-leaves t (missing t) refl)
 
-assembled-fails : (kind : SpduKind) (r : Result Spdu SpduError) (f : Spdu → Behind) (e : SpduError) → Leaves (bare kind) r → (r >>= (λ s. Ok (f s))) ≡ Err e → MayFail kind e
+assembled-fails : (kind : SpduKind) (r : Result Spdu SpduError) (f : Spdu → Followed) (e : SpduError) → Leaves (bare kind) r → (r >>= (λ s. Ok (f s))) ≡ Err e → MayFail kind e
 assembled-fails kind (Ok s) f e l h = absurd cc
 assembled-fails kind (Err x) f e l h = let same : x ≡ e = cc in let P : SpduError → Type 0 = λ e. MayFail kind e in subst P same l
 
-one-by-fails : (kind : SpduKind) (place : ℕ) (x : Front) (e : SpduError) → one_by kind place x ≡ Err e → MayFail kind e
+one-by-fails : (kind : SpduKind) (place : ℕ) (x : Measured) (e : SpduError) → one_by kind place x ≡ Err e → MayFail kind e
 one-by-fails kind place short e h = let same : Length (place + 1) ≡ e = cc in let P : SpduError → Type 0 = λ e. MayFail kind e in subst P same tt
 one-by-fails kind place (whole z v m) e h =
-    assembled-fails kind (assembled kind (place + 1 + z) v) (λ spdu. behind kind spdu (place + 1 + z + length v) m) e (assembled-leaves kind (place + 1 + z) v) h
+    assembled-fails kind (assembled kind (place + 1 + z) v) (λ spdu. followed kind spdu (place + 1 + z + length v) m) e (assembled-leaves kind (place + 1 + z) v) h
 
 one-fails : (kind : SpduKind) (place : ℕ) (octets : List ℕ) (e : SpduError) → one kind place octets ≡ Err e → MayFail kind e
-one-fails kind place octets e h = one-by-fails kind place (front octets) e h
+one-fails kind place octets e h = one-by-fails kind place (measured octets) e h
 
 -- ---- whole TSDUs
 
@@ -134,8 +134,8 @@ gt-fault (Missing code) m a = absurd cc
 gt-fault (Value code) m a = grind (arith, nat_tests)
 gt-fault NoMemory m a = absurd cc
 
--- no SPDU that goes behind a GT has its parameter
-without-it : (kind : SpduKind) → goes_behind kind ≡ true → has_code kind 16 ≡ false
+-- no SPDU that goes after a GT has its parameter
+without-it : (kind : SpduKind) → goes_after kind ≡ true → has_code kind 16 ≡ false
 without-it CN h = absurd cc
 without-it AC h = absurd cc
 without-it RF h = absurd cc
@@ -150,14 +150,14 @@ without-it MIA h = refl
 without-it RS h = refl
 without-it RA h = refl
 
-other-by : (kind : SpduKind) (code : ℕ) (b : Bool) → nat_eq code 16 ≡ b → goes_behind kind ≡ true → has_code kind code ≡ true → b ≡ false
+other-by : (kind : SpduKind) (code : ℕ) (b : Bool) → nat_eq code 16 ≡ b → goes_after kind ≡ true → has_code kind code ≡ true → b ≡ false
 other-by kind code false e k m = refl
 other-by kind code true e k m =
     let same : code ≡ 16 = grind (arith, nat_tests) in
     let none : has_code kind code ≡ false = ap (has_code kind) same ∙ without-it kind k in
     absurd cc
 
-other-fault : (kind : SpduKind) (e : SpduError) → goes_behind kind ≡ true → MayFail kind e → is_of_gt e ≡ false
+other-fault : (kind : SpduKind) (e : SpduError) → goes_after kind ≡ true → MayFail kind e → is_of_gt e ≡ false
 other-fault kind (Code at) k m = refl
 other-fault kind (Length at) k m = refl
 other-fault kind (Missing code) k m = refl
@@ -174,7 +174,7 @@ done spdus = Ok spdus
 abbrev fails : SpduError → Result (List Spdu) SpduError
 fails e = Err e
 
-last-fails : (place : ℕ) (more : List ℕ) (spdus : List Spdu) (e : SpduError) → nothing_behind place more spdus ≡ fails e → about_parameter e ≡ true → ⊥
+last-fails : (place : ℕ) (more : List ℕ) (spdus : List Spdu) (e : SpduError) → nothing_after place more spdus ≡ fails e → about_parameter e ≡ true → ⊥
 last-fails place [] spdus e h a = cc
 last-fails place (x ∷ more) spdus e h a =
     let same : Length place ≡ e = cc in
@@ -182,10 +182,10 @@ last-fails place (x ∷ more) spdus e h a =
     cc
 
 -- the second SPDU has the fault
-second-read : (kind : SpduKind) (gt : Spdu) (r : Result Behind SpduError) (e : SpduError) → ((e : SpduError) → r ≡ Err e → MayFail kind e)
-    → (r >>= (λ x. nothing_behind x.place x.more (gt ∷ x.spdu ∷ []))) ≡ fails e → about_parameter e ≡ true → MayFail kind e
+second-read : (kind : SpduKind) (gt : Spdu) (r : Result Followed SpduError) (e : SpduError) → ((e : SpduError) → r ≡ Err e → MayFail kind e)
+    → (r >>= (λ x. nothing_after x.place x.more (gt ∷ x.spdu ∷ []))) ≡ fails e → about_parameter e ≡ true → MayFail kind e
 second-read kind gt (Ok x) e f h a = absurd (last-fails x.place x.more (gt ∷ x.spdu ∷ []) e h a)
-second-read kind gt (Err x) e f h a = f e (let same : x ≡ e = cc in ap (λ (e : SpduError). let r : Result Behind SpduError = Err e in r) same)
+second-read kind gt (Err x) e f h a = f e (let same : x ≡ e = cc in ap (λ (e : SpduError). let r : Result Followed SpduError = Err e in r) same)
 
 second-by : (gt : Spdu) (place code : ℕ) (octets : List ℕ) (k : Option SpduKind) (e : SpduError) → second_kind code ≡ k → second_by gt place k octets ≡ fails e → about_parameter e ≡ true → is_of_gt e ≡ false
 second-by gt place code octets None e t h a =
@@ -204,7 +204,7 @@ same-if true = refl
 same-if false = refl
 
 -- the SPDU with the identifier 1 that begins a TSDU
-gt-of : (kind : SpduKind) → code_of kind ≡ 1 → goes_behind kind ≡ false → kind ≡ GT
+gt-of : (kind : SpduKind) → code_of kind ≡ 1 → goes_after kind ≡ false → kind ≡ GT
 gt-of CN c h = absurd cc
 gt-of AC c h = absurd cc
 gt-of RF c h = absurd cc
@@ -220,33 +220,33 @@ gt-of RS c h = absurd cc
 gt-of RA c h = absurd cc
 
 -- a fault in the first SPDU
-first-place : (kind : SpduKind) (code : ℕ) (octets : List ℕ) (e : SpduError) (b : Bool) → nat_eq code 1 ≡ b → code ≡ code_of kind → goes_behind kind ≡ false → MayFail kind e → about_parameter e ≡ true
-    → cond (is_of_gt e) 0 (cond b (place_behind_gt (code ∷ octets)) 0) ≡ 0
+first-place : (kind : SpduKind) (code : ℕ) (octets : List ℕ) (e : SpduError) (b : Bool) → nat_eq code 1 ≡ b → code ≡ code_of kind → goes_after kind ≡ false → MayFail kind e → about_parameter e ≡ true
+    → cond (is_of_gt e) 0 (cond b (place_after_gt (code ∷ octets)) 0) ≡ 0
 first-place kind code octets e true t c k m a =
     let one : code ≡ 1 = grind (arith, nat_tests) in
     let g = gt-of kind (sym c ∙ one) k in
     let P : SpduKind → Type 0 = λ kind. MayFail kind e in
-    ap (λ (b : Bool). cond b 0 (place_behind_gt (code ∷ octets))) (gt-fault e (subst P g m) a)
+    ap (λ (b : Bool). cond b 0 (place_after_gt (code ∷ octets))) (gt-fault e (subst P g m) a)
 first-place kind code octets e false t c k m a = same-if (is_of_gt e)
 
--- a fault behind a GT
-behind-place : (kind : SpduKind) (code : ℕ) (octets : List ℕ) (e : SpduError) (b : Behind) (g : Bool) → is_gt kind ≡ g → code ≡ code_of kind → about_parameter e ≡ true
-    → cond g (second b.spdu b.place b.more) (nothing_behind b.place b.more (b.spdu ∷ [])) ≡ fails e → place-by (code ∷ octets) e ≡ place_behind_gt (code ∷ octets)
-behind-place kind code octets e b true t c a h =
+-- a fault after a GT
+after-place : (kind : SpduKind) (code : ℕ) (octets : List ℕ) (e : SpduError) (b : Followed) (g : Bool) → is_gt kind ≡ g → code ≡ code_of kind → about_parameter e ≡ true
+    → cond g (second b.spdu b.place b.more) (nothing_after b.place b.more (b.spdu ∷ [])) ≡ fails e → place-by (code ∷ octets) e ≡ place_after_gt (code ∷ octets)
+after-place kind code octets e b true t c a h =
     let one : code ≡ 1 = c ∙ ap code_of (gt-is kind t) in
     let test : nat_eq code 1 ≡ true = grind (arith, nat_tests) in
     rw (second-fails b.spdu b.place b.more e h a, test) refl
-behind-place kind code octets e b false t c a h = absurd (last-fails b.place b.more (b.spdu ∷ []) e h a)
+after-place kind code octets e b false t c a h = absurd (last-fails b.place b.more (b.spdu ∷ []) e h a)
 
-by-first : (kind : SpduKind) (code : ℕ) (octets : List ℕ) (e : SpduError) (r : Result Behind SpduError) → code ≡ code_of kind → goes_behind kind ≡ false → ((e : SpduError) → r ≡ Err e → MayFail kind e) → about_parameter e ≡ true
-    → (r >>= follows kind) ≡ fails e → place-by (code ∷ octets) e ≡ cond (is_good r) (place_behind_gt (code ∷ octets)) 0
-by-first kind code octets e (Ok b) c k f a h = behind-place kind code octets e b (is_gt kind) refl c a h
+by-first : (kind : SpduKind) (code : ℕ) (octets : List ℕ) (e : SpduError) (r : Result Followed SpduError) → code ≡ code_of kind → goes_after kind ≡ false → ((e : SpduError) → r ≡ Err e → MayFail kind e) → about_parameter e ≡ true
+    → (r >>= follows kind) ≡ fails e → place-by (code ∷ octets) e ≡ cond (is_good r) (place_after_gt (code ∷ octets)) 0
+by-first kind code octets e (Ok b) c k f a h = after-place kind code octets e b (is_gt kind) refl c a h
 by-first kind code octets e (Err x) c k f a h =
     let same : x ≡ e = cc in
-    first-place kind code octets e (nat_eq code 1) refl c k (f e (ap (λ (e : SpduError). let r : Result Behind SpduError = Err e in r) same)) a
+    first-place kind code octets e (nat_eq code 1) refl c k (f e (ap (λ (e : SpduError). let r : Result Followed SpduError = Err e in r) same)) a
 
 by-kind : (code : ℕ) (octets : List ℕ) (e : SpduError) (k : Option SpduKind) → first_kind code ≡ k → about_parameter e ≡ true → first_by k octets ≡ fails e
-    → place-by (code ∷ octets) e ≡ cond (first_is_good k octets) (place_behind_gt (code ∷ octets)) 0
+    → place-by (code ∷ octets) e ≡ cond (first_is_good k octets) (place_after_gt (code ∷ octets)) 0
 by-kind code octets e None t a h =
     let same : Code 0 ≡ e = cc in
     let b : about_parameter (Code 0) ≡ true = ap about_parameter same ∙ a in

@@ -10,11 +10,11 @@ use Rattle.vf_session_spdu.specs.declared.spdu.SpduFields.{SpduFields}
 use Rattle.vf_session_spdu.specs.declared.table.Form.{Form}
 use Rattle.vf_session_spdu.specs.declared.table.Form.TheVariants.{Fixed, Either, Octet, Pair, Digits, Reasoned, AtMost, UserData}
 use Rattle.vf_session_spdu.specs.declared.table.Row.{Row}
-use Rattle.vf_session_spdu.specs.Fields.{◌>>=◌, IsReadable, is_serial, with_octet, with_number, with_value, taken_by, taken, taking, missing, complete, complete_by, bare, with_octets}
+use Rattle.vf_session_spdu.specs.Fields.{◌>>=◌, IsReadable, is_serial, with_octet, with_number, with_value, with_row, with_part, with_parts, missing, complete, complete_by, bare, with_octets}
 use Rattle.vf_session_spdu.specs.Kinds.{first_kind, second_kind}
 use Rattle.vf_session_spdu.specs.Numbers.{number, last_serial}
-use Rattle.vf_session_spdu.specs.Parts.{Part, parameter, cut, Front, short, whole, front, parts}
-use Rattle.vf_session_spdu.specs.Reading.{Behind, assembled, behind, is_dt, is_gt, one, one_by, nothing_behind, second, second_by, follows, first_by, reading}
+use Rattle.vf_session_spdu.specs.Parts.{Part, parameter, cut, Measured, short, whole, measured, parts}
+use Rattle.vf_session_spdu.specs.Reading.{Followed, assembled, followed, is_dt, is_gt, one, one_by, nothing_after, second, second_by, follows, first_by, reading}
 use Rattle.vf_session_spdu.specs.Table.{fits, is_digit, row_at}
 use Rattle.vf_session_spdu.proofs.NumberLemmas.{digit-all}
 
@@ -113,21 +113,21 @@ is_ok x y h = cc
 along : (x y : Spdu) → x ≡ y → Numbered x.fields → Numbered y.fields
 along x y e h = let P : Spdu → Type 0 = λ s. Numbered s.fields in subst P e h
 
-by-numbered : (row : Option Row) (code : ℕ) (v : List ℕ) (s s' : Spdu) → taken_by row code v s ≡ Ok s' → Numbered s.fields → Numbered s'.fields
+by-numbered : (row : Option Row) (code : ℕ) (v : List ℕ) (s s' : Spdu) → with_row row code v s ≡ Ok s' → Numbered s.fields → Numbered s'.fields
 by-numbered None code v s s' h n = along s s' (is_ok s s' h) n
 by-numbered (Some row) code v s s' h n =
     let g = guarded (fits row.form v) (with_value row.form code v s) s' (errors.Value code) h in
     along (with_value row.form code v s) s' g.1 (value-numbered row.form code v s g.0 n)
 
-taken-numbered : (part : Part) (s s' : Spdu) → taken s part ≡ Ok s' → Numbered s.fields → Numbered s'.fields
-taken-numbered (parameter group code v) s s' h n = by-numbered (row_at s.kind group code) code v s s' h n
-taken-numbered (cut place) s s' h n = absurd cc
+with_part-numbered : (part : Part) (s s' : Spdu) → with_part s part ≡ Ok s' → Numbered s.fields → Numbered s'.fields
+with_part-numbered (parameter group code v) s s' h n = by-numbered (row_at s.kind group code) code v s s' h n
+with_part-numbered (cut place) s s' h n = absurd cc
 
-taking-numbered : (ps : List Part) (s s' : Spdu) → taking s ps ≡ Ok s' → Numbered s.fields → Numbered s'.fields
-taking-numbered [] s s' h n = along s s' (is_ok s s' h) n
-taking-numbered (p ∷ ps) s s' h n =
-    let b = bound (taken s p) (λ s. taking s ps) s' h in
-    taking-numbered ps b.0 s' b.2 (taken-numbered p s b.0 b.1 n)
+with_parts-numbered : (ps : List Part) (s s' : Spdu) → with_parts s ps ≡ Ok s' → Numbered s.fields → Numbered s'.fields
+with_parts-numbered [] s s' h n = along s s' (is_ok s s' h) n
+with_parts-numbered (p ∷ ps) s s' h n =
+    let b = bound (with_part s p) (λ s. with_parts s ps) s' h in
+    with_parts-numbered ps b.0 s' b.2 (with_part-numbered p s b.0 b.1 n)
 
 complete-numbered : (row : Option Row) (s s' : Spdu) → complete_by s row ≡ Ok s' → Numbered s.fields → Numbered s'.fields
 complete-numbered None s s' h n = along s s' (is_ok s s' h) n
@@ -135,38 +135,38 @@ complete-numbered (Some row) s s' h n = absurd cc
 
 assembled-numbered : (kind : SpduKind) (place : ℕ) (v : List ℕ) (s : Spdu) → assembled kind place v ≡ Ok s → Numbered s.fields
 assembled-numbered kind place v s h =
-    let b = bound (taking (bare kind) (parts kind place v)) complete s h in
-    complete-numbered (missing b.0) b.0 s b.2 (taking-numbered (parts kind place v) (bare kind) b.0 b.1 (refl, refl))
+    let b = bound (with_parts (bare kind) (parts kind place v)) complete s h in
+    complete-numbered (missing b.0) b.0 s b.2 (with_parts-numbered (parts kind place v) (bare kind) b.0 b.1 (refl, refl))
 
-behind-numbered : (b : Bool) (s : Spdu) (place : ℕ) (more : List ℕ) → Numbered s.fields → Numbered (let x : Behind = cond b (record { spdu = with_octets s more; place = place; more = [] }) (record { spdu = s; place = place; more = more }) in x).spdu.fields
-behind-numbered true s place more n = n
-behind-numbered false s place more n = n
+after-numbered : (b : Bool) (s : Spdu) (place : ℕ) (more : List ℕ) → Numbered s.fields → Numbered (let x : Followed = cond b (record { spdu = with_octets s more; place = place; more = [] }) (record { spdu = s; place = place; more = more }) in x).spdu.fields
+after-numbered true s place more n = n
+after-numbered false s place more n = n
 
-one-numbered : (kind : SpduKind) (place : ℕ) (x : Front) (y : Behind) → one_by kind place x ≡ Ok y → Numbered y.spdu.fields
+one-numbered : (kind : SpduKind) (place : ℕ) (x : Measured) (y : Followed) → one_by kind place x ≡ Ok y → Numbered y.spdu.fields
 one-numbered kind place short y h = absurd cc
 one-numbered kind place (whole spelled v more) y h =
-    let b = bound (assembled kind (place + 1 + spelled) v) (λ spdu. Ok (behind kind spdu (place + 1 + spelled + length v) more)) y h in
-    let P : Behind → Type 0 = λ y. Numbered y.spdu.fields in
-    subst P (is_ok (behind kind b.0 (place + 1 + spelled + length v) more) y b.2) (behind-numbered (is_dt kind) b.0 (place + 1 + spelled + length v) more (assembled-numbered kind (place + 1 + spelled) v b.0 b.1))
+    let b = bound (assembled kind (place + 1 + spelled) v) (λ spdu. Ok (followed kind spdu (place + 1 + spelled + length v) more)) y h in
+    let P : Followed → Type 0 = λ y. Numbered y.spdu.fields in
+    subst P (is_ok (followed kind b.0 (place + 1 + spelled + length v) more) y b.2) (after-numbered (is_dt kind) b.0 (place + 1 + spelled + length v) more (assembled-numbered kind (place + 1 + spelled) v b.0 b.1))
 
 readable : (s : Spdu) → Numbered s.fields → IsReadable s
 readable s n = record { first = n.0; serial = n.1 }
 
-last-readable : (place : ℕ) (more : List ℕ) (x y : List Spdu) → nothing_behind place more x ≡ Ok y → AllByRecursion IsReadable x → AllByRecursion IsReadable y
+last-readable : (place : ℕ) (more : List ℕ) (x y : List Spdu) → nothing_after place more x ≡ Ok y → AllByRecursion IsReadable x → AllByRecursion IsReadable y
 last-readable place [] x y h a = let P : List Spdu → Type 0 = λ x. AllByRecursion IsReadable x in subst P (is_ok x y h) a
 last-readable place (octet ∷ more) x y h a = absurd cc
 
 second_by-readable : (gt : Spdu) (place : ℕ) (kind : Option SpduKind) (octets : List ℕ) (y : List Spdu) → second_by gt place kind octets ≡ Ok y → Numbered gt.fields → AllByRecursion IsReadable y
 second_by-readable gt place None octets y h n = absurd cc
 second_by-readable gt place (Some kind) octets y h n =
-    let b = bound (one kind place octets) (λ x. nothing_behind x.place x.more (gt ∷ x.spdu ∷ [])) y h in
-    last-readable b.0.place b.0.more (gt ∷ b.0.spdu ∷ []) y b.2 (readable gt n, (readable b.0.spdu (one-numbered kind place (front octets) b.0 b.1), tt))
+    let b = bound (one kind place octets) (λ x. nothing_after x.place x.more (gt ∷ x.spdu ∷ [])) y h in
+    last-readable b.0.place b.0.more (gt ∷ b.0.spdu ∷ []) y b.2 (readable gt n, (readable b.0.spdu (one-numbered kind place (measured octets) b.0 b.1), tt))
 
 second-readable : (gt : Spdu) (place : ℕ) (octets : List ℕ) (y : List Spdu) → second gt place octets ≡ Ok y → Numbered gt.fields → AllByRecursion IsReadable y
 second-readable gt place [] y h n = let P : List Spdu → Type 0 = λ x. AllByRecursion IsReadable x in subst P (is_ok (gt ∷ []) y h) (readable gt n, tt)
 second-readable gt place (code ∷ octets) y h n = second_by-readable gt place (second_kind code) octets y h n
 
-follows-readable : (b : Bool) (x : Behind) (y : List Spdu) → cond b (second x.spdu x.place x.more) (nothing_behind x.place x.more (x.spdu ∷ [])) ≡ Ok y → Numbered x.spdu.fields → AllByRecursion IsReadable y
+follows-readable : (b : Bool) (x : Followed) (y : List Spdu) → cond b (second x.spdu x.place x.more) (nothing_after x.place x.more (x.spdu ∷ [])) ≡ Ok y → Numbered x.spdu.fields → AllByRecursion IsReadable y
 follows-readable true x y h n = second-readable x.spdu x.place x.more y h n
 follows-readable false x y h n = last-readable x.place x.more (x.spdu ∷ []) y h (readable x.spdu n, tt)
 
@@ -174,7 +174,7 @@ first-readable : (kind : Option SpduKind) (octets : List ℕ) (y : List Spdu) �
 first-readable None octets y h = absurd cc
 first-readable (Some kind) octets y h =
     let b = bound (one kind 0 octets) (follows kind) y h in
-    follows-readable (is_gt kind) b.0 y b.2 (one-numbered kind 0 (front octets) b.0 b.1)
+    follows-readable (is_gt kind) b.0 y b.2 (one-numbered kind 0 (measured octets) b.0 b.1)
 
 pub reading-readable : (tsdu : List ℕ) (spdus : List Spdu) → reading tsdu ≡ Ok spdus → AllByRecursion IsReadable spdus
 reading-readable [] spdus h = absurd cc

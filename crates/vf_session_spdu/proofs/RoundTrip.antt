@@ -9,15 +9,15 @@ use Rattle.vf_session_spdu.specs.declared.errors.SpduError.{SpduError}
 use Rattle.vf_session_spdu.specs.declared.spdu.Spdu.{Spdu}
 use Rattle.vf_session_spdu.specs.declared.spdu.SpduFields.{SpduFields}
 use Rattle.vf_session_spdu.specs.declared.table.Form.TheVariants.{AtMost, Either, UserData, Digits}
-use Rattle.vf_session_spdu.specs.Fields.{◌>>=◌, no_fields, bare, taking, complete}
+use Rattle.vf_session_spdu.specs.Fields.{◌>>=◌, no_fields, bare, with_parts, complete}
 use Rattle.vf_session_spdu.specs.Kinds.{code_of, first_kind}
 use Rattle.vf_session_spdu.specs.Numbers.{number, digits, last_serial, length_octets}
-use Rattle.vf_session_spdu.specs.Parts.{front, Opening, inner, outer}
-use Rattle.vf_session_spdu.specs.Reading.{Behind, assembled, behind, is_gt, one, one_by, nothing_behind, second, second_by, first_by}
-use Rattle.vf_session_spdu.specs.Spelling.{spelled, spelled_if, first_data, second_data, spelled_parameters, octets_behind, spelling, IsWritten, HasFields, HasUnits, HasSerial, HasReason, HasAbort, HasToken, IsSide, ReadsAlone, ReadsBehind}
+use Rattle.vf_session_spdu.specs.Parts.{measured, Opening, inner, outer}
+use Rattle.vf_session_spdu.specs.Reading.{Followed, assembled, followed, is_gt, one, one_by, nothing_after, second, second_by, first_by}
+use Rattle.vf_session_spdu.specs.Spelling.{spelled, spelled_if, first_data, second_data, spelled_parameters, octets_after, spelling, IsWritten, HasFields, HasUnits, HasSerial, HasReason, HasAbort, HasToken, IsSide, ReadsAlone, ReadsAfter}
 use Rattle.vf_session_spdu.specs.Table.{fits, optional}
 use Rattle.vf_session_spdu.proofs.DigitLemmas.{digits-fit, digits-spell}
-use Rattle.vf_session_spdu.proofs.FrontLemmas.{front-unit, length-written}
+use Rattle.vf_session_spdu.proofs.MeasureLemmas.{measured-unit, length-written}
 use Rattle.vf_session_spdu.proofs.ParameterLemmas.{TakesTo, takes-none, takes-spelled}
 
 -- ---- user data
@@ -32,7 +32,7 @@ abbrev user-data : List ℕ → List ℕ
 user-data o = spelled_if 193 (first_data (optional 193 UserData) o) ++ []
 
 takes-data : (opened : Opening) (kind : SpduKind) (fields : SpduFields) (o : List ℕ)
-    → ((at : ℕ) (x : List ℕ) → taking (made kind fields []) (opened at 193 x) ≡ Ok (made kind fields x))
+    → ((at : ℕ) (x : List ℕ) → with_parts (made kind fields []) (opened at 193 x) ≡ Ok (made kind fields x))
     → TakesTo opened (user-data o) (made kind fields []) (made kind fields o)
 takes-data opened kind fields [] h = takes-none opened (made kind fields [])
 takes-data opened kind fields (x ∷ o) h =
@@ -43,7 +43,7 @@ takes-data opened kind fields (x ∷ o) h =
 abbrev connect-data : List ℕ → List ℕ
 connect-data o = spelled_if 193 (first_data (optional 193 (AtMost 512)) o) ++ (spelled_if 194 (second_data o) ++ [])
 
-guarded : (b : Bool) (x : Spdu) (e : SpduError) → b ≡ true → (let r : Result Spdu SpduError = cond b (Ok x) (Err e) in r >>= (λ s. taking s [])) ≡ Ok x
+guarded : (b : Bool) (x : Spdu) (e : SpduError) → b ≡ true → (let r : Result Spdu SpduError = cond b (Ok x) (Err e) in r >>= (λ s. with_parts s [])) ≡ Ok x
 guarded true x e h = refl
 guarded false x e h = absurd cc
 
@@ -69,7 +69,7 @@ takes-connect-data fields (x ∷ o) h =
 -- ---- serial numbers
 
 takes-number : (opened : Opening) (code n : ℕ) (rest : List ℕ) (s s'' : Spdu) (f : ℕ → Spdu) → n ≤ last_serial
-    → ((at : ℕ) (v : List ℕ) → fits Digits v ≡ true → taking s (opened at code v) ≡ Ok (f (number v)))
+    → ((at : ℕ) (v : List ℕ) → fits Digits v ≡ true → with_parts s (opened at code v) ≡ Ok (f (number v)))
     → TakesTo opened rest (f n) s'' → TakesTo opened (spelled code (digits n) ++ rest) s s''
 takes-number opened code n rest s s'' f small first more =
     takes-spelled opened code (digits n) rest s (f n) s'' (λ at. first at (digits n) (digits-fit n small) ∙ ap (λ (k : ℕ). Ok (f k)) (digits-spell n small)) more
@@ -81,7 +81,7 @@ pub record IsRead (spdu : Spdu) (octets : List ℕ) : Type 0 where
   pub complete_is : complete (made spdu.kind spdu.fields octets) ≡ Ok (made spdu.kind spdu.fields octets)
 
 -- the items of a CN and an AC
-takes-item : (kind : SpduKind) → ((at : ℕ) → taking (bare kind) (inner at 19 (0 ∷ [])) ≡ Ok (bare kind)) → ((at : ℕ) → taking (bare kind) (inner at 22 (2 ∷ [])) ≡ Ok (bare kind))
+takes-item : (kind : SpduKind) → ((at : ℕ) → with_parts (bare kind) (inner at 19 (0 ∷ [])) ≡ Ok (bare kind)) → ((at : ℕ) → with_parts (bare kind) (inner at 22 (2 ∷ [])) ≡ Ok (bare kind))
     → (rest : List ℕ) (s : Spdu) → TakesTo inner rest (bare kind) s → TakesTo inner (spelled 19 (0 ∷ []) ++ (spelled 22 (2 ∷ []) ++ rest)) (bare kind) s
 takes-item kind a b rest s h =
     takes-spelled inner 19 (0 ∷ []) (spelled 22 (2 ∷ []) ++ rest) (bare kind) (bare kind) s a (takes-spelled inner 22 (2 ∷ []) rest (bare kind) (bare kind) s b h)
@@ -289,19 +289,19 @@ assembled-read spdu octets place r = rw (r.takes place) r.complete_is
 
 one-read : (spdu : Spdu) (octets : List ℕ) (place : ℕ) (more : List ℕ) → IsRead spdu octets →
     (let i = length_octets (length (spelled_parameters spdu)) in
-    one spdu.kind place ((i ++ spelled_parameters spdu) ++ more) ≡ Ok (behind spdu.kind (made spdu.kind spdu.fields octets) (place + 1 + length i + length (spelled_parameters spdu)) more))
+    one spdu.kind place ((i ++ spelled_parameters spdu) ++ more) ≡ Ok (followed spdu.kind (made spdu.kind spdu.fields octets) (place + 1 + length i + length (spelled_parameters spdu)) more))
 one-read spdu octets place more r =
     let i = length_octets (length (spelled_parameters spdu)) in
     ap (one spdu.kind place) (append_assoc i (spelled_parameters spdu) more)
-    ∙ ap (one_by spdu.kind place) (front-unit i (spelled_parameters spdu) more (length-written (length (spelled_parameters spdu))))
+    ∙ ap (one_by spdu.kind place) (measured-unit i (spelled_parameters spdu) more (length-written (length (spelled_parameters spdu))))
     ∙ rw (assembled-read spdu octets (place + 1 + length i) r) refl
 
--- an SPDU behind which nothing stands, and the data of a DT
+-- an SPDU after which nothing stands, and the data of a DT
 pub record Ends (spdu : Spdu) (place : ℕ) (octets : List ℕ) : Type 0 where
   pub at : ℕ
   pub one_is : one spdu.kind place octets ≡ Ok (record { spdu = spdu; place = at; more = [] })
 
-ends-by : (kind : SpduKind) (fields : SpduFields) (o : List ℕ) (at : ℕ) → behind kind (made kind fields (in-parameters kind o)) at (octets_behind (made kind fields o) kind) ≡ record { spdu = made kind fields o; place = at; more = [] }
+ends-by : (kind : SpduKind) (fields : SpduFields) (o : List ℕ) (at : ℕ) → followed kind (made kind fields (in-parameters kind o)) at (octets_after (made kind fields o) kind) ≡ record { spdu = made kind fields o; place = at; more = [] }
 ends-by CN fields o at = refl
 ends-by AC fields o at = refl
 ends-by RF fields o at = refl
@@ -316,9 +316,9 @@ ends-by MIA fields o at = refl
 ends-by RS fields o at = refl
 ends-by RA fields o at = refl
 
--- what stands behind the identifier
+-- what stands after the identifier
 abbrev rest-of : Spdu → List ℕ
-rest-of spdu = (length_octets (length (spelled_parameters spdu)) ++ spelled_parameters spdu) ++ octets_behind spdu spdu.kind
+rest-of spdu = (length_octets (length (spelled_parameters spdu)) ++ spelled_parameters spdu) ++ octets_after spdu spdu.kind
 
 ends : (spdu : Spdu) (place : ℕ) → IsWritten spdu → Ends spdu place (rest-of spdu)
 ends spdu place w =
@@ -327,10 +327,10 @@ ends spdu place w =
     let r : IsRead spdu (in-parameters spdu.kind spdu.octets) = read-by spdu.kind spdu.fields spdu.octets w.has_fields in
     record {
       at = at;
-      one_is = one-read spdu (in-parameters spdu.kind spdu.octets) place (octets_behind spdu spdu.kind) r ∙ ap (λ (x : Behind). Ok x) (ends-by spdu.kind spdu.fields spdu.octets at);
+      one_is = one-read spdu (in-parameters spdu.kind spdu.octets) place (octets_after spdu spdu.kind) r ∙ ap (λ (x : Followed). Ok x) (ends-by spdu.kind spdu.fields spdu.octets at);
     }
 
-alone-by : (b : Bool) (spdu : Spdu) (at : ℕ) → cond b (second spdu at []) (nothing_behind at [] (spdu ∷ [])) ≡ Ok (spdu ∷ [])
+alone-by : (b : Bool) (spdu : Spdu) (at : ℕ) → cond b (second spdu at []) (nothing_after at [] (spdu ∷ [])) ≡ Ok (spdu ∷ [])
 alone-by true spdu at = refl
 alone-by false spdu at = refl
 
@@ -339,9 +339,9 @@ reads-alone spdu w first =
     let e = ends spdu 0 w in
     ap (λ (k : Option SpduKind). first_by k (rest-of spdu)) first ∙ rw e.one_is (alone-by (is_gt spdu.kind) spdu e.at)
 
--- a GT in front of more
+-- a GT before more
 onward-by : (kind : SpduKind) (fields : SpduFields) (o : List ℕ) (at : ℕ) (more : List ℕ) → kind ≡ GT
-    → behind kind (made kind fields (in-parameters kind o)) at more ≡ record { spdu = made kind fields o; place = at; more = more }
+    → followed kind (made kind fields (in-parameters kind o)) at more ≡ record { spdu = made kind fields o; place = at; more = more }
 onward-by CN fields o at more k = refl
 onward-by AC fields o at more k = refl
 onward-by RF fields o at more k = refl
@@ -356,15 +356,15 @@ onward-by MIA fields o at more k = refl
 onward-by RS fields o at more k = refl
 onward-by RA fields o at more k = refl
 
-no-data : (gt : Spdu) (kind : SpduKind) → kind ≡ GT → octets_behind gt kind ≡ []
-no-data gt kind k = ap (octets_behind gt) k
+no-data : (gt : Spdu) (kind : SpduKind) → kind ≡ GT → octets_after gt kind ≡ []
+no-data gt kind k = ap (octets_after gt) k
 
 pub record Onward (gt : Spdu) (octets more : List ℕ) : Type 0 where
   pub at : ℕ
   pub one_is : one GT 0 octets ≡ Ok (record { spdu = gt; place = at; more = more })
 
-gt-front : (gt : Spdu) (more : List ℕ) → IsWritten gt → gt.kind ≡ GT → Onward gt (rest-of gt ++ more) more
-gt-front gt more w k =
+gt-measured : (gt : Spdu) (more : List ℕ) → IsWritten gt → gt.kind ≡ GT → Onward gt (rest-of gt ++ more) more
+gt-measured gt more w k =
     let i = length_octets (length (spelled_parameters gt)) in
     let at = 0 + 1 + length i + length (spelled_parameters gt) in
     let o = in-parameters gt.kind gt.octets in
@@ -373,12 +373,12 @@ gt-front gt more w k =
     record {
       at = at;
       one_is = ap (λ (kind : SpduKind). one kind 0 (rest-of gt ++ more)) (sym k) ∙ ap (one gt.kind 0) shape ∙ one-read gt o 0 more r
-          ∙ ap (λ (x : Behind). Ok x) (onward-by gt.kind gt.fields gt.octets at more k);
+          ∙ ap (λ (x : Followed). Ok x) (onward-by gt.kind gt.fields gt.octets at more k);
     }
 
-pub reads-behind : (gt spdu : Spdu) → ReadsBehind gt spdu
-reads-behind gt spdu w k w' second-is =
-    let g = gt-front gt (spelling spdu) w k in
+pub reads-after : (gt spdu : Spdu) → ReadsAfter gt spdu
+reads-after gt spdu w k w' second-is =
+    let g = gt-measured gt (spelling spdu) w k in
     let e = ends spdu g.at w' in
     let first : first_kind (code_of gt.kind) ≡ Some GT = ap (λ (kind : SpduKind). first_kind (code_of kind)) k in
     ap (λ (kind : Option SpduKind). first_by kind (rest-of gt ++ spelling spdu)) first

@@ -9,7 +9,7 @@ use Rattle.vf_session_spdu.specs.declared.errors.SpduError.TheVariants.{Code, Le
 use Rattle.vf_session_spdu.specs.declared.table.Row.{Row}
 use Rattle.vf_session_spdu.specs.Grammar.{Filled, filled_with, is_of}
 use Rattle.vf_session_spdu.specs.Kinds.{first_kind, second_kind}
-use Rattle.vf_session_spdu.specs.Parts.{Part, parameter, cut, Front, short, whole, front, parts}
+use Rattle.vf_session_spdu.specs.Parts.{Part, parameter, cut, Measured, short, whole, measured, parts}
 use Rattle.vf_session_spdu.specs.Reading.{is_dt, is_gt}
 use Rattle.vf_session_spdu.specs.Table.{rows, row_at, fits}
 
@@ -43,39 +43,39 @@ abbrev pub parts_fault : SpduKind → List Part → Option SpduError
 parts_fault kind parts = option_or (first_fault kind parts) (missing_fault kind parts)
 
 -- an SPDU whose identifier stands at this place
-abbrev pub spdu_fault : SpduKind → ℕ → Front → Option SpduError
+abbrev pub spdu_fault : SpduKind → ℕ → Measured → Option SpduError
 spdu_fault kind place short = Some (Length (place + 1))
 spdu_fault kind place (whole spelled value more) = parts_fault kind (parts kind (place + 1 + spelled) value)
 
 -- ---- a TSDU
 
--- octets behind the last SPDU; those behind a DT are its data
+-- octets after the last SPDU; those after a DT are its data
 abbrev pub left_fault : ℕ → List ℕ → Option SpduError
 left_fault place [] = None
 left_fault place (octet ∷ more) = Some (Length place)
 
-abbrev pub last_left : SpduKind → ℕ → Front → Option SpduError
+abbrev pub last_left : SpduKind → ℕ → Measured → Option SpduError
 last_left kind place short = None
 last_left kind place (whole spelled value more) = if is_dt kind then None else left_fault (place + 1 + spelled + length value) more
 
 abbrev pub second_fault_by : ℕ → Option SpduKind → List ℕ → Option SpduError
 second_fault_by place None octets = Some (Code place)
-second_fault_by place (Some kind) octets = option_or (spdu_fault kind place (front octets)) (last_left kind place (front octets))
+second_fault_by place (Some kind) octets = option_or (spdu_fault kind place (measured octets)) (last_left kind place (measured octets))
 
--- what stands behind a GT
+-- what stands after a GT
 abbrev pub second_fault : ℕ → List ℕ → Option SpduError
 second_fault place [] = None
 second_fault place (code ∷ octets) = second_fault_by place (second_kind code) octets
 
--- behind the first SPDU
-abbrev pub first_left : SpduKind → ℕ → Front → Option SpduError
+-- after the first SPDU
+abbrev pub first_left : SpduKind → ℕ → Measured → Option SpduError
 first_left kind place short = None
 first_left kind place (whole spelled value more) =
     if is_gt kind then second_fault (place + 1 + spelled + length value) more else last_left kind place (whole spelled value more)
 
 abbrev pub tsdu_fault_by : Option SpduKind → List ℕ → Option SpduError
 tsdu_fault_by None octets = Some (Code 0)
-tsdu_fault_by (Some kind) octets = option_or (spdu_fault kind 0 (front octets)) (first_left kind 0 (front octets))
+tsdu_fault_by (Some kind) octets = option_or (spdu_fault kind 0 (measured octets)) (first_left kind 0 (measured octets))
 
 abbrev pub tsdu_fault : List ℕ → Option SpduError
 tsdu_fault [] = Some (Code 0)

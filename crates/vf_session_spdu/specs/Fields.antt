@@ -31,9 +31,9 @@ with_fields spdu fields = record { kind = spdu.kind; fields = fields; octets = s
 abbrev pub with_octets : Spdu → List ℕ → Spdu
 with_octets spdu octets = record { kind = spdu.kind; fields = spdu.fields; octets = octets }
 
--- Behind the reason 2 of an RF stands its user data; behind any other the octets are skipped.
-abbrev pub data_behind_reason : List ℕ → List ℕ
-data_behind_reason value = if nat_eq (slice_index value 0) 2 then drop 1 value else []
+-- After the reason 2 of an RF stands its user data; after any other the octets are skipped.
+abbrev pub data_after_reason : List ℕ → List ℕ
+data_after_reason value = if nat_eq (slice_index value 0) 2 then drop 1 value else []
 
 -- The form tells how a value is read, and the identifier which field it is.
 abbrev pub with_octet : ℕ → ℕ → SpduFields → SpduFields
@@ -58,22 +58,22 @@ with_value Octet code value spdu = with_fields spdu (with_octet code (slice_inde
 with_value Pair code value spdu = with_fields spdu (record spdu.fields { units = Some (slice_index value 0 * 256 + slice_index value 1) })
 with_value Digits code value spdu = with_fields spdu (with_number code (number value) spdu.fields)
 with_value Reasoned code value spdu =
-    with_octets (with_fields spdu (record spdu.fields { reason = Some (slice_index value 0) })) (data_behind_reason value)
+    with_octets (with_fields spdu (record spdu.fields { reason = Some (slice_index value 0) })) (data_after_reason value)
 with_value (AtMost most) code value spdu = with_octets spdu value
 with_value UserData code value spdu = with_octets spdu value
 
 -- a parameter by its row, if the SPDU has one
-abbrev pub taken_by : Option Row → ℕ → List ℕ → Spdu → Result Spdu SpduError
-taken_by None code value spdu = Ok spdu
-taken_by (Some row) code value spdu = if fits row.form value then Ok (with_value row.form code value spdu) else Err (Value code)
+abbrev pub with_row : Option Row → ℕ → List ℕ → Spdu → Result Spdu SpduError
+with_row None code value spdu = Ok spdu
+with_row (Some row) code value spdu = if fits row.form value then Ok (with_value row.form code value spdu) else Err (Value code)
 
-abbrev pub taken : Spdu → Part → Result Spdu SpduError
-taken spdu (parameter group code value) = taken_by (row_at spdu.kind group code) code value spdu
-taken spdu (cut place) = Err (Length place)
+abbrev pub with_part : Spdu → Part → Result Spdu SpduError
+with_part spdu (parameter group code value) = with_row (row_at spdu.kind group code) code value spdu
+with_part spdu (cut place) = Err (Length place)
 
-abbrev pub taking : Spdu → List Part → Result Spdu SpduError
-taking spdu [] = Ok spdu
-taking spdu (part ∷ parts) = taken spdu part >>= λ spdu. taking spdu parts
+abbrev pub with_parts : Spdu → List Part → Result Spdu SpduError
+with_parts spdu [] = Ok spdu
+with_parts spdu (part ∷ parts) = with_part spdu part >>= λ spdu. with_parts spdu parts
 
 -- the field of a required parameter is absent
 abbrev pub is_absent : SpduFields → ℕ → Bool

@@ -1,5 +1,5 @@
 -- Which octets are the SPDUs of a TSDU (ISO 8327, 6.3.7 and 8.2): each is an identifier, a length indicator and its
--- parameters, joined, and behind those of a DT stands its data. What the parameters mean goes by the table.
+-- parameters, one after the other, and after those of a DT stands its data. What the parameters mean goes by the table.
 use Rattle.std.specs.Prelude.{ℕ, ◌+◌, ◌*◌, ◌<◌, ◌≡◌, ◌⊎◌, Bool, true, false, nat_eq, List, [], ◌∷◌, ◌++◌, length, slice_index, Option, Some, None, unwrap_or, if◌then◌else◌}
 use Rattle.std.specs.List.{AllByRecursion, list_any, filter_map, flat_map, last_or}
 use Rattle.vf_base.specs.declared.spdu_kind.SpduKind.{SpduKind}
@@ -7,7 +7,7 @@ use Rattle.vf_base.specs.declared.spdu_kind.SpduKind.TheVariants.{DT, GT, MIP, M
 use Rattle.vf_session_spdu.specs.declared.spdu.Spdu.{Spdu}
 use Rattle.vf_session_spdu.specs.declared.spdu.SpduFields.{SpduFields}
 use Rattle.vf_session_spdu.specs.declared.table.Row.{Row}
-use Rattle.vf_session_spdu.specs.Fields.{data_behind_reason}
+use Rattle.vf_session_spdu.specs.Fields.{data_after_reason}
 use Rattle.vf_session_spdu.specs.Kinds.{code_of}
 use Rattle.vf_session_spdu.specs.Numbers.{number}
 use Rattle.vf_session_spdu.specs.Table.{rows, row_at, fits, opens}
@@ -27,10 +27,10 @@ IsLength count octets =
 abbrev pub IsUnit : ℕ → List ℕ → List ℕ → Type 0
 IsUnit code contents octets = (indicator : List ℕ) × IsLength (length contents) indicator × (octets ≡ code ∷ (indicator ++ contents))
 
--- the spellings of several, joined
-abbrev pub AreJoined : {A : Type 0} → (A → List ℕ → Type 0) → List A → List ℕ → Type 0
-AreJoined spells [] octets = octets ≡ []
-AreJoined spells (x ∷ xs) octets = (front rest : List ℕ) × spells x front × AreJoined spells xs rest × (octets ≡ front ++ rest)
+-- the spellings of several, one after the other
+abbrev pub AreConcatenated : {A : Type 0} → (A → List ℕ → Type 0) → List A → List ℕ → Type 0
+AreConcatenated spells [] octets = octets ≡ []
+AreConcatenated spells (x ∷ xs) octets = (head rest : List ℕ) × spells x head × AreConcatenated spells xs rest × (octets ≡ head ++ rest)
 
 pub record Parameter : Type 0 where
   pub code : ℕ
@@ -46,7 +46,7 @@ pub data Element : Type 0 where
 
 abbrev pub SpellsElement : Element → List ℕ → Type 0
 SpellsElement (single p) octets = SpellsParameter p octets
-SpellsElement (group code inside) octets = (contents : List ℕ) × AreJoined SpellsParameter inside contents × IsUnit code contents octets
+SpellsElement (group code inside) octets = (contents : List ℕ) × AreConcatenated SpellsParameter inside contents × IsUnit code contents octets
 
 -- The groups are those that the SPDU has rows for; whatever else bears the identifier of a group is a parameter.
 abbrev pub StandsIn : SpduKind → Element → Type 0
@@ -102,12 +102,12 @@ abbrev pub fields_of : List Filled → SpduFields
 fields_of xs =
     record { given = last (octet_in 16) xs; abort = last (octet_in 17) xs; units = last (pair_in 20) xs; first = last (number_in 23) xs; tokens = last (octet_in 26) xs; resync = last (octet_in 27) xs; serial = last (number_in 42) xs; reason = last (octet_in 50) xs }
 
--- User data stands in 193, in 194, or behind the reason of 50.
+-- User data stands in 193, in 194, or after the reason of 50.
 abbrev pub data_in : Filled → Option (List ℕ)
 data_in x =
     if is_of 193 x then Some x.value
     else if is_of 194 x then Some x.value
-    else if is_of 50 x then Some (data_behind_reason x.value)
+    else if is_of 50 x then Some (data_after_reason x.value)
     else None
 
 abbrev pub data_of : List Filled → List ℕ
@@ -115,40 +115,40 @@ data_of xs = unwrap_or (last data_in xs) []
 
 -- ---- SPDUs
 
--- The data of a DT stands behind its parameters, the user data of any other SPDU in them.
+-- The data of a DT stands after its parameters, the user data of any other SPDU in them.
 abbrev pub HasData : SpduKind → List Filled → List ℕ → List ℕ → Type 0
-HasData DT xs octets behind = octets ≡ behind
-HasData kind xs octets behind = (octets ≡ data_of xs) × (behind ≡ [])
+HasData DT xs octets after = octets ≡ after
+HasData kind xs octets after = (octets ≡ data_of xs) × (after ≡ [])
 
 pub record Spells (spdu : Spdu) (octets : List ℕ) : Type 0 where
   pub elements : List Element
   pub parameters : List ℕ
-  pub joined : AreJoined SpellsElement elements parameters
+  pub concatenated : AreConcatenated SpellsElement elements parameters
   pub stand : AllByRecursion (StandsIn spdu.kind) elements
   pub of_form : AllByRecursion IsOfForm (filled spdu.kind elements)
   pub complete : AllByRecursion (IsThere (filled spdu.kind elements)) (rows spdu.kind)
   pub fields_are : spdu.fields ≡ fields_of (filled spdu.kind elements)
-  pub front : List ℕ
-  pub behind : List ℕ
-  pub is_unit : IsUnit (code_of spdu.kind) parameters front
-  pub has_data : HasData spdu.kind (filled spdu.kind elements) spdu.octets behind
-  pub octets_are : octets ≡ front ++ behind
+  pub head : List ℕ
+  pub after : List ℕ
+  pub is_unit : IsUnit (code_of spdu.kind) parameters head
+  pub has_data : HasData spdu.kind (filled spdu.kind elements) spdu.octets after
+  pub octets_are : octets ≡ head ++ after
 
 -- ---- TSDUs
 
--- These stand behind a GT alone, and any other SPDU begins its TSDU (for MIA and RA, profile).
-abbrev pub goes_behind : SpduKind → Bool
-goes_behind DT = true
-goes_behind MIP = true
-goes_behind MIA = true
-goes_behind RS = true
-goes_behind RA = true
-goes_behind kind = false
+-- These stand after a GT alone, and any other SPDU begins its TSDU (for MIA and RA, profile).
+abbrev pub goes_after : SpduKind → Bool
+goes_after DT = true
+goes_after MIP = true
+goes_after MIA = true
+goes_after RS = true
+goes_after RA = true
+goes_after kind = false
 
--- A TSDU holds one SPDU, or a GT and one that goes behind it.
+-- A TSDU holds one SPDU, or a GT and one that goes after it.
 abbrev pub Holds : List ℕ → List Spdu → Type 0
 Holds tsdu [] = ⊥
-Holds tsdu (one ∷ []) = (goes_behind one.kind ≡ false) × Spells one tsdu
+Holds tsdu (one ∷ []) = (goes_after one.kind ≡ false) × Spells one tsdu
 Holds tsdu (gt ∷ one ∷ []) =
-    (gt.kind ≡ GT) × (goes_behind one.kind ≡ true) × (front rest : List ℕ) × Spells gt front × Spells one rest × (tsdu ≡ front ++ rest)
+    (gt.kind ≡ GT) × (goes_after one.kind ≡ true) × (head rest : List ℕ) × Spells gt head × Spells one rest × (tsdu ≡ head ++ rest)
 Holds tsdu more = ⊥

@@ -1,5 +1,5 @@
 -- The identifiers of the SPDUs (ISO 8327, 8.3), and where in a TSDU each may stand. GT and DT have one identifier:
--- it is a GT at the beginning, and a DT behind one.
+-- it is a GT at the beginning, and a DT after one.
 use Rattle.std.specs.Prelude.{ℕ, nat_eq, Option, None, Some, if◌then◌else◌}
 use Rattle.vf_base.specs.declared.spdu_kind.SpduKind.{SpduKind}
 use Rattle.vf_base.specs.declared.spdu_kind.SpduKind.TheVariants.{CN, AC, RF, FN, DN, AB, AA, DT, GT, MIP, MIA, RS, RA}

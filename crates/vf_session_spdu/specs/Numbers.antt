@@ -1,11 +1,11 @@
 -- Lengths (ISO 8327, 8.2.4) and serial numbers (8.3) as octets.
 use Rattle.std.specs.Prelude.{ℕ, ◌+◌, ◌-◌, ◌*◌, ◌/◌, ◌%◌, nat_lt, nat_le, List, [], ◌∷◌, length, slice_index, drop, fold, Option, None, Some, if◌then◌else◌}
 
--- a length in one octet up to 254, else behind FF in two
+-- a length in one octet up to 254, else after FF in two
 abbrev pub length_octets : ℕ → List ℕ
 length_octets count = if nat_lt count 255 then count ∷ [] else 255 ∷ (count / 256) ∷ (count % 256) ∷ []
 
--- How many octets spell the length in front of these octets, and its number; none where it is cut off. The long form
+-- How many octets spell the length that these octets begin with, and its number; none where it is cut off. The long form
 -- may also spell a small one.
 abbrev pub length_at : List ℕ → Option (ℕ × ℕ)
 length_at octets =
@@ -18,13 +18,13 @@ length_at octets =
 abbrev pub number : List ℕ → ℕ
 number digits = fold (λ sum digit. sum * 10 + (digit - 48)) 0 digits
 
--- six digits of a number, and how many zeros stand in front
+-- six digits of a number, and how many zeros lead
 abbrev pub six_digits : ℕ → List ℕ
 six_digits n =
     (n / 100000 % 10 + 48) ∷ (n / 10000 % 10 + 48) ∷ (n / 1000 % 10 + 48) ∷ (n / 100 % 10 + 48) ∷ (n / 10 % 10 + 48) ∷ (n % 10 + 48) ∷ []
 
-abbrev pub zeros_in_front : ℕ → ℕ
-zeros_in_front n =
+abbrev pub leading_zeros : ℕ → ℕ
+leading_zeros n =
     if nat_le 100000 n then 0
     else if nat_le 10000 n then 1
     else if nat_le 1000 n then 2
@@ -34,10 +34,10 @@ zeros_in_front n =
 
 -- the fewest digits
 abbrev pub digits : ℕ → List ℕ
-digits n = drop (zeros_in_front n) (six_digits n)
+digits n = drop (leading_zeros n) (six_digits n)
 
 abbrev pub digit_count : ℕ → ℕ
-digit_count serial = 6 - zeros_in_front serial
+digit_count serial = 6 - leading_zeros serial
 
 -- the greatest serial number
 abbrev pub last_serial : ℕ

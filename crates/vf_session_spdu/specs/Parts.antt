@@ -10,35 +10,35 @@ pub data Part : Type 0 where
   -- a length that is cut off or passes what holds it: its first octet, or where that would stand
   cut : (place : ℕ) → Part
 
--- What follows an identifier: a length of so many octets, the value, and the octets behind it.
-pub data Front : Type 0 where
-  short : Front
-  whole : (spelled : ℕ) (value more : List ℕ) → Front
+-- What follows an identifier: a length of so many octets, the value, and the octets after it.
+pub data Measured : Type 0 where
+  short : Measured
+  whole : (spelled : ℕ) (value more : List ℕ) → Measured
 
-abbrev pub front_by : List ℕ → Option (ℕ × ℕ) → Front
-front_by octets None = short
-front_by octets (Some (spelled, count)) =
+abbrev pub measured_by : List ℕ → Option (ℕ × ℕ) → Measured
+measured_by octets None = short
+measured_by octets (Some (spelled, count)) =
     if nat_lt (length octets) (spelled + count) then short
     else whole spelled (take count (drop spelled octets)) (drop (spelled + count) octets)
 
-abbrev pub front : List ℕ → Front
-front octets = front_by octets (length_at octets)
+abbrev pub measured : List ℕ → Measured
+measured octets = measured_by octets (length_at octets)
 
 -- What a parameter stands for, by the place of its value, its identifier and its value.
 abbrev pub Opening : Type 0
 Opening = ℕ → ℕ → List ℕ → List Part
 
--- the parts behind an identifier at this place, and then the others
-abbrev pub parts_behind : Opening → (ℕ → List ℕ → List Part) → ℕ → ℕ → Front → List Part
-parts_behind opened others place code short = cut (place + 1) ∷ []
-parts_behind opened others place code (whole spelled value more) =
+-- the parts after an identifier at this place, and then the others
+abbrev pub parts_after : Opening → (ℕ → List ℕ → List Part) → ℕ → ℕ → Measured → List Part
+parts_after opened others place code short = cut (place + 1) ∷ []
+parts_after opened others place code (whole spelled value more) =
     opened (place + 1 + spelled) code value ++ others (place + 1 + spelled + length value) more
 
 -- The parts of octets whose first stands at this place; as many turns as there are octets reach the end.
 unfoldable pub parts_in : Opening → ℕ → ℕ → List ℕ → List Part
 parts_in opened zero place octets = []
 parts_in opened (suc turns) place [] = []
-parts_in opened (suc turns) place (code ∷ more) = parts_behind opened (parts_in opened turns) place code (front more)
+parts_in opened (suc turns) place (code ∷ more) = parts_after opened (parts_in opened turns) place code (measured more)
 
 abbrev pub parts_by : Opening → ℕ → List ℕ → List Part
 parts_by opened place octets = parts_in opened (length octets) place octets

@@ -5,19 +5,19 @@ use Rattle.vf_base.specs.declared.spdu_kind.SpduKind.TheVariants.{DT, GT}
 use Rattle.vf_session_spdu.specs.declared.errors.SpduError.{SpduError}
 use Rattle.vf_session_spdu.specs.declared.errors.SpduError.TheVariants.{Code, Length, Missing, Value, NoMemory}
 use Rattle.vf_session_spdu.specs.declared.spdu.Spdu.{Spdu}
-use Rattle.vf_session_spdu.specs.Fields.{◌>>=◌, bare, with_octets, taking, complete}
+use Rattle.vf_session_spdu.specs.Fields.{◌>>=◌, bare, with_octets, with_parts, complete}
 use Rattle.vf_session_spdu.specs.Kinds.{first_kind, second_kind}
-use Rattle.vf_session_spdu.specs.Parts.{Front, short, whole, front, parts}
+use Rattle.vf_session_spdu.specs.Parts.{Measured, short, whole, measured, parts}
 
--- An SPDU, and the octets behind it with the place of the first.
-pub record Behind : Type 0 where
+-- An SPDU, and the octets after it with the place of the first.
+pub record Followed : Type 0 where
   pub spdu : Spdu
   pub place : ℕ
   pub more : List ℕ
 
 -- an SPDU by its parameters, which begin at this place
 abbrev pub assembled : SpduKind → ℕ → List ℕ → Result Spdu SpduError
-assembled kind place value = taking (bare kind) (parts kind place value) >>= complete
+assembled kind place value = with_parts (bare kind) (parts kind place value) >>= complete
 
 abbrev pub is_dt : SpduKind → Bool
 is_dt DT = true
@@ -28,35 +28,35 @@ is_gt GT = true
 is_gt kind = false
 
 -- The data of a DT is all that follows its parameters.
-abbrev pub behind : SpduKind → Spdu → ℕ → List ℕ → Behind
-behind kind spdu place more =
+abbrev pub followed : SpduKind → Spdu → ℕ → List ℕ → Followed
+followed kind spdu place more =
     if is_dt kind then record { spdu = with_octets spdu more; place = place; more = [] }
     else record { spdu = spdu; place = place; more = more }
 
-abbrev pub one_by : SpduKind → ℕ → Front → Result Behind SpduError
+abbrev pub one_by : SpduKind → ℕ → Measured → Result Followed SpduError
 one_by kind place short = Err (Length (place + 1))
 one_by kind place (whole spelled value more) =
-    assembled kind (place + 1 + spelled) value >>= λ spdu. Ok (behind kind spdu (place + 1 + spelled + length value) more)
+    assembled kind (place + 1 + spelled) value >>= λ spdu. Ok (followed kind spdu (place + 1 + spelled + length value) more)
 
--- the SPDU whose identifier stands at this place, by the octets behind it
-abbrev pub one : SpduKind → ℕ → List ℕ → Result Behind SpduError
-one kind place octets = one_by kind place (front octets)
+-- the SPDU whose identifier stands at this place, by the octets after it
+abbrev pub one : SpduKind → ℕ → List ℕ → Result Followed SpduError
+one kind place octets = one_by kind place (measured octets)
 
--- No octets may stand behind the last SPDU.
-abbrev pub nothing_behind : ℕ → List ℕ → List Spdu → Result (List Spdu) SpduError
-nothing_behind place [] spdus = Ok spdus
-nothing_behind place (octet ∷ more) spdus = Err (Length place)
+-- No octets may stand after the last SPDU.
+abbrev pub nothing_after : ℕ → List ℕ → List Spdu → Result (List Spdu) SpduError
+nothing_after place [] spdus = Ok spdus
+nothing_after place (octet ∷ more) spdus = Err (Length place)
 
 abbrev pub second_by : Spdu → ℕ → Option SpduKind → List ℕ → Result (List Spdu) SpduError
 second_by gt place None octets = Err (Code place)
-second_by gt place (Some kind) octets = one kind place octets >>= λ x. nothing_behind x.place x.more (gt ∷ x.spdu ∷ [])
+second_by gt place (Some kind) octets = one kind place octets >>= λ x. nothing_after x.place x.more (gt ∷ x.spdu ∷ [])
 
 abbrev pub second : Spdu → ℕ → List ℕ → Result (List Spdu) SpduError
 second gt place [] = Ok (gt ∷ [])
 second gt place (code ∷ octets) = second_by gt place (second_kind code) octets
 
-abbrev pub follows : SpduKind → Behind → Result (List Spdu) SpduError
-follows kind x = if is_gt kind then second x.spdu x.place x.more else nothing_behind x.place x.more (x.spdu ∷ [])
+abbrev pub follows : SpduKind → Followed → Result (List Spdu) SpduError
+follows kind x = if is_gt kind then second x.spdu x.place x.more else nothing_after x.place x.more (x.spdu ∷ [])
 
 abbrev pub first_by : Option SpduKind → List ℕ → Result (List Spdu) SpduError
 first_by None octets = Err (Code 0)
@@ -66,14 +66,14 @@ abbrev pub reading : List ℕ → Result (List Spdu) SpduError
 reading [] = Err (Code 0)
 reading (code ∷ octets) = first_by (first_kind code) octets
 
--- Where the second SPDU of a TSDU begins: behind the GT.
-abbrev pub place_behind : Front → ℕ
-place_behind short = 0
-place_behind (whole spelled value more) = 1 + spelled + length value
+-- Where the second SPDU of a TSDU begins: after the GT.
+abbrev pub place_after : Measured → ℕ
+place_after short = 0
+place_after (whole spelled value more) = 1 + spelled + length value
 
-abbrev pub place_behind_gt : List ℕ → ℕ
-place_behind_gt [] = 0
-place_behind_gt (code ∷ octets) = place_behind (front octets)
+abbrev pub place_after_gt : List ℕ → ℕ
+place_after_gt [] = 0
+place_after_gt (code ∷ octets) = place_after (measured octets)
 
 -- Where the fault of a TSDU stands: at its own place, or at the first octet of the SPDU that lacks a parameter or has a
 -- wrong one, which is the second SPDU where the first has no fault.
@@ -87,7 +87,7 @@ first_is_good (Some kind) octets = is_good (one kind 0 octets)
 
 abbrev pub faulty_place : List ℕ → ℕ
 faulty_place [] = 0
-faulty_place (code ∷ octets) = if first_is_good (first_kind code) octets then place_behind_gt (code ∷ octets) else 0
+faulty_place (code ∷ octets) = if first_is_good (first_kind code) octets then place_after_gt (code ∷ octets) else 0
 
 abbrev pub fault_place : List ℕ → SpduError → ℕ
 fault_place tsdu (Code at) = at

@@ -1,5 +1,5 @@
 -- How an SPDU is written: the parameters of its rows that it has, in their order, those of the connect/accept item
--- within it and in front.
+-- within it and before it.
 use Rattle.std.specs.Prelude.{ℕ, ◌/◌, ◌%◌, ◌≤◌, ◌≡◌, ◌⊎◌, nat_eq, nat_lt, List, [], ◌∷◌, ◌++◌, length, filter, Option, None, Some, if◌then◌else◌, Ok}
 use Rattle.std.specs.List.{flat_map}
 use Rattle.std.specs.Option.{option_map}
@@ -68,13 +68,13 @@ item spdu = if opens spdu.kind 5 then spelled 5 (spelled_group spdu 5) else []
 abbrev pub spelled_parameters : Spdu → List ℕ
 spelled_parameters spdu = item spdu ++ spelled_group spdu 0
 
--- The data of a DT stands behind its parameters.
-abbrev pub octets_behind : Spdu → SpduKind → List ℕ
-octets_behind spdu DT = spdu.octets
-octets_behind spdu kind = []
+-- The data of a DT stands after its parameters.
+abbrev pub octets_after : Spdu → SpduKind → List ℕ
+octets_after spdu DT = spdu.octets
+octets_after spdu kind = []
 
 abbrev pub spelling : Spdu → List ℕ
-spelling spdu = spelled (code_of spdu.kind) (spelled_parameters spdu) ++ octets_behind spdu spdu.kind
+spelling spdu = spelled (code_of spdu.kind) (spelled_parameters spdu) ++ octets_after spdu spdu.kind
 
 -- The fields that an SPDU is written with. A proposal or an agreement of sync (0028, with duplex 002A) has the
 -- first serial number, and a token setting; without sync there is duplex alone (0002).
@@ -133,11 +133,11 @@ pub record IsWritten (spdu : Spdu) : Type 0 where
   pub has_fields : HasFields spdu.kind spdu.fields spdu.octets
   pub room : length (spelled_parameters spdu) ≤ 65535
 
--- Whoever reads what was written reads what is written, alone or behind a GT.
+-- Whoever reads what was written reads what is written, alone or after a GT.
 abbrev pub ReadsAlone : Spdu → Type 0
 ReadsAlone spdu = IsWritten spdu → first_kind (code_of spdu.kind) ≡ Some spdu.kind → reading (spelling spdu) ≡ Ok (spdu ∷ [])
 
-abbrev pub ReadsBehind : Spdu → Spdu → Type 0
-ReadsBehind gt spdu =
+abbrev pub ReadsAfter : Spdu → Spdu → Type 0
+ReadsAfter gt spdu =
     IsWritten gt → gt.kind ≡ GT → IsWritten spdu → second_kind (code_of spdu.kind) ≡ Some spdu.kind
     → reading (spelling gt ++ spelling spdu) ≡ Ok (gt ∷ spdu ∷ [])

@@ -5,24 +5,24 @@ use Rattle.vf_session_spdu.specs.declared.errors.SpduError.{SpduError}
 use Rattle.vf_session_spdu.specs.declared.errors.SpduError.TheVariants.{Length}
 use Rattle.vf_session_spdu.specs.declared.table.Form.{Form}
 use Rattle.vf_session_spdu.specs.declared.spdu.Spdu.{Spdu}
-use Rattle.vf_session_spdu.specs.Reading.{Behind, place_behind_gt}
-use Rattle.vf_session_spdu.specs.Parts.{short, whole, front}
+use Rattle.vf_session_spdu.specs.Reading.{Followed, place_after_gt}
+use Rattle.vf_session_spdu.specs.Parts.{short, whole, measured}
 use Rattle.vf_session_spdu.specs.Table.{fits}
 
 -- What follows an identifier was found, or its length is wrong.
-abbrev pub Fronts : ℕ → List ℕ → Result (ℕ × Bor (List ℕ) × Bor (List ℕ)) SpduError → Type 0
-Fronts place octets (Ok found) =
-    (front octets ≡ whole found.0 found.1.now found.2.now) × (found.0 ≤ 3) × (length found.1.now ≤ 65535)
+abbrev pub Measures : ℕ → List ℕ → Result (ℕ × Bor (List ℕ) × Bor (List ℕ)) SpduError → Type 0
+Measures place octets (Ok found) =
+    (measured octets ≡ whole found.0 found.1.now found.2.now) × (found.0 ≤ 3) × (length found.1.now ≤ 65535)
     × (found.0 + (length found.1.now + length found.2.now) ≡ length octets)
-Fronts place octets (Err fault) = (front octets ≡ short) × (fault ≡ Length (place + 1))
+Measures place octets (Err fault) = (measured octets ≡ short) × (fault ≡ Length (place + 1))
 
 abbrev pub IsFit : Form → List ℕ → Type 0
 IsFit form value = IsTrue (fits form value)
 
-abbrev pub viewed : Spdu → ℕ → List ℕ → Behind
+abbrev pub viewed : Spdu → ℕ → List ℕ → Followed
 viewed spdu place more = record { spdu = spdu; place = place; more = more }
 
 -- where the second SPDU begins if the first is a GT
 abbrev pub place_if_gt : List ℕ → ℕ
 place_if_gt [] = 0
-place_if_gt (code ∷ octets) = if nat_eq code 1 then place_behind_gt (code ∷ octets) else 0
+place_if_gt (code ∷ octets) = if nat_eq code 1 then place_after_gt (code ∷ octets) else 0

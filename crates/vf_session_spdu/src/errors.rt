@@ -8,7 +8,7 @@ use vf_base::NoMemory;
 pub enum SpduError {
     /// An SPDU identifier that the TSDU can't have at that place, at this octet; an empty TSDU, at 0.
     Code { at: u32 },
-    /// A length that is cut off or passes what holds it, at its first octet; or octets behind the last SPDU that
+    /// A length that is cut off or passes what holds it, at its first octet; or octets after the last SPDU that
     /// the TSDU may hold, at the first of them.
     Length { at: u32 },
     /// A parameter that the SPDU must have; the lowest code of those that it lacks.

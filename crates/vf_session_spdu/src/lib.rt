@@ -16,9 +16,6 @@ pub use errors::SpduError;
 pub use kinds::code_of;
 pub use laws::written_is_read_again;
 pub use numbers::digit_count;
-pub use reading::{fault_place, place_behind_gt, read};
+pub use reading::{fault_place, place_after_gt, read};
 pub use spdu::{Spdu, SpduFields};
 pub use writing::write;
-
-#[cfg(test)]
-mod tests;

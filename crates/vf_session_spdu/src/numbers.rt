@@ -1,10 +1,10 @@
 //! Lengths and serial numbers.
 ghost use Rattle.std.specs.Prelude.{◌≡◌, ◌≤◌, ◌+◌, ◌%◌, IsTrue, length};
-ghost use Rattle.vf_session_spdu.specs.Numbers.{length_at as length_read, number as number_of, six_digits as six, zeros_in_front as zeros, digit_count as digits_in};
+ghost use Rattle.vf_session_spdu.specs.Numbers.{length_at as length_read, number as number_of, six_digits as six, leading_zeros as zeros, digit_count as digits_in};
 ghost use Rattle.vf_session_spdu.specs.Table.{fits};
 ghost use Rattle.vf_session_spdu.specs.declared.table.Form.TheVariants as forms;
 
-/// How many octets spell the length in front of these octets, 1 or 3, and its number, 0 to 65,535; none where it is
+/// How many octets spell the length that these octets begin with, 1 or 3, and its number, 0 to 65,535; none where it is
 /// cut off.
 pub(crate) fn length_at(octets: &[u8]) -> Option<(usize, usize)>
     ensures { result ≡ length_read octets.now }
@@ -55,8 +55,8 @@ fn digit(n: u32) -> u8
     (n % 10) as u8 + 48
 }
 
-/// How many of the six digits are zeros in front of the others; the last digit is none of them.
-pub(crate) fn zeros_in_front(n: u32) -> usize
+/// How many of the six digits are leading zeros; the last digit is none of them.
+pub(crate) fn leading_zeros(n: u32) -> usize
     ensures zeros { result ≡ zeros n }
     ensures bound { result ≤ 5 }
 {
@@ -75,5 +75,5 @@ pub fn digit_count(serial: u32) -> usize
     ensures size { result ≡ digits_in serial }
     ensures bound { result ≤ 6 }
 {
-    6 - zeros_in_front(serial)
+    6 - leading_zeros(serial)
 }

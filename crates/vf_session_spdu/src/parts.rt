@@ -1,8 +1,8 @@
 //! The parts of an SPDU.
 ghost use Rattle.std.specs.Prelude.{◌≡◌, ◌<◌, ◌≤◌, ◌^◌, ◌+◌, OnOk, length};
 ghost use Rattle.vf_session_spdu.specs.Parts.{parts_by, inner, outer, parts};
-ghost use Rattle.vf_session_spdu.specs.Fields.{Gives, taken_by, taking, with_octet as octet_fields, with_number as number_fields, with_value as value_of};
-ghost use Rattle.vf_session_spdu.specs.Steps.{Fronts, IsFit};
+ghost use Rattle.vf_session_spdu.specs.Fields.{Gives, with_row, with_parts, with_octet as octet_fields, with_number as number_fields, with_value as value_of};
+ghost use Rattle.vf_session_spdu.specs.Steps.{Measures, IsFit};
 ghost use Rattle.vf_session_spdu.specs.Table.{row_at as row_found};
 
 use crate::numbers::{length_at, number};
@@ -11,10 +11,10 @@ use crate::{Spdu, SpduError, SpduFields};
 use std::alloc::Global;
 use vf_base::{NoMemory, Octets};
 
-/// What follows the identifier at this place: how many octets spell the length, the value, and the octets behind it.
+/// What follows the identifier at this place: how many octets spell the length, the value, and the octets after it.
 pub(crate) fn value_at(place: usize, octets: &[u8]) -> Result<(usize, &[u8], &[u8]), SpduError>
     requires { place < 2 ^ 31 }
-    ensures { Fronts place octets.now result }
+    ensures { Measures place octets.now result }
 {
     let fault = SpduError::Length {
         at: place as u32 + 1,
@@ -25,8 +25,8 @@ pub(crate) fn value_at(place: usize, octets: &[u8]) -> Result<(usize, &[u8], &[u
     if octets.len() < spelled + count {
         return Err(fault);
     }
-    let (_, behind) = octets.split_at(spelled);
-    let (value, more) = behind.split_at(count);
+    let (_, after) = octets.split_at(spelled);
+    let (value, more) = after.split_at(count);
     Ok((spelled, value, more))
 }
 
@@ -38,14 +38,14 @@ pub(crate) fn take_parts(
     spdu: &mut Spdu,
 ) -> Result<(), SpduError>
     requires { place + length octets.now < 2 ^ 31 }
-    ensures taken { Gives (λ _. spdu.new) result (taking spdu.old (parts spdu.old.kind place octets.now)) }
+    ensures with_part { Gives (λ _. spdu.new) result (with_parts spdu.old (parts spdu.old.kind place octets.now)) }
     ensures kind { spdu.new.kind ≡ spdu.old.kind }
 {
     let mut at = place;
     let mut rest = octets;
     while !rest.is_empty() {
-        let (identifier, behind) = rest.split_at(1);
-        let (spelled, value, more) = value_at(at, behind)?;
+        let (identifier, after) = rest.split_at(1);
+        let (spelled, value, more) = value_at(at, after)?;
         at = at + 1 + spelled;
         take_part(alloc, at, identifier[0], value, spdu)?;
         at += value.len();
@@ -63,7 +63,7 @@ fn take_part(
     spdu: &mut Spdu,
 ) -> Result<(), SpduError>
     requires { place + length value.now < 2 ^ 31 }
-    ensures taken { Gives (λ _. spdu.new) result (taking spdu.old (outer spdu.old.kind place code value.now)) }
+    ensures with_part { Gives (λ _. spdu.new) result (with_parts spdu.old (outer spdu.old.kind place code value.now)) }
     ensures kind { spdu.new.kind ≡ spdu.old.kind }
 {
     if opens(spdu.kind, code) {
@@ -77,14 +77,14 @@ fn take_part(
 /// Takes the parameters within the connect/accept item.
 fn take_item(alloc: Global, place: usize, octets: &[u8], spdu: &mut Spdu) -> Result<(), SpduError>
     requires { place + length octets.now < 2 ^ 31 }
-    ensures taken { Gives (λ _. spdu.new) result (taking spdu.old (parts_by inner place octets.now)) }
+    ensures with_part { Gives (λ _. spdu.new) result (with_parts spdu.old (parts_by inner place octets.now)) }
     ensures kind { spdu.new.kind ≡ spdu.old.kind }
 {
     let mut at = place;
     let mut rest = octets;
     while !rest.is_empty() {
-        let (identifier, behind) = rest.split_at(1);
-        let (spelled, value, more) = value_at(at, behind)?;
+        let (identifier, after) = rest.split_at(1);
+        let (spelled, value, more) = value_at(at, after)?;
         take_parameter(alloc, 5, identifier[0], value, spdu)?;
         at = at + 1 + spelled + value.len();
         rest = more;
@@ -100,7 +100,7 @@ fn take_parameter(
     value: &[u8],
     spdu: &mut Spdu,
 ) -> Result<(), SpduError>
-    ensures taken { Gives (λ _. spdu.new) result (taken_by (row_found spdu.old.kind group code) code value.now spdu.old) }
+    ensures with_part { Gives (λ _. spdu.new) result (with_row (row_found spdu.old.kind group code) code value.now spdu.old) }
     ensures kind { spdu.new.kind ≡ spdu.old.kind }
 {
     let Some(row) = row_at(spdu.kind, group, code) else {
@@ -143,7 +143,7 @@ fn set_value(
     Ok(())
 }
 
-/// Sets the reason, and the user data behind the reason 2.
+/// Sets the reason, and the user data after the reason 2.
 fn set_reason(alloc: Global, value: &[u8], spdu: &mut Spdu) -> Result<(), NoMemory>
     requires { 1 ≤ length value.now }
     ensures ok { OnOk result (spdu.new ≡ value_of Form.Reasoned 50 value.now spdu.old) }

@@ -4,7 +4,7 @@ ghost use Rattle.std.specs.List.{AllByRecursion};
 ghost use Rattle.vf_session_spdu.specs.Faults.{Shows, tsdu_fault};
 ghost use Rattle.vf_session_spdu.specs.Fields.{Gives, IsReadable};
 ghost use Rattle.vf_session_spdu.specs.Grammar.{Holds};
-ghost use Rattle.vf_session_spdu.specs.Reading.{assembled, nothing_behind, one as one_read, reading, second as second_read, place_behind_gt as place_read, fault_place as place_of_fault};
+ghost use Rattle.vf_session_spdu.specs.Reading.{assembled, nothing_after, one as one_read, reading, second as second_read, place_after_gt as place_read, fault_place as place_of_fault};
 ghost use Rattle.vf_session_spdu.specs.Steps.{place_if_gt, viewed};
 ghost use Rattle.vf_session_spdu.specs.declared.spdu.Spdu.{Spdu};
 
@@ -54,7 +54,7 @@ fn spdus_of(alloc: Global, tsdu: &[u8]) -> Result<Vec<Spdu>, SpduError>
 
 fn alone(alloc: Global, spdu: Spdu, place: usize, more: &[u8]) -> Result<Vec<Spdu>, SpduError>
     requires { place < 2 ^ 31 }
-    ensures { Gives (λ spdus. spdus.items) result (nothing_behind place more.now (spdu ∷ [])) }
+    ensures { Gives (λ spdus. spdus.items) result (nothing_after place more.now (spdu ∷ [])) }
 {
     if !more.is_empty() {
         return Err(SpduError::Length { at: place as u32 });
@@ -86,7 +86,7 @@ fn second(alloc: Global, gt: Spdu, place: usize, octets: &[u8]) -> Result<Vec<Sp
     Ok(spdus)
 }
 
-/// The SPDU whose identifier stands at this place, by the octets behind it; with the place and the octets behind it.
+/// The SPDU whose identifier stands at this place, by the octets after it; with the place and the octets after it.
 fn one(
     alloc: Global,
     kind: SpduKind,
@@ -130,9 +130,9 @@ fn parameters_of(
     Ok(spdu)
 }
 
-/// Where the second SPDU of a TSDU that `read` takes begins: behind the GT. The places of its faults of value and
+/// Where the second SPDU of a TSDU that `read` takes begins: after the GT. The places of its faults of value and
 /// state are this one, those of the first SPDU's 0.
-pub fn place_behind_gt(tsdu: &[u8]) -> u32
+pub fn place_after_gt(tsdu: &[u8]) -> u32
     ensures { result ≡ place_read tsdu.now }
 {
     if tsdu.is_empty() {
@@ -158,7 +158,7 @@ pub fn fault_place(tsdu: &[u8], fault: SpduError) -> u32
     }
 }
 
-/// The parameter of a GT is one that no SPDU has which goes behind it.
+/// The parameter of a GT is one that no SPDU has which goes after it.
 fn place_of_value(tsdu: &[u8], code: u8) -> u32
     ensures { result ≡ (if nat_eq code 16 then 0 else place_if_gt tsdu.now) }
 {
@@ -170,7 +170,7 @@ fn place_if_gt(tsdu: &[u8]) -> u32
     ensures { result ≡ place_if_gt tsdu.now }
 {
     if !tsdu.is_empty() && tsdu[0] == 1 {
-        place_behind_gt(tsdu)
+        place_after_gt(tsdu)
     } else {
         0
     }

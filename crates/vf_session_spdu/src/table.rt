@@ -20,7 +20,7 @@ pub(crate) enum Form {
     Pair,
     /// 1 to 6 decimal digits in ASCII.
     Digits,
-    /// A reason and, behind it, octets.
+    /// A reason and, after it, octets.
     Reasoned,
     /// User data of at most so many octets.
     AtMost(usize),

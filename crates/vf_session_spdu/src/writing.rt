@@ -3,11 +3,11 @@ ghost use Rattle.std.specs.Prelude.{◌≡◌, ◌++◌, ◌≤◌, ◌<◌, len
 ghost use Rattle.std.specs.List.{flat_map};
 ghost use Rattle.std.specs.Option.{option_map};
 ghost use Rattle.vf_session_spdu.specs.Numbers.{length_octets, digits};
-ghost use Rattle.vf_session_spdu.specs.Spelling.{IsWritten, spelling, spelled, spelled_if, spelled_row, spelled_group, spelled_parameters, octet, two_octets, first_data, second_data, reasoned, octets_behind as data_behind};
+ghost use Rattle.vf_session_spdu.specs.Spelling.{IsWritten, spelling, spelled, spelled_if, spelled_row, spelled_group, spelled_parameters, octet, two_octets, first_data, second_data, reasoned, octets_after as data_after};
 
 use crate::Spdu;
 use crate::kinds::{code_of, is_dt};
-use crate::numbers::{six_digits, zeros_in_front};
+use crate::numbers::{six_digits, leading_zeros};
 use crate::table::{Row, opens, rows};
 use std::alloc::Global;
 use vf_base::NoMemory;
@@ -28,13 +28,13 @@ pub fn write(alloc: Global, spdu: &Spdu, out: &mut Vec<u8>) -> Result<(), NoMemo
 }
 
 /// Appends two slices, or nothing.
-fn append_both(head: &[u8], behind: &[u8], out: &mut Vec<u8>) -> Result<(), NoMemory>
-    ensures ok { OnOk result (out.new.items ≡ out.old.items ++ (head.now ++ behind.now)) }
+fn append_both(head: &[u8], after: &[u8], out: &mut Vec<u8>) -> Result<(), NoMemory>
+    ensures ok { OnOk result (out.new.items ≡ out.old.items ++ (head.now ++ after.now)) }
     ensures err { OnErr result (out.new.items ≡ out.old.items) }
 {
     let before = out.len();
     out.extend_from_slice(head)?;
-    if out.extend_from_slice(behind).is_err() {
+    if out.extend_from_slice(after).is_err() {
         out.truncate(before);
         return Err(NoMemory);
     }
@@ -43,7 +43,7 @@ fn append_both(head: &[u8], behind: &[u8], out: &mut Vec<u8>) -> Result<(), NoMe
 
 /// The data of a DT; none of any other SPDU, whose user data is a parameter.
 fn data_of(spdu: &Spdu) -> &[u8]
-    ensures { result.now ≡ data_behind spdu.now spdu.now.kind }
+    ensures { result.now ≡ data_after spdu.now spdu.now.kind }
 {
     if is_dt(spdu.kind) {
         spdu.octets.as_slice()
@@ -154,13 +154,13 @@ fn put_serial(code: u8, field: Option<u32>, out: &mut Vec<u8>) -> Result<(), NoM
 {
     if let Some(serial) = field {
         let all = six_digits(serial);
-        let (_, fewest) = all.split_at(zeros_in_front(serial));
+        let (_, fewest) = all.split_at(leading_zeros(serial));
         put(code, fewest, out)?;
     }
     Ok(())
 }
 
-/// Appends a reason and the user data behind it.
+/// Appends a reason and the user data after it.
 fn put_reason(
     alloc: Global,
     code: u8,

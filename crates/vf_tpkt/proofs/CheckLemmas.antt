@@ -2,7 +2,7 @@
 use Rattle.std.proofs.Common.{◌≡◌, ℕ, Bool, true, false, cond, List, Option, None, Some, Result, Ok, Err, slice_index, refl, subst, ap}
 use Rattle.vf_tpkt.specs.declared.error.TpktError.{TpktError}
 use Rattle.vf_tpkt.specs.declared.kind.Kind.{Kind}
-use Rattle.vf_tpkt.specs.Hearing.{Progress, checked, checked_as, passes_longest}
+use Rattle.vf_tpkt.specs.Receiving.{Progress, checked, checked_as, passes_longest}
 use Rattle.vf_tpkt.specs.Tpdu.{kind_of, may_come, has_lengths, has_fixed}
 
 guarded : (b : Bool) (r : Result Kind TpktError) (fault : TpktError) (kind : Kind) → cond b r (Err fault) ≡ Ok kind → (b ≡ true) × (r ≡ Ok kind)

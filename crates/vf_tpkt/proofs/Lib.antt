@@ -1,9 +1,10 @@
 pub mod ParameterLemmas
 pub mod SizeLemmas
 pub mod CheckLemmas
-pub mod FrontLemmas
-pub mod HearingLemmas
+pub mod PacketLemmas
+pub mod ReceivingLemmas
+pub mod StreamLemmas
 pub mod StepLemmas
-pub mod SayingLemmas
+pub mod WantLemmas
+pub mod SendingLemmas
 pub mod RoundTrip
-pub mod HistoryLemmas

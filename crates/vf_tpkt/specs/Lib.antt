@@ -1,8 +1,9 @@
 pub mod Parameters
 pub mod Tpdu
-pub mod Hearing
-pub mod Greeting
-pub mod History
+pub mod Receiving
+pub mod Stream
 pub mod Pieces
-pub mod Saying
+pub mod Greeting
+pub mod Sending
 pub mod Steps
+pub mod Wanting

@@ -4,7 +4,7 @@ use Rattle.std.specs.Prelude.{ℕ, zero, suc, Bool, nat_eq, nat_lt, List, [], �
 use Rattle.std.specs.List.{list_any}
 use Rattle.vf_tpkt.specs.declared.parameters.Proposed.{Proposed}
 
--- what one parameter proposes, by its code, its length and the octets behind these: none where it ends past
+-- what one parameter proposes, by its code, its length and the octets after these: none where it ends past
 -- its TPDU, or where it is a C0 that hasn't one octet
 abbrev pub proposed : ℕ → ℕ → List ℕ → Option (List ℕ)
 proposed code size more =
@@ -12,13 +12,13 @@ proposed code size more =
     else if nat_eq code 192 then (if nat_eq size 1 then Some (take 1 more) else None)
     else Some []
 
-abbrev pub with_front : List ℕ → Option (List ℕ) → Option (List ℕ)
-with_front front None = None
-with_front front (Some others) = Some (front ++ others)
+abbrev pub with_first : List ℕ → Option (List ℕ) → Option (List ℕ)
+with_first first None = None
+with_first first (Some others) = Some (first ++ others)
 
 abbrev pub both : Option (List ℕ) → Option (List ℕ) → Option (List ℕ)
 both None others = None
-both (Some front) others = with_front front others
+both (Some first) others = with_first first others
 
 -- The exponents that these octets propose, in order; none where one of the parameters is wrong. A parameter
 -- takes two octets at least, so that as many turns as there are octets reach the end.

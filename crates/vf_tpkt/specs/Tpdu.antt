@@ -7,7 +7,7 @@ use Rattle.vf_tpkt.specs.declared.kind.Kind.TheVariants.{Cr, Cc, Dr, Er, Dt}
 use Rattle.vf_tpkt.specs.declared.phase.Side.{Side}
 use Rattle.vf_tpkt.specs.declared.phase.Side.TheVariants.{Calling, Called}
 use Rattle.vf_tpkt.specs.declared.phase.Phase.{Phase}
-use Rattle.vf_tpkt.specs.declared.phase.Phase.TheVariants.{First, Standing, Over}
+use Rattle.vf_tpkt.specs.declared.phase.Phase.TheVariants.{First, Open, Over}
 use Rattle.vf_tpkt.specs.Parameters.{sizes, last, is_small}
 
 -- the kinds by their codes
@@ -35,15 +35,15 @@ may_follow kind = false
 
 abbrev pub may_come : Side → Phase → Kind → Bool
 may_come side First kind = may_be_first side kind
-may_come side (Standing most) kind = may_follow kind
+may_come side (Open most) kind = may_follow kind
 may_come side Over kind = false
 
--- The length octet of a CR or CC counts the octets behind it, at least six, and its parameters are whole.
+-- The length octet of a CR or CC counts the octets after it, at least six, and its parameters are whole.
 abbrev pub is_counted : List ℕ → Bool
 is_counted tpdu =
     nat_le 6 (slice_index tpdu 0) && nat_eq (slice_index tpdu 0) (length tpdu - 1) && is_some (sizes (drop 7 tpdu))
 
--- A DT has two octets behind its length octet, and then data, which it may lack only at the end of a TSDU.
+-- A DT has two octets after its length octet, and then data, which it may lack only at the end of a TSDU.
 abbrev pub has_data_length : List ℕ → Bool
 has_data_length tpdu = nat_eq (slice_index tpdu 0) 2 && (nat_lt 3 (length tpdu) || nat_eq (slice_index tpdu 2) 128)
 

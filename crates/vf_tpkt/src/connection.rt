@@ -1,8 +1,8 @@
-//! A connection of transport class 0, by the TPDUs that it hears.
+//! A connection of transport class 0, by the TPDUs that it receives.
 ghost use Rattle.std.specs.Prelude.{◌≡◌, ◌+◌, ◌≤◌, ◌<◌, ◌^◌, ◌++◌, ◌∷◌, [], length, drop, true, IsTrue, OnOk, OnErr, Ok, None, ◌⊎◌, slice_index};
-ghost use Rattle.vf_tpkt.specs.Hearing.{checked, units_of, after, place_at};
-ghost use Rattle.vf_tpkt.specs.Saying.{is_standing, most_of};
-ghost use Rattle.vf_tpkt.specs.Steps.{TellsTpdu, HearsTpdu};
+ghost use Rattle.vf_tpkt.specs.Receiving.{checked, units_of, after, place_at};
+ghost use Rattle.vf_tpkt.specs.Sending.{is_open, most_of};
+ghost use Rattle.vf_tpkt.specs.Steps.{TellsTpdu, ReceivesTpdu};
 ghost use Rattle.vf_tpkt.specs.Tpdu.{answer_of, data_size as data_octets, data_of, packet, confirm, last_of, has_lengths as has_lengths_now, has_fixed as has_fixed_now};
 ghost use Rattle.vf_tpkt.specs.Parameters.{sizes as sizes_of};
 
@@ -13,10 +13,7 @@ use crate::{Phase, Side, TpktError, Unit};
 use std::alloc::Global;
 use std::marker::Model;
 use std::mem;
-use vf_base::{NoMemory, Octets};
-
-/// The most octets of a TSDU (profile).
-pub(crate) const LONGEST_TSDU: usize = 1_048_576;
+use vf_base::{MOST_VALUE_OCTETS, NoMemory, Octets};
 
 /// The data of a DT where no size is agreed: a packet of 65,535 octets without the headers of packet and DT.
 pub(crate) const DATA: usize = 65_528;
@@ -33,18 +30,19 @@ pub(crate) struct Connection {
 
 impl Model for Connection {
     ghost use Rattle.std.specs.Prelude.{◌≤◌, length, IsTrue};
-    ghost use Rattle.vf_tpkt.specs.Hearing.{Progress};
+    ghost use Rattle.vf_base.specs.declared.limits.TheConstants.{MOST_VALUE_OCTETS};
+    ghost use Rattle.vf_tpkt.specs.Receiving.{Progress};
     ghost use Rattle.vf_tpkt.specs.Steps.{has_room};
 
     ghost Value = { Progress };
 
     ghost view = { λ c. record { side = c.side; phase = c.phase; tsdu = c.tsdu.items; place = c.place } };
 
-    ghost invariant = { λ c. (length c.tsdu.items ≤ 1048576) × IsTrue (has_room c.phase) };
+    ghost invariant = { λ c. (length c.tsdu.items ≤ MOST_VALUE_OCTETS) × IsTrue (has_room c.phase) };
 }
 
 impl Connection {
-    /// A connection that has heard nothing.
+    /// A connection that has received nothing.
     pub(crate) fn new(alloc: Global, side: Side) -> Connection
         ensures { result ≡ record { side = side; phase = Phase.First; tsdu = []; place = 0 } }
     {
@@ -57,7 +55,7 @@ impl Connection {
         }
     }
 
-    /// The number of octets heard in whole packets; one that has reached the last number of its type stays there.
+    /// The number of octets received in whole packets; one that has reached the last number of its type stays there.
     pub(crate) fn place(&self) -> u64
         ensures { result ≡ self.now.place }
     {
@@ -67,26 +65,26 @@ impl Connection {
     /// The octets of data in the TSDU that isn't ended.
     pub(crate) fn data_held(&self) -> usize
         ensures held { result ≡ length self.now.tsdu }
-        ensures bound { result ≤ 1048576 }
+        ensures bound { result ≤ MOST_VALUE_OCTETS }
     {
         self.tsdu.len()
     }
 
     pub(crate) fn stands(&self) -> bool
-        ensures { result ≡ is_standing self.now.phase }
+        ensures { result ≡ is_open self.now.phase }
     {
-        matches!(self.phase, Phase::Standing { .. })
+        matches!(self.phase, Phase::Open { .. })
     }
 
-    /// The most octets of data in a DT that is said.
+    /// The most octets of data in a DT that is sent.
     pub(crate) fn most(&self) -> usize
-        requires { IsTrue (is_standing self.now.phase) }
+        requires { IsTrue (is_open self.now.phase) }
         ensures most { result ≡ most_of self.now.phase }
         ensures some { 1 ≤ result }
         ensures fits { result ≤ 65528 }
     {
         match self.phase {
-            Phase::Standing { most } => most,
+            Phase::Open { most } => most,
             Phase::First | Phase::Over => unreachable!(),
         }
     }
@@ -117,21 +115,21 @@ impl Connection {
         if !has_fixed(kind, tpdu) {
             return Err(TpktError::Code { at, code });
         }
-        if kind == Kind::Dt && tpdu.len() - 3 > LONGEST_TSDU - self.tsdu.len() {
+        if kind == Kind::Dt && tpdu.len() - 3 > MOST_VALUE_OCTETS as usize - self.tsdu.len() {
             return Err(TpktError::Size { at });
         }
         Ok(kind)
     }
 
-    /// Hears the TPDU of a whole packet.
-    pub(crate) fn hear(
+    /// Receives the TPDU of a whole packet.
+    pub(crate) fn receive(
         &mut self,
         tpdu: &[u8],
         units: &mut Vec<Unit>,
         answers: &mut Vec<u8>,
     ) -> Result<(), TpktError>
         requires { 3 ≤ length tpdu.now }
-        ensures { HearsTpdu self.old tpdu.now units.old.items answers.old.items self.new units.new.items answers.new.items result }
+        ensures { ReceivesTpdu self.old tpdu.now units.old.items answers.old.items self.new units.new.items answers.new.items result }
     {
         let kind = match self.check(tpdu) {
             Ok(kind) => kind,
@@ -163,7 +161,7 @@ impl Connection {
         }
     }
 
-    /// The octets heard, with a TPDU of so many octets and its packet's header.
+    /// The octets received, with a TPDU of so many octets and its packet's header.
     fn passed(&self, tpdu: &[u8]) -> u64
         ensures { result ≡ place_at (self.now.place + (length tpdu.now + 4)) }
     {
@@ -179,7 +177,7 @@ impl Connection {
     {
         units.push(Unit::Connected)?;
         self.place = self.passed(tpdu);
-        self.phase = Phase::Standing { most: DATA };
+        self.phase = Phase::Open { most: DATA };
         Ok(())
     }
 
@@ -198,7 +196,7 @@ impl Connection {
     /// A DT; its data is taken over, and the TSDU is told once it ends.
     fn collect(&mut self, tpdu: &[u8], units: &mut Vec<Unit>) -> Result<(), NoMemory>
         requires whole { 3 ≤ length tpdu.now }
-        requires fits { length self.old.tsdu + length (data_of tpdu.now) ≤ 1048576 }
+        requires fits { length self.old.tsdu + length (data_of tpdu.now) ≤ MOST_VALUE_OCTETS }
         ensures ok { OnOk result ((self.new ≡ after self.old Kind.Dt tpdu.now) × (units.new.items ≡ units.old.items ++ units_of self.old Kind.Dt tpdu.now)) }
         ensures err { OnErr result (units.new.items ≡ units.old.items) }
     {
@@ -229,7 +227,7 @@ impl Connection {
         write_confirm(answers, tpdu, size)?;
         units.push_reserved(Unit::Connected);
         self.place = self.passed(tpdu);
-        self.phase = Phase::Standing {
+        self.phase = Phase::Open {
             most: data_size(size),
         };
         Ok(())

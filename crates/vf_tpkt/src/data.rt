@@ -1,7 +1,7 @@
 //! TSDUs as DT TPDUs.
 ghost use Rattle.std.specs.Prelude.{◌≡◌, ◌≤◌, ◌++◌, ◌∷◌, length, OnOk, OnErr};
 ghost use Rattle.vf_tpkt.specs.Pieces.{Extends};
-ghost use Rattle.vf_tpkt.specs.Saying.{said};
+ghost use Rattle.vf_tpkt.specs.Sending.{sent};
 ghost use Rattle.vf_tpkt.specs.Tpdu.{packet};
 
 use crate::form::{LAST, MORE};
@@ -11,7 +11,7 @@ use vf_base::NoMemory;
 pub(crate) fn write_tsdu(most: usize, tsdu: &[u8], out: &mut Vec<u8>) -> Result<(), NoMemory>
     requires some { 1 ≤ most }
     requires fits { most ≤ 65528 }
-    ensures ok { OnOk result (out.new.items ≡ out.old.items ++ said most tsdu.now) }
+    ensures ok { OnOk result (out.new.items ≡ out.old.items ++ sent most tsdu.now) }
     ensures err { OnErr result (Extends out.old.items out.new.items) }
 {
     let mut rest = tsdu;

@@ -22,7 +22,7 @@ pub(crate) fn may_come(side: Side, phase: Phase, kind: Kind) -> bool
             Side::Called => matches!(kind, Kind::Cr),
             Side::Calling => matches!(kind, Kind::Cc),
         },
-        Phase::Standing { .. } => matches!(kind, Kind::Dt | Kind::Dr | Kind::Er),
+        Phase::Open { .. } => matches!(kind, Kind::Dt | Kind::Dr | Kind::Er),
         Phase::Over => false,
     }
 }

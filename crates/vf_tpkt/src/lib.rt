@@ -14,10 +14,9 @@ mod tpkt;
 mod unit;
 
 pub use error::TpktError;
-pub use laws::{ends_connect, pieces_tell_all, said_is_heard, stream_holds_tpdus};
+pub use laws::{
+    ends_connect, packets_tell_the_reading, pieces_tell_all, sent_is_received, stream_holds_tpdus,
+};
 pub use phase::{Phase, Side};
 pub use tpkt::Tpkt;
 pub use unit::Unit;
-
-#[cfg(test)]
-mod tests;

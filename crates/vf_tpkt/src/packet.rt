@@ -1,18 +1,21 @@
 //! Packets of RFC 1006.
-ghost use Rattle.std.specs.Prelude.{◌≡◌, ◌<◌, ◌≤◌, length};
-ghost use Rattle.vf_tpkt.specs.Hearing.{front};
+ghost use Rattle.std.specs.Prelude.{◌≡◌, ◌<◌, ◌≤◌, IfOk, length};
+ghost use Rattle.vf_tpkt.specs.Receiving.{first_packet};
 ghost use Rattle.vf_tpkt.specs.Steps.{FitsOne, Wants};
+ghost use Rattle.vf_tpkt.specs.Wanting.{lacking};
 
 use crate::TpktError;
 
 /// The octets of a packet's header: version, a reserved octet, and the length of the packet.
 pub(crate) const HEADER: usize = 4;
 
-/// How many octets the front of a packet wants before it is looked at again: those that its header lacks, or else
+/// How many octets the beginning of a packet wants before it is looked at again: those that its header lacks, or else
 /// those that the packet lacks; none where it is whole. A wrong header is refused at the first octet that is wrong.
 pub(crate) fn wanted(place: u64, packet: &[u8]) -> Result<usize, TpktError>
     requires { FitsOne packet.now }
-    ensures { Wants place packet.now result }
+    ensures wants { Wants place packet.now result }
+    ensures exact { IfOk result (λ count. count ≡ lacking packet.now) }
+    ensures bound { IfOk result (λ count. count ≤ 65535) }
 {
     if !packet.is_empty() && packet[0] != 3 {
         return Err(TpktError::Version { at: place });

@@ -1,7 +1,7 @@
 /// Which end of the connection this is.
 #[derive(Clone, Copy, Debug, PartialEq, Eq)]
 pub enum Side {
-    /// It said the CR and waits for the CC.
+    /// It sent the CR and waits for the CC.
     Calling,
     /// It waits for the CR.
     Called,
@@ -10,10 +10,10 @@ pub enum Side {
 /// Where a connection stands.
 #[derive(Clone, Copy, Debug, PartialEq, Eq)]
 pub enum Phase {
-    /// No TPDU was heard.
+    /// No TPDU was received.
     First,
-    /// The connection stands; a DT that is said has at most so many octets of data.
-    Standing { most: usize },
+    /// The connection stands; a DT that is sent has at most so many octets of data.
+    Open { most: usize },
     /// It was ended by a DR or ER.
     Over,
 }

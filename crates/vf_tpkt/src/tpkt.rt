@@ -1,9 +1,11 @@
-//! The transport's user end: what was heard, and what is said.
+//! The transport's user end: what was received, and what is sent.
 ghost use Rattle.std.specs.Prelude.{◌≡◌, ◌+◌, ◌≤◌, ◌<◌, ◌++◌, [], length, List, ℕ, IsTrue, IfOk, OnOk, OnErr, None};
-ghost use Rattle.vf_tpkt.specs.Hearing.{front, beginning, hears, onward, part};
+ghost use Rattle.vf_tpkt.specs.Receiving.{first_packet, onward, part};
+ghost use Rattle.vf_tpkt.specs.Stream.{HasReceived};
+ghost use Rattle.vf_tpkt.specs.Wanting.{TellsOnce, lacking};
 ghost use Rattle.vf_tpkt.specs.Pieces.{Tells, TellsPiece};
-ghost use Rattle.vf_tpkt.specs.Saying.{stands as stands_now, said, most_of};
-ghost use Rattle.vf_tpkt.specs.Steps.{FitsOne, Looks, Moves, HearsAll};
+ghost use Rattle.vf_tpkt.specs.Sending.{stands as stands_now, sent, most_of};
+ghost use Rattle.vf_tpkt.specs.Steps.{FitsOne, Looks, Moves, ReceivesAll};
 ghost use Rattle.vf_tpkt.specs.Tpdu.{packet, request};
 
 use crate::connection::Connection;
@@ -12,7 +14,7 @@ use crate::packet::{HEADER, wanted};
 use crate::{Side, TpktError, Unit};
 use std::alloc::Global;
 use std::marker::Model;
-use vf_base::NoMemory;
+use vf_base::{MOST_VALUE_OCTETS, NoMemory};
 
 /// The CR that the calling end says, in its packet: references 0 and 1, class 0, no parameter.
 const REQUEST: [u8; 11] = [3, 0, 0, 11, 6, 0xE0, 0, 0, 0, 1, 0];
@@ -27,20 +29,20 @@ pub struct Tpkt {
 
 impl Model for Tpkt {
     ghost use Rattle.std.specs.Prelude.{◌≡◌};
-    ghost use Rattle.vf_tpkt.specs.Hearing.{Kept, front, part};
+    ghost use Rattle.vf_tpkt.specs.Receiving.{Kept, first_packet, part};
 
     ghost Value = { Kept };
 
     ghost view = { λ t. record { connection = t.connection; packet = t.packet.items; fault = t.fault } };
 
-    ghost invariant = { λ t. front t.connection.place t.packet.items ≡ part };
+    ghost invariant = { λ t. first_packet t.connection.place t.packet.items ≡ part };
 }
 
 impl Tpkt {
     /// The calling end, which says its CR.
-    #[tactic(auto, unfolding(crate::specs::Hearing::hearing_in))]
+    #[tactic(auto, unfolding(crate::specs::Stream::tpdus_in))]
     pub fn calling(alloc: Global, out: &mut Vec<u8>) -> Result<Tpkt, NoMemory>
-        ensures tpkt { IfOk result (λ tpkt. tpkt ≡ (hears Side.Calling []).kept) }
+        ensures tpkt { IfOk result (λ tpkt. HasReceived tpkt Side.Calling []) }
         ensures ok { OnOk result (out.new.items ≡ out.old.items ++ packet request) }
         ensures err { OnErr result (out.new.items ≡ out.old.items) }
     {
@@ -53,9 +55,9 @@ impl Tpkt {
     }
 
     /// The called end, which waits for a CR.
-    #[tactic(auto, unfolding(crate::specs::Hearing::hearing_in))]
+    #[tactic(auto, unfolding(crate::specs::Stream::tpdus_in))]
     pub fn called(alloc: Global) -> Result<Tpkt, NoMemory>
-        ensures { IfOk result (λ tpkt. tpkt ≡ (hears Side.Called []).kept) }
+        ensures { IfOk result (λ tpkt. HasReceived tpkt Side.Called []) }
     {
         Ok(Tpkt {
             connection: Connection::new(alloc, Side::Called),
@@ -64,9 +66,9 @@ impl Tpkt {
         })
     }
 
-    /// Hears the next piece of the stream, and appends the units that it completes and the octets that answer
+    /// Receives the next piece of the stream, and appends the units that it completes and the octets that answer
     /// them. After an error the units before it are appended, and each further call answers it again and
-    /// appends nothing; after `Size` alone `wrap` may still be called. After `NoMemory` a front of the units is
+    /// appends nothing; after `Size` alone `wrap` may still be called. After `NoMemory` a prefix of the units is
     /// appended.
     pub fn feed(
         &mut self,
@@ -74,16 +76,16 @@ impl Tpkt {
         units: &mut Vec<Unit>,
         answers: &mut Vec<u8>,
     ) -> Result<(), TpktError>
-        // By what is kept of the stream so far.
-        ensures heard { Tells (onward self.old piece.now) units.old.items answers.old.items self.new units.new.items answers.new.items result }
-        // Of every stream that the object represents.
-        ensures stream { (side : Side) (stream : List ℕ) → self.old ≡ (hears side stream).kept → TellsPiece side stream piece.now units.old.items answers.old.items self.new units.new.items answers.new.items result }
-        ensures kept { (side : Side) (stream : List ℕ) → self.old ≡ (hears side stream).kept → OnOk result (self.new ≡ (hears side (stream ++ piece.now)).kept) }
+        // Of every stream that this end can have received, by the list of the TPDUs in it.
+        ensures stream { (side : Side) (stream : List ℕ) → HasReceived self.old side stream → TellsPiece side stream piece.now units.old.items answers.old.items self.new units.new.items answers.new.items result }
+        ensures kept { (side : Side) (stream : List ℕ) → HasReceived self.old side stream → OnOk result (HasReceived self.new side (stream ++ piece.now)) }
+        // The same packet by packet, by what is kept.
+        ensures received { Tells (onward self.old piece.now) units.old.items answers.old.items self.new units.new.items answers.new.items result }
     {
-        self.hear(piece, units, answers)
+        self.receive(piece, units, answers)
     }
 
-    fn hear(
+    fn receive(
         &mut self,
         piece: &[u8],
         units: &mut Vec<Unit>,
@@ -94,7 +96,7 @@ impl Tpkt {
         if let Some(fault) = self.fault {
             return Err(fault);
         }
-        match hear_all(
+        match receive_all(
             &mut self.connection,
             &mut self.packet,
             piece,
@@ -111,13 +113,13 @@ impl Tpkt {
         }
     }
 
-    /// Whether a connection stands, so that `wrap` may be called: once a CR or CC was heard, up to a DR, an ER or a
+    /// Whether a connection stands, so that `wrap` may be called: once a CR or CC was received, up to a DR, an ER or a
     /// fault other than `Size`.
     pub fn stands(&self) -> bool
         ensures { result ≡ stands_now self.now }
     {
-        let heard = matches!(self.fault, None | Some(TpktError::Size { .. }));
-        heard && self.connection.stands()
+        let received = matches!(self.fault, None | Some(TpktError::Size { .. }));
+        received && self.connection.stands()
     }
 
     /// Appends the packets of this TSDU, cut by the size that was agreed: TPDUs of that size or of 65,531 octets,
@@ -125,8 +127,8 @@ impl Tpkt {
     pub fn wrap(&self, _alloc: Global, tsdu: &[u8], out: &mut Vec<u8>) -> Result<(), NoMemory>
         requires stands { IsTrue (stands_now self.now) }
         requires some { 1 ≤ length tsdu.now }
-        requires fits { length tsdu.now ≤ 1048576 }
-        ensures ok { OnOk result (out.new.items ≡ out.old.items ++ said (most_of self.now.connection.phase) tsdu.now) }
+        requires fits { length tsdu.now ≤ MOST_VALUE_OCTETS }
+        ensures ok { OnOk result (out.new.items ≡ out.old.items ++ sent (most_of self.now.connection.phase) tsdu.now) }
         ensures err { OnErr result (out.new.items ≡ out.old.items) }
     {
         let before = out.len();
@@ -139,36 +141,59 @@ impl Tpkt {
         }
     }
 
+    /// How many octets may come before a unit, an answer or a fault is told: those that a packet's header lacks, or those
+    /// that the packet lacks. Fed at most so many, `feed` tells one thing at most, at the last of them or at a fault, after
+    /// which it tells nothing. At least 1 and at most 65,535.
+    pub fn wanted(&self) -> usize
+        ensures some { 1 ≤ result }
+        ensures bound { result ≤ 65535 }
+        ensures exact { result ≡ lacking self.now.packet }
+        ensures once { TellsOnce self.now result }
+    {
+        most_wanted(self.connection.place(), self.packet.as_slice())
+    }
+
     /// The octets held that are told in no unit: those of a packet that isn't whole, and the data of a TSDU that
     /// isn't ended. They are none after an error.
     pub fn held(&self) -> u64
         ensures held { result ≡ length self.now.packet + length self.now.connection.tsdu }
-        ensures bound { result ≤ 1048576 + 65535 }
+        ensures bound { result ≤ MOST_VALUE_OCTETS + 65535 }
     {
         let packet = octets_in_part(self.connection.place(), self.packet.as_slice());
         packet as u64 + self.connection.data_held() as u64
     }
 }
 
-/// The number of octets in the front of a packet.
+/// How many octets the beginning of a packet wants.
+fn most_wanted(place: u64, packet: &[u8]) -> usize
+    requires { first_packet place packet.now ≡ part }
+    ensures some { 1 ≤ result }
+    ensures bound { result ≤ 65535 }
+    ensures exact { result ≡ lacking packet.now }
+    ensures fits { (more : List ℕ) → length more ≤ result → FitsOne (packet.now ++ more) }
+{
+    wanted(place, packet).unwrap_or(1)
+}
+
+/// The number of octets in the beginning of a packet.
 fn octets_in_part(place: u64, packet: &[u8]) -> usize
-    requires { front place packet.now ≡ part }
+    requires { first_packet place packet.now ≡ part }
     ensures octets { result ≡ length packet.now }
     ensures bound { result ≤ 65535 }
 {
     packet.len()
 }
 
-/// Hears a piece of the stream.
-fn hear_all(
+/// Receives a piece of the stream.
+fn receive_all(
     connection: &mut Connection,
     packet: &mut Vec<u8>,
     piece: &[u8],
     units: &mut Vec<Unit>,
     answers: &mut Vec<u8>,
 ) -> Result<(), TpktError>
-    requires { front connection.old.place packet.old.items ≡ part }
-    ensures { HearsAll connection.old packet.old.items piece.now units.old.items answers.old.items connection.new packet.new.items units.new.items answers.new.items result }
+    requires { first_packet connection.old.place packet.old.items ≡ part }
+    ensures { ReceivesAll connection.old packet.old.items piece.now units.old.items answers.old.items connection.new packet.new.items units.new.items answers.new.items result }
 {
     let mut rest = piece;
     while !rest.is_empty() {
@@ -180,7 +205,7 @@ fn hear_all(
     Ok(())
 }
 
-/// Takes the octets that the packet wants, or those that there are, and hears the packet once it is whole.
+/// Takes the octets that the packet wants, or those that there are, and receives the packet once it is whole.
 fn advance<'a>(
     connection: &mut Connection,
     packet: &mut Vec<u8>,
@@ -188,7 +213,7 @@ fn advance<'a>(
     units: &mut Vec<Unit>,
     answers: &mut Vec<u8>,
 ) -> Result<&'a [u8], TpktError>
-    requires begun { front connection.old.place packet.old.items ≡ part }
+    requires begun { first_packet connection.old.place packet.old.items ≡ part }
     requires more { 0 < length piece.now }
     ensures { Moves connection.old packet.old.items piece.now units.old.items answers.old.items connection.new packet.new.items units.new.items answers.new.items result }
 {
@@ -201,14 +226,14 @@ fn advance<'a>(
     if packet.extend_from_slice(front).is_err() {
         return Err(TpktError::NoMemory);
     }
-    match hear_whole(connection, packet, units, answers) {
+    match receive_whole(connection, packet, units, answers) {
         Ok(()) => Ok(rest),
         Err(fault) => Err(fault),
     }
 }
 
-/// Hears a packet, if it is whole, and then has no front of another.
-fn hear_whole(
+/// Receives a packet, if it is whole, and then has no beginning of another.
+fn receive_whole(
     connection: &mut Connection,
     packet: &mut Vec<u8>,
     units: &mut Vec<Unit>,
@@ -224,7 +249,7 @@ fn hear_whole(
     if lacks > 0 {
         return Ok(());
     }
-    match connection.hear(&packet[HEADER..], units, answers) {
+    match connection.receive(&packet[HEADER..], units, answers) {
         Ok(()) => {
             packet.clear();
             Ok(())

@@ -1,4 +1,4 @@
-use Rattle.vf_tpkt.proofs.HistoryLemmas.{holds-tpdus}
+use Rattle.vf_tpkt.proofs.StreamLemmas.{holds-tpdus}
 use Rattle.vf_tpkt.proofs.laws.stream_holds_tpdus.Goals as goal
 
 pub returns : goal.returns

@@ -1,5 +1,5 @@
 use Rattle.std.proofs.Common.{arith}
-use Rattle.vf_tpkt.proofs.FrontLemmas.{part-short}
+use Rattle.vf_tpkt.proofs.PacketLemmas.{part-short}
 use Rattle.vf_tpkt.proofs.tpkt.octets_in_part.Goals as goal
 
 pub returns-clause-bound : goal.returns-clause-bound

@@ -1,0 +1,66 @@
+//! Octets in rows: pairs of digits, in words, and `*` with a number for so many `x`.
+use std::alloc::Global;
+use std::test::Fail;
+
+/// The value of a hexadecimal digit.
+fn half(digit: u8) -> u8 {
+    match digit {
+        b'0'..=b'9' => digit - b'0',
+        b'A'..=b'F' => digit - b'A' + 10,
+        _ => 0,
+    }
+}
+
+fn push_digits(word: &str, octets: &mut Vec<u8>) -> Result<(), Fail> {
+    for pair in word.as_bytes().chunks(2) {
+        if let [high, low] = pair {
+            octets.push(half(*high) << 4 | half(*low))?;
+        }
+    }
+    Ok(())
+}
+
+/// Appends a word of digits, of `*` and a number, or of both.
+pub(crate) fn push_word(word: &str, octets: &mut Vec<u8>) -> Result<(), Fail> {
+    let Some((digits, count)) = word.split_once('*') else {
+        return push_digits(word, octets);
+    };
+    push_digits(digits, octets)?;
+    let len = octets.len().saturating_add(count.parse::<usize>()?);
+    octets.resize(len, b'x')?;
+    Ok(())
+}
+
+/// The octets of these words.
+pub(crate) fn octets_of(alloc: Global, text: &str) -> Result<Vec<u8>, Fail> {
+    let mut octets = Vec::new(alloc);
+    for word in text.split_whitespace() {
+        push_word(word, &mut octets)?;
+    }
+    Ok(octets)
+}
+
+/// Appends all octets.
+pub(crate) fn show_all(alloc: Global, octets: &[u8], text: &mut String) -> Result<(), Fail> {
+    for octet in octets {
+        text.push_str(format!(in alloc; "{octet:02X}")?.as_str())?;
+    }
+    Ok(())
+}
+
+/// Appends all octets, or the first 12 of more than 32, and how many there are.
+pub(crate) fn show(alloc: Global, octets: &[u8], text: &mut String) -> Result<(), Fail> {
+    if octets.len() <= 32 {
+        return show_all(alloc, octets, text);
+    }
+    show_all(alloc, octets.get(..12).unwrap_or(&[]), text)?;
+    text.push_str(format!(in alloc; "..{}", octets.len())?.as_str())?;
+    Ok(())
+}
+
+/// The next number of a short generator (Marsaglia's xorshift).
+pub(crate) fn next(seed: u64) -> u64 {
+    let seed = seed ^ (seed << 13);
+    let seed = seed ^ (seed >> 7);
+    seed ^ (seed << 17)
+}
