@@ -7,7 +7,5 @@ mod tree;
 mod units;
 
 pub use errors::TreeError;
+pub use limits::{MOST_FILE_OCTETS, MOST_FILE_PARTS};
 pub use tree::Tree;
-
-#[cfg(test)]
-mod tests;

@@ -1,6 +1,7 @@
 ghost use Rattle.std.specs.Prelude.{◌≡◌, ◌++◌, [], ◌∷◌, IfOk, OnOk, OnErr};
 ghost use Rattle.std.specs.Rc.{rc_value};
-ghost use Rattle.vf_tree.specs.Actions.{LeavesFile, Performs, erased, extended, inserted, replaced};
+ghost use Rattle.vf_tree.specs.Actions.{LeavesFile, Performs};
+ghost use Rattle.vf_tree.specs.Acts.{Erases, Extends, Inserts, Replaces, does};
 ghost use Rattle.vf_tree.specs.FileTree.{IsFile, strings};
 
 use super::Tree;
@@ -20,8 +21,8 @@ impl Tree {
         id: FaduId,
         units: Vec<DataUnit>,
     ) -> Result<u32, TreeError>
-        requires { LeavesFile (inserted self.old id units.items) }
-        ensures { Performs (inserted self.old id units.items) self.old self.new result }
+        requires { LeavesFile (does self.old 0 (Inserts id units.items)) }
+        ensures { Performs (does self.old 0 (Inserts id units.items)) self.old self.new result }
     {
         if self.constraint == Constraint::Unstructured {
             return Err(TreeError::Outside);
@@ -42,8 +43,8 @@ impl Tree {
     ///
     /// `Outside` where the file is sequential flat, `NotFound` where the identity isn't begin or first.
     pub fn replace(&mut self, alloc: Global, id: FaduId, unit: DataUnit) -> Result<u32, TreeError>
-        requires { LeavesFile (replaced self.old id unit) }
-        ensures { Performs (replaced self.old id unit) self.old self.new result }
+        requires { LeavesFile (does self.old 0 (Replaces id unit)) }
+        ensures { Performs (does self.old 0 (Replaces id unit)) self.old self.new result }
     {
         if self.constraint == Constraint::SequentialFlat {
             return Err(TreeError::Outside);
@@ -64,8 +65,8 @@ impl Tree {
     ///
     /// `Outside` where the file is sequential flat, `NotFound` where the identity isn't begin or first.
     pub fn extend(&mut self, alloc: Global, id: FaduId, unit: DataUnit) -> Result<u32, TreeError>
-        requires { LeavesFile (extended self.old id unit) }
-        ensures { Performs (extended self.old id unit) self.old self.new result }
+        requires { LeavesFile (does self.old 0 (Extends id unit)) }
+        ensures { Performs (does self.old 0 (Extends id unit)) self.old self.new result }
     {
         if self.constraint == Constraint::SequentialFlat {
             return Err(TreeError::Outside);
@@ -87,7 +88,7 @@ impl Tree {
     ///
     /// `NotFound` where the identity isn't begin, nor, in an unstructured file, first.
     pub fn erase(&mut self, alloc: Global, id: FaduId) -> Result<u32, TreeError>
-        ensures { Performs (erased self.old id) self.old self.new result }
+        ensures { Performs (does self.old 0 (Erases id)) self.old self.new result }
     {
         let first = self.constraint == Constraint::Unstructured && id == FaduId::First;
         if id != FaduId::Begin && !first {
