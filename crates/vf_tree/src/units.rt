@@ -68,7 +68,7 @@ pub(crate) fn show_described(
 }
 
 /// The octets of a string; none where the element is no string.
-pub(crate) fn octets_of(element: &Element) -> u64
+pub fn octets_of(element: &Element) -> u64
     ensures { result ≡ octets_meant element.now }
 {
     match element {
