@@ -21,3 +21,10 @@ name_of (changes.PutAttributes name attributes) = name
 
 abbrev pub named : Change → List ℕ × Change
 named change = (name_of change, change)
+
+abbrev pub changes_in : List (List ℕ × Change) → List Change
+changes_in pairs = map (λ (pair : List ℕ × Change). pair.1) pairs
+
+-- each change stands after its own name
+abbrev pub AreNamed : List (List ℕ × Change) → Type 0
+AreNamed pairs = pairs ≡ map named (changes_in pairs)

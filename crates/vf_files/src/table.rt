@@ -1,11 +1,10 @@
 //! The table of files by name, and the count of their octets beside it.
-ghost use Rattle.std.specs.Prelude.{◌≡◌, ◌+◌, ◌<◌, ◌≤◌, ℕ, List, IfOk, map, min, nat_eq, vec_len, OnOk, OnErr};
+ghost use Rattle.std.specs.Prelude.{◌≡◌, ◌+◌, ◌<◌, ◌≤◌, ℕ, List, IfOk, map, min, nat_eq, vec_len, IsOk, OnOk, OnErr};
 ghost use Rattle.std.specs.Cmp.Lexicographic.{pointwise};
 ghost use Rattle.indexmap.specs.IndexMap.{IsUnchanged, insert_entry, spare, values};
 ghost use Rattle.vf_attr.specs.declared.file.File.{File as FileValue};
-ghost use Rattle.vf_files.specs.declared.changes.Change.{Change as ChangeValue};
 ghost use Rattle.vf_files.specs.Files.{after_changes, changed, file_named, octets_of_files, octets_of_option, with_attributes_of, with_file};
-ghost use Rattle.vf_files.specs.Table.{IsKeyed, counted, name_of, named as named_meant};
+ghost use Rattle.vf_files.specs.Table.{AreNamed, IsKeyed, changes_in, counted, name_of, named as named_meant};
 ghost use Rattle.vf_tree.specs.FileTree.{octets_in};
 
 use crate::{Change, Changes};
@@ -101,9 +100,10 @@ pub(crate) fn make_all(
     requires room { vec_len named ≤ spare by_name.old }
     requires keyed { IsKeyed by_name.old.entries }
     requires count { octets ≡ counted (values by_name.old) }
-    ensures values { (changes : List ChangeValue) → named.items ≡ map named_meant changes → values by_name.new ≡ after_changes changes (values by_name.old) }
-    ensures keyed { (changes : List ChangeValue) → named.items ≡ map named_meant changes → IsKeyed by_name.new.entries }
-    ensures count { (changes : List ChangeValue) → named.items ≡ map named_meant changes → result ≡ counted (values by_name.new) }
+    requires named { AreNamed named.items }
+    ensures values { values by_name.new ≡ after_changes (changes_in named.items) (values by_name.old) }
+    ensures keyed { IsKeyed by_name.new.entries }
+    ensures count { result ≡ counted (values by_name.new) }
 {
     let mut octets = octets;
     for (name, change) in named {
@@ -145,7 +145,9 @@ fn put(by_name: &mut IndexMap<Name, File>, octets: u64, name: Name, file: File) 
 {
     let less = octets_at(by_name, &name);
     let more = octets_of(&file.tree);
-    let _ = by_name.insert(name, file).unwrap();
+    let Ok(()) = insert(by_name, name, file) else {
+        unreachable!()
+    };
     counted_octets(by_name, octets, more, less)
 }
 
@@ -156,10 +158,10 @@ fn set_attributes(by_name: &mut IndexMap<Name, File>, name: &Name, attributes: A
     ensures keyed { IsKeyed by_name.new.entries }
     ensures room { spare by_name.new ≡ spare by_name.old }
 {
-    let Some(place) = by_name.get_index_of(name) else {
-        return;
-    };
-    by_name[place].set_attributes(attributes);
+    match by_name.get_index_of(name) {
+        Some(place) => by_name[place].set_attributes(attributes),
+        None => drop(attributes),
+    }
 }
 
 /// Puts a file under its name.
@@ -170,6 +172,8 @@ pub(crate) fn insert(
 ) -> Result<(), NoMemory>
     ensures ok { OnOk result (by_name.new.entries ≡ insert_entry (pointwise nat_eq) by_name.old.entries name file) }
     ensures err { OnErr result (IsUnchanged by_name.old by_name.new) }
+    ensures succeeds { 0 < spare by_name.old → IsOk result }
+    ensures room { spare by_name.old ≤ spare by_name.new + 1 }
 {
     by_name.insert(name, file)?;
     Ok(())

@@ -1,6 +1,6 @@
-use crate::{AccessError, AttributeChange, File, Stamp, change, may};
 use std::alloc::Global;
 use std::test::Fail;
+use vf_attr::{AccessError, AttributeChange, File, Stamp, change, may};
 use vf_base::{
     Actions, BaseError, Constraint, Contents, Element, FaduId, Moment, Name, NoMemory, Octets, Oid,
     Sequence, Term, Terms,

@@ -1,10 +1,10 @@
 ghost use Rattle.std.specs.Prelude.{◌<◌, ◌≤◌, ◌+◌};
 ghost use Rattle.vf_transfer.specs.Checks.{offered};
 
-use crate::*;
 use std::alloc::Global;
 use std::test::Fail;
 use vf_base::{Element, NoMemory, Octets};
+use vf_transfer::{Receiving, Sending, TransferError, Unknown};
 
 /// A string of one octet.
 fn string(alloc: Global, octet: u8) -> Result<Element, NoMemory> {

@@ -1,10 +1,10 @@
 //! The tables of the actions, each entry tried. Units of a file are its first three of: no string, `B`, `C` twice.
 
-use crate::{Tree, TreeError};
 use std::alloc::Global;
 use std::process::Abort;
 use std::test::Fail;
 use vf_base::{Constraint, Context, DataUnit, Element, FaduId, NoMemory, Octets, Sequence};
+use vf_tree::{MOST_FILE_OCTETS, Tree, TreeError};
 
 const IDENTITIES: [FaduId; 12] = [
     FaduId::Begin,
@@ -115,9 +115,7 @@ fn assert_actions(rt: &impl Abort, alloc: Global) -> Result<(), Fail> {
 fn assert_whole_reads(rt: &impl Abort, alloc: Global) -> Result<(), Fail> {
     for (units, strings) in [(0, "0"), (1, "0"), (2, "B0"), (3, "CC0")] {
         let tree = unstructured(rt, alloc, units)?;
-        assert!(rt;
-            tree.size() == strings.len() as u64 - 1 && tree.parts() == strings.len() as u32
-        );
+        assert!(rt; tree.size() == strings.len() as u64 - 1);
         for id in IDENTITIES {
             let whole = id == FaduId::Begin || id == FaduId::First;
             for context in CONTEXTS {
@@ -152,7 +150,7 @@ fn files_end_at_their_limits(rt: HostRuntime) -> Result<(), Fail> {
     }
     assert!(rt; tree.has_room_to_replace(FaduId::Begin, &unit));
     assert_eq!(rt; tree.replace(alloc, FaduId::Begin, unit), Ok(0));
-    assert!(rt; tree.size() == 16_777_216 && tree.parts() == 257);
+    assert!(rt; tree.size() == MOST_FILE_OCTETS);
     let more = string(alloc, b'Z')?;
     assert!(rt; !tree.has_room_to_extend(FaduId::Begin, &more));
     assert!(rt; tree.has_room_to_extend(FaduId::Last, &more));

@@ -13,7 +13,7 @@ pub checks_check : (checks : Checkpoints) (entries : List Entry) (values : ℕ) 
 checks_check checks entries values same count =
     let left = standing checks.start entries in
     record {
-      marked = rw (same.marked, count) (sym (counts_append 0 left.closed left.behind ∙ ap (λ n. counts_from 0 left.closed ++ n ∷ []) (omega arith)));
+      marked = rw (same.marked, count) (sym (counts_append 0 left.closed left.after ∙ ap (λ n. counts_from 0 left.closed ++ n ∷ []) (omega arith)));
       acknowledged = same.acknowledged;
       known = same.known;
     }
@@ -53,7 +53,7 @@ sent_acknowledgement sender entries check known same =
 pub survivors_check : (start : ℕ) (entries : List Entry) → survivors start (Check ∷ entries) ≡ survivors start entries
 survivors_check start entries =
     let left = standing start entries in
-    append-nil (joined (left.closed ++ left.behind ∷ [])) ∙ joined_append left.closed (left.behind ∷ []) ∙ ap (λ behind. joined left.closed ++ behind) (append-nil left.behind)
+    append-nil (joined (left.closed ++ left.after ∷ [])) ∙ joined_append left.closed (left.after ∷ []) ∙ ap (λ after. joined left.closed ++ after) (append-nil left.after)
 
 pub checks_restart : (checks : Checkpoints) (entries : List Entry) (check : ℕ) → is_unknown check checks ≡ false → RepresentChecks checks entries → RepresentChecks (cut_to check checks) (Restart check ∷ entries)
 checks_restart checks entries check known same =
@@ -73,7 +73,7 @@ survivors_restart checks entries check same known =
     let number = check - checks.start in
     let within : number ≤ length left.closed = rw (← length_counts 0 left.closed, ← same.marked) (known_within check checks.start (length checks.marks) known) in
     let count : before_check check checks ≡ length (joined (take number left.closed)) = ap (mark number) same.marked ∙ mark_there number left.closed within in
-    append-nil (joined (take number left.closed)) ∙ sym (ap (λ n. take n (joined left.closed ++ left.behind)) count ∙ cut_there number left.closed left.behind)
+    append-nil (joined (take number left.closed)) ∙ sym (ap (λ n. take n (joined left.closed ++ left.after)) count ∙ cut_there number left.closed left.after)
 
 pub front_is : (checks : Checkpoints) (entries : List Entry) → RepresentChecks checks entries → checks.acknowledged ≤ offered checks → before_check checks.acknowledged checks ≡ length (front checks.start entries)
 front_is checks entries same within =
@@ -118,5 +118,5 @@ sends_next sender element entries next same =
     rw (add-one sender.sent, take-suc sender.elements sender.sent element within, get_or_from_slice_get sender.elements sender.sent element element next) refl in
     rw (lt-ltb sender.sent (length sender.elements) within) (record {
       checks = record { marked = same.checks.marked; acknowledged = same.checks.acknowledged; known = same.checks.known };
-      values = more ∙ ap (λ values. values ++ element ∷ []) same.values ∙ append_assoc (joined left.closed) left.behind (element ∷ []);
+      values = more ∙ ap (λ values. values ++ element ∷ []) same.values ∙ append_assoc (joined left.closed) left.after (element ∷ []);
     })

@@ -32,7 +32,7 @@ mark (suc number) marks = slice_index marks number
 abbrev pub before_check : ℕ → Checkpoints → ℕ
 before_check check checks = mark (check - checks.start) checks.marks
 
--- the checks behind a restart
+-- the checks after a restart
 abbrev pub cut_to : ℕ → Checkpoints → Checkpoints
 cut_to check checks =
     record checks { marks = take (check - checks.start) checks.marks; acknowledged = min check checks.acknowledged }
@@ -55,7 +55,7 @@ pub record RepresentsReceived (receiver : Receiver) (entries : List Entry) : Typ
   pub checks : RepresentChecks receiver.checks entries
   pub values : receiver.values ≡ survivors receiver.checks.start entries
 
--- an end that sends: its checks, all values behind the point, and how many of them stand as sent
+-- an end that sends: its checks, all values after the point, and how many of them stand as sent
 pub record Sender : Type 0 where
   pub checks : Checkpoints
   pub elements : List Element

@@ -11,20 +11,20 @@ pub data Entry : Type 0 where
   -- at a check, or at the point from which the checks count
   Restart : ℕ → Entry
 
--- The values that stand: for each check that stands those between the one before and it, and those behind the last.
+-- The values that stand: for each check that stands those between the one before and it, and those after the last.
 pub record Standing : Type 0 where
   pub closed : List (List Element)
-  pub behind : List Element
+  pub after : List Element
 
--- A restart takes away the values and the checks behind its check.
+-- A restart takes away the values and the checks after its check.
 abbrev pub standing : ℕ → List Entry → Standing
-standing start [] = record { closed = []; behind = [] }
+standing start [] = record { closed = []; after = [] }
 standing start (Value element ∷ earlier) =
-    let left = standing start earlier in record left { behind = left.behind ++ element ∷ [] }
+    let left = standing start earlier in record left { after = left.after ++ element ∷ [] }
 standing start (Check ∷ earlier) =
-    let left = standing start earlier in record { closed = left.closed ++ left.behind ∷ []; behind = [] }
+    let left = standing start earlier in record { closed = left.closed ++ left.after ∷ []; after = [] }
 standing start (Acknowledgement check ∷ earlier) = standing start earlier
-standing start (Restart check ∷ earlier) = record { closed = take (check - start) (standing start earlier).closed; behind = [] }
+standing start (Restart check ∷ earlier) = record { closed = take (check - start) (standing start earlier).closed; after = [] }
 
 abbrev pub joined : List (List Element) → List Element
 joined [] = []
@@ -32,13 +32,13 @@ joined (values ∷ others) = values ++ joined others
 
 -- the values that stand, in order
 abbrev pub survivors : ℕ → List Entry → List Element
-survivors start entries = let left = standing start entries in joined left.closed ++ left.behind
+survivors start entries = let left = standing start entries in joined left.closed ++ left.after
 
 -- the number of the last check that stands
 abbrev pub last_check : ℕ → List Entry → ℕ
 last_check start entries = start + length (standing start entries).closed
 
--- The last check that stands and is acknowledged. A restart takes away what was acknowledged of checks behind its own.
+-- The last check that stands and is acknowledged. A restart takes away what was acknowledged of checks after its own.
 abbrev pub point : ℕ → List Entry → ℕ
 point start [] = start
 point start (Value element ∷ earlier) = point start earlier

@@ -21,7 +21,7 @@ abbrev pub leaves : Constraint → List DataUnit → ℕ → Result Outcome Tree
 leaves constraint units position =
     Ok (record { tree = record { constraint = constraint; units = units }; position = position; shown = [] })
 
--- F-WRITE by insert: behind the last unit of a sequential flat file
+-- F-WRITE by insert: after the last unit of a sequential flat file
 abbrev pub insertion : Constraint → List DataUnit → FaduId → List DataUnit → Result Outcome TreeRefusal
 insertion Unstructured units id more = Err Outside
 insertion SequentialFlat units End more = leaves SequentialFlat (units ++ more) (length (units ++ more) + 1)
@@ -34,7 +34,7 @@ replacement Unstructured units First unit = leaves Unstructured (unit ∷ []) 0
 replacement Unstructured units _ unit = Err NotFound
 replacement SequentialFlat units id unit = Err Outside
 
--- F-WRITE by extend: strings behind those of an unstructured file
+-- F-WRITE by extend: strings after those of an unstructured file
 abbrev pub extension : Constraint → List DataUnit → FaduId → DataUnit → Result Outcome TreeRefusal
 extension Unstructured units Begin unit = leaves Unstructured ((strings units ++ unit) ∷ []) 0
 extension Unstructured units First unit = leaves Unstructured ((strings units ++ unit) ∷ []) 0

@@ -13,7 +13,7 @@ use vf_base::{Constraint, DataUnit, NoMemory, Sequence};
 
 /// A file within its limits, `MOST_FILE_OCTETS` and `MOST_FILE_PARTS`.
 ///
-/// The units stand behind one pointer, which trees that are equal may share, and their strings are shared octets.
+/// The units are kept under one pointer, which trees that are equal may share, and their strings are shared octets.
 /// An action makes a new list of units, so a tree that shared the old one stays as it was.
 #[derive(Drop)]
 pub struct Tree {

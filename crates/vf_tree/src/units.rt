@@ -18,7 +18,7 @@ pub(crate) fn copied(alloc: Global, units: &[DataUnit]) -> Result<Vec<DataUnit>,
     Ok(made)
 }
 
-/// Puts the strings of a unit behind what is there; their octets are shared.
+/// Puts the strings of a unit after what is there; their octets are shared.
 pub(crate) fn show_unit(
     alloc: Global,
     unit: &[Element],
@@ -34,7 +34,7 @@ pub(crate) fn show_unit(
 }
 
 #[tactic(auto, using(crate::proofs::Lists::lists))]
-/// Puts the strings of all units behind what is there.
+/// Puts the strings of all units after what is there.
 pub(crate) fn show_strings(
     alloc: Global,
     units: &[DataUnit],
@@ -49,7 +49,7 @@ pub(crate) fn show_strings(
 }
 
 #[tactic(auto, using(crate::proofs::Lists::lists))]
-/// Puts each unit's descriptor and strings behind what is there.
+/// Puts each unit's descriptor and strings after what is there.
 pub(crate) fn show_described(
     alloc: Global,
     units: &[DataUnit],

@@ -12,7 +12,7 @@ use std::rc::Rc;
 use vf_base::{Constraint, DataUnit, FaduId, NoMemory, Sequence};
 
 impl Tree {
-    /// Puts units behind the last one, and answers the new end. After an error the file is as before.
+    /// Puts units after the last one, and answers the new end. After an error the file is as before.
     ///
     /// `Outside` where the file is unstructured, `NotFound` where the identity isn't the end.
     pub fn insert(
@@ -32,7 +32,7 @@ impl Tree {
         }
         let octets = octets_of_units(&units);
         let parts = parts_of_units(&units);
-        put_behind(alloc, &mut self.units, units)?;
+        put_after(alloc, &mut self.units, units)?;
         self.octets += octets;
         self.parts += parts;
         Ok(count(self.units()) + 1)
@@ -60,7 +60,7 @@ impl Tree {
         Ok(0)
     }
 
-    /// Puts the strings of a unit behind those of an unstructured file, and answers position 0. After an error the
+    /// Puts the strings of a unit after those of an unstructured file, and answers position 0. After an error the
     /// file is as before.
     ///
     /// `Outside` where the file is sequential flat, `NotFound` where the identity isn't begin or first.
@@ -115,9 +115,9 @@ impl Tree {
     }
 }
 
-/// Puts units behind the others: in their place where nobody else has these, else behind a copy of them, whose strings
+/// Puts units after the others: in their place where nobody else has these, else after a copy of them, whose strings
 /// share their octets. After an error they are as before.
-fn put_behind(
+fn put_after(
     alloc: Global,
     units: &mut Rc<Vec<DataUnit>>,
     mut more: Vec<DataUnit>,
