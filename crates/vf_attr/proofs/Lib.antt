@@ -1,2 +1,3 @@
+pub mod EqualAttributes
 mod Refusals
 mod Sets

@@ -2,16 +2,15 @@
 #![tactic(auto)]
 
 mod access;
+mod attributes;
 mod changes;
 mod errors;
 mod file;
 mod stamp;
 
 pub use access::may;
+pub use attributes::Attributes;
 pub use changes::{AttributeChange, change};
 pub use errors::{AccessError, ChangeError};
 pub use file::File;
 pub use stamp::Stamp;
-
-#[cfg(test)]
-mod tests;

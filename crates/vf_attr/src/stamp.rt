@@ -1,4 +1,5 @@
 ghost use Rattle.std.specs.Prelude.{◌≡◌, IfOk};
+ghost use Rattle.vf_attr.specs.Attributes.{is_same_stamp};
 
 use std::alloc::Global;
 use vf_base::{Duplicate, Moment, Name, NoMemory};
@@ -20,6 +21,13 @@ impl Stamp {
             moment: self.moment,
             identity,
         })
+    }
+
+    /// Whether the other stamp has the same moment and the same identity.
+    pub fn is_same(&self, other: &Stamp) -> bool
+        ensures { result ≡ is_same_stamp self.now other.now }
+    {
+        self.moment == other.moment && self.identity == other.identity
     }
 }
 

@@ -15,7 +15,7 @@ abbrev pub is_descriptor : Element → Bool
 is_descriptor (Descriptor name filled) = true
 is_descriptor _ = false
 
--- whether an element has a unit to go into: every one of an unstructured file, a descriptor, and what stands behind
+-- whether an element has a unit to go into: every one of an unstructured file, a descriptor, and what stands after
 -- a descriptor
 abbrev pub starts_open : Constraint → Bool
 starts_open Unstructured = true
@@ -36,7 +36,7 @@ first_fault doc is_open [] = None
 first_fault doc is_open (element ∷ elements) =
     or_else (fault_at doc is_open element) (first_fault doc (is_open || is_descriptor element) elements)
 
--- elements in groups: what stands before the first descriptor, and what stands behind each descriptor
+-- elements in groups: what stands before the first descriptor, and what stands after each descriptor
 abbrev pub grouped : List Element → List Element × List (List Element)
 grouped [] = ([], [])
 grouped (Descriptor name filled ∷ elements) = let rest = grouped elements in ([], rest.0 ∷ rest.1)

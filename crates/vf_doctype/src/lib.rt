@@ -9,6 +9,3 @@ mod units;
 
 pub use doc_type::DocType;
 pub use errors::DocError;
-
-#[cfg(test)]
-mod tests;

@@ -75,7 +75,7 @@ fn together(alloc: Global, elements: &[Element]) -> Result<Vec<DataUnit>, NoMemo
 }
 
 #[tactic(auto, using(crate::proofs::Groups::groups))]
-/// A unit behind each descriptor.
+/// A unit after each descriptor.
 fn apart(alloc: Global, elements: &[Element]) -> Result<Vec<DataUnit>, NoMemory>
     ensures { IfOk result (λ units. units.items ≡ (grouped elements.now).1) }
 {

@@ -1,16 +1,15 @@
 -- A table whose keys are its files' names finds and puts files as the list of its files does.
-use Rattle.std.proofs.Common.{◌≡◌, ℕ, Bool, true, false, cond, List, [], ◌∷◌, map, nat_eq, Some, refl, ap, sym, ◌∙◌}
+use Rattle.std.proofs.Common.{◌≡◌, ℕ, zero, suc, ◌<◌, Bool, true, false, cond, List, [], ◌∷◌, map, nat_eq, get_or, slice_get, is_some, Option, None, Some, refl, ap, sym, ◌∙◌, arith}
 use Rattle.std.specs.Cmp.Lexicographic.{pointwise}
 use Rattle.std.specs.Map.{keys_of, values_of, lookup}
 use Rattle.std.proofs.lemmas.Slice.Eq.{bytes_eq-Decides}
-use Rattle.indexmap.specs.IndexMap.{insert_all as entries_with, insert_entry}
-use Rattle.vf_files.specs.declared.changes.Change.{Change}
-use Rattle.vf_files.specs.declared.changes.Change.TheVariants.{PutFile}
+use Rattle.indexmap.specs.IndexMap.{insert_entry, set_value_at}
+use Rattle.vf_attr.specs.Attributes.{with_attributes}
+use Rattle.vf_attr.specs.declared.attributes.Attributes.{Attributes}
 use Rattle.vf_attr.specs.declared.file.File.{File}
-use Rattle.vf_files.specs.Files.{after_changes, file_named, named_file, with_file}
-
-abbrev pub IsKeyed : List (List ℕ × File) → Type 0
-IsKeyed es = keys_of es ≡ map (λ (file : File). file.name) (values_of es)
+use Rattle.vf_files.specs.Files.{file_named, with_attributes_of, with_file}
+use Rattle.vf_files.specs.declared.changes.Change.{Change}
+use Rattle.vf_files.specs.Table.{AreNamed, IsKeyed, changes_in, named}
 
 head_keyed : (e : List ℕ × File) (es : List (List ℕ × File)) → IsKeyed (e ∷ es) → e.0 ≡ e.1.name
 head_keyed e es keyed = cc
@@ -67,16 +66,55 @@ pub keyed-insert_entry : (file : File) (es : List (List ℕ × File)) → IsKeye
     → IsKeyed (insert_entry (pointwise nat_eq) es file.name file)
 keyed-insert_entry file es keyed = (puts file es keyed).keyed
 
--- the values once the file of each change is inserted in turn
-pub values-entries_with : (changes : List Change) (es : List (List ℕ × File)) → IsKeyed es
-    → values_of (entries_with (pointwise nat_eq) es (map named_file changes)) ≡ after_changes changes (values_of es)
-values-entries_with [] es keyed = refl
-values-entries_with (PutFile file ∷ changes) es keyed =
-    values-entries_with changes (insert_entry (pointwise nat_eq) es file.name file) (keyed-insert_entry file es keyed)
-    ∙ ap (after_changes changes) (values-insert_entry file es keyed)
+pub none_is : {A : Type 0} (found : Option A) → is_some found ≡ false → found ≡ None
+none_is None is = refl
+none_is (Some value) is = absurd cc
 
-pub keyed-entries_with : (changes : List Change) (es : List (List ℕ × File)) → IsKeyed es
-    → IsKeyed (entries_with (pointwise nat_eq) es (map named_file changes))
-keyed-entries_with [] es keyed = keyed
-keyed-entries_with (PutFile file ∷ changes) es keyed =
-    keyed-entries_with changes (insert_entry (pointwise nat_eq) es file.name file) (keyed-insert_entry file es keyed)
+-- where no file has the name, no attributes change
+pub with_attributes_of-none : (name : List ℕ) (attributes : Attributes) (files : List File) → file_named name files ≡ None
+    → with_attributes_of name attributes files ≡ files
+with_attributes_of-none name attributes [] none = refl
+with_attributes_of-none name attributes (file ∷ files) none = by (pointwise nat_eq name file.name) none (with_attributes_of-none name attributes files)
+  where
+    by : (b : Bool) → cond b (Some file) (file_named name files) ≡ None → (file_named name files ≡ None → with_attributes_of name attributes files ≡ files)
+        → cond b (with_attributes attributes file ∷ files) (file ∷ with_attributes_of name attributes files) ≡ file ∷ files
+    by true none rest = absurd cc
+    by false none rest = ap (λ files. file ∷ files) (rest none)
+
+-- the attributes of the first file whose key is the name
+pub values-set_attributes : (name : List ℕ) (attributes : Attributes) (es : List (List ℕ × File)) (i : ℕ) (file : File) → IsKeyed es
+    → pointwise nat_eq name (get_or (keys_of es) i []) ≡ true
+    → ((k : ℕ) → k < i → pointwise nat_eq name (get_or (keys_of es) k []) ≡ false)
+    → slice_get (values_of es) i ≡ Some file
+    → values_of (set_value_at es i (with_attributes attributes file)) ≡ with_attributes_of name attributes (values_of es)
+values-set_attributes name attributes [] i file keyed here earlier found = absurd cc
+values-set_attributes name attributes (e ∷ es) zero file keyed here earlier found =
+    let key : e.0 ≡ e.1.name = head_keyed e es keyed in
+    let same : file ≡ e.1 = cc in
+    let is : pointwise nat_eq name e.1.name ≡ true = ap (pointwise nat_eq name) (sym key) ∙ here in
+    λ i. cond (sym is i) (with_attributes attributes (same i) ∷ values_of es) (e.1 ∷ with_attributes_of name attributes (values_of es))
+values-set_attributes name attributes (e ∷ es) (suc i) file keyed here earlier found =
+    let key : e.0 ≡ e.1.name = head_keyed e es keyed in
+    let not : pointwise nat_eq name e.1.name ≡ false = ap (pointwise nat_eq name) (sym key) ∙ earlier 0 (omega arith) in
+    let rest : values_of (set_value_at es i (with_attributes attributes file)) ≡ with_attributes_of name attributes (values_of es)
+    = values-set_attributes name attributes es i file (rest_keyed e es keyed) here (λ k less. earlier (suc k) (omega (arith, less))) found in
+    λ j. cond (sym not j) (with_attributes attributes e.1 ∷ values_of es) (e.1 ∷ rest j)
+
+-- which leaves the names
+pub names-with_attributes_of : (name : List ℕ) (attributes : Attributes) (files : List File)
+    → map (λ (file : File). file.name) (with_attributes_of name attributes files) ≡ map (λ (file : File). file.name) files
+names-with_attributes_of name attributes [] = refl
+names-with_attributes_of name attributes (file ∷ files) = by (pointwise nat_eq name file.name) (names-with_attributes_of name attributes files)
+  where
+    by : (b : Bool) → map (λ (file : File). file.name) (with_attributes_of name attributes files) ≡ map (λ (file : File). file.name) files
+        → map (λ (file : File). file.name) (cond b (with_attributes attributes file ∷ files) (file ∷ with_attributes_of name attributes files)) ≡ map (λ (file : File). file.name) (file ∷ files)
+    by true rest = refl
+    by false rest = ap (λ names. file.name ∷ names) rest
+
+-- the changes that were named
+pub changes_in-named : (changes : List Change) → changes_in (map named changes) ≡ changes
+changes_in-named [] = refl
+changes_in-named (change ∷ changes) = ap (λ later. change ∷ later) (changes_in-named changes)
+
+pub are_named : (pairs : List (List ℕ × Change)) (changes : List Change) → pairs ≡ map named changes → AreNamed pairs
+are_named pairs changes is = is ∙ ap (map named) (sym (ap changes_in is ∙ changes_in-named changes))

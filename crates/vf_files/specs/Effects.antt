@@ -5,9 +5,10 @@ use Rattle.std.specs.Option.{option_or}
 use Rattle.vf_base.specs.declared.access.FaduId.{FaduId}
 use Rattle.vf_base.specs.declared.diagnostic.Diagnostic.{Diagnostic}
 use Rattle.vf_base.specs.declared.element.Element.{Element}
-use Rattle.vf_tree.specs.Actions.{Done, replaced}
+use Rattle.vf_tree.specs.Actions.{Outcome, replaced}
 use Rattle.vf_tree.specs.FileTree.{DataUnit, FileTree, octets_in, parts_in}
-use Rattle.vf_tree.specs.declared.errors.TreeError.{TreeError}
+use Rattle.vf_tree.specs.TreeRefusal.{TreeRefusal}
+use Rattle.vf_tree.specs.declared.limits.TheConstants.{MOST_FILE_OCTETS, MOST_FILE_PARTS}
 use Rattle.vf_doctype.specs.DocumentTypes.{doc_type}
 use Rattle.vf_doctype.specs.Units.{units}
 use Rattle.vf_doctype.specs.declared.doc_type.DocType.{DocType}
@@ -16,40 +17,40 @@ use Rattle.vf_doctype.specs.declared.errors.DocError.TheVariants as doc_errors
 use Rattle.vf_attr.specs.declared.file.File.{File}
 use Rattle.vf_attr.specs.declared.stamp.Stamp.{Stamp}
 use Rattle.vf_files.specs.declared.changes.Change.{Change}
-use Rattle.vf_files.specs.declared.changes.Change.TheVariants.{PutFile}
 use Rattle.vf_files.specs.declared.ending.Ending.{Ending}
+use Rattle.vf_files.specs.declared.limits.TheConstants.{MOST_FILESTORE_OCTETS}
+use Rattle.vf_files.specs.Delta.{delta}
 use Rattle.vf_files.specs.Diagnostics.{plain, name_unknown, contents_mismatch, bad_element, element_too_long, file_full, store_full, cancelled}
 use Rattle.vf_files.specs.Files.{file_named, octets_of_files, with_file}
-use Rattle.vf_files.specs.Rows.{tree_number}
+use Rattle.vf_files.specs.Rows.{tree_diagnostic}
 
 abbrev pub refused_by : Diagnostic → Ending
 refused_by diagnostic = record { diagnostic = Some diagnostic; changes = [] }
 
-abbrev pub element_number : DocError → ℕ
-element_number doc_errors.BadElement = bad_element
-element_number doc_errors.TooLong = element_too_long
-element_number doc_errors.NoMemory = 0
+abbrev pub element_diagnostic : DocError → Diagnostic
+element_diagnostic doc_errors.BadElement = plain bad_element
+element_diagnostic doc_errors.TooLong = plain element_too_long
+element_diagnostic doc_errors.NoMemory = plain 0
 
 -- an unstructured file is one unit
 abbrev pub only_unit : List DataUnit → DataUnit
 only_unit [] = []
 only_unit (unit ∷ units) = unit
 
--- a file has at most 16,777,216 octets of strings, and 262,144 strings and units together
 abbrev pub is_within_file : List DataUnit → Bool
-is_within_file units = nat_le (octets_in units) 16777216 && nat_le (parts_in units) 262144
+is_within_file units = nat_le (octets_in units) MOST_FILE_OCTETS && nat_le (parts_in units) MOST_FILE_PARTS
 
-abbrev pub fitting : Result Done TreeError → Result FileTree ℕ
-fitting (Ok done) = if is_within_file done.tree.units then Ok done.tree else Err file_full
-fitting (Err error) = Err (tree_number error)
+abbrev pub fitting : Result Outcome TreeRefusal → Result FileTree Diagnostic
+fitting (Ok outcome) = if is_within_file outcome.tree.units then Ok outcome.tree else Err (plain file_full)
+fitting (Err refusal) = Err (tree_diagnostic refusal)
 
 -- the units of the values, in the place of what the identity means
-abbrev pub replacing : Result (List DataUnit) DocError → FileTree → FaduId → Result FileTree ℕ
+abbrev pub replacing : Result (List DataUnit) DocError → FileTree → FaduId → Result FileTree Diagnostic
 replacing (Ok units) tree fadu = fitting (replaced tree fadu (only_unit units))
-replacing (Err error) tree fadu = Err (element_number error)
+replacing (Err error) tree fadu = Err (element_diagnostic error)
 
-abbrev pub tree_after : Option DocType → FileTree → FaduId → List Element → Result FileTree ℕ
-tree_after None tree fadu values = Err contents_mismatch
+abbrev pub tree_after : Option DocType → FileTree → FaduId → List Element → Result FileTree Diagnostic
+tree_after None tree fadu values = Err (plain contents_mismatch)
 tree_after (Some doc) tree fadu values = replacing (units doc values) tree fadu
 
 -- a change of the contents makes a version, and has its stamp
@@ -57,22 +58,22 @@ abbrev pub after_write : File → Stamp → FileTree → File
 after_write file stamp tree = record file { modified = Some stamp; version = file.version + 1; tree = tree }
 
 -- versions count to 4,294,967,295
-abbrev pub version_row : ℕ → Option ℕ
-version_row version = if nat_lt version 4294967295 then None else Some file_full
+abbrev pub version_row : ℕ → Option Diagnostic
+version_row version = if nat_lt version 4294967295 then None else Some (plain file_full)
 
--- a filestore has at most 268,435,456 octets
-abbrev pub octets_row : List File → Option ℕ
-octets_row files = if nat_le (octets_of_files files) 268435456 then None else Some store_full
+abbrev pub octets_row : List File → Option Diagnostic
+octets_row files = if nat_le (octets_of_files files) MOST_FILESTORE_OCTETS then None else Some (plain store_full)
 
-abbrev pub put_unless : Option ℕ → File → Ending
-put_unless None file = record { diagnostic = None; changes = PutFile file ∷ [] }
-put_unless (Some number) file = refused_by (plain number)
+-- the file stands in the place of the one of its name
+abbrev pub put_unless : Option Diagnostic → List File → File → Ending
+put_unless None files after = record { diagnostic = None; changes = delta files (with_file after files) }
+put_unless (Some diagnostic) files after = refused_by diagnostic
 
-abbrev pub put_tree : List File → Stamp → File → Result FileTree ℕ → Ending
-put_tree files stamp file (Err number) = refused_by (plain number)
+abbrev pub put_tree : List File → Stamp → File → Result FileTree Diagnostic → Ending
+put_tree files stamp file (Err diagnostic) = refused_by diagnostic
 put_tree files stamp file (Ok tree) =
     let after = after_write file stamp tree in
-    put_unless (option_or (version_row file.version) (octets_row (with_file after files))) after
+    put_unless (option_or (version_row file.version) (octets_row (with_file after files))) files after
 
 abbrev pub performed : List File → Stamp → Option File → FaduId → List Element → Ending
 performed files stamp None fadu values = refused_by (plain name_unknown)
@@ -85,11 +86,14 @@ write_ending files stamp name (Some diagnostic) ended fadu values = refused_by d
 write_ending files stamp name None (Some diagnostic) fadu values = refused_by (plain cancelled)
 write_ending files stamp name None None fadu values = performed files stamp (file_named name files) fadu values
 
--- the file keeps who read it last, and when
-abbrev pub read_changes : Stamp → Option File → List Change
-read_changes stamp None = []
-read_changes stamp (Some file) = PutFile (record file { read = Some stamp }) ∷ []
+-- a file keeps who read it last, and when
+abbrev pub after_read : File → Stamp → File
+after_read file stamp = record file { read = Some stamp }
+
+abbrev pub read_changes : List File → Stamp → Option File → List Change
+read_changes files stamp None = []
+read_changes files stamp (Some file) = delta files (with_file (after_read file stamp) files)
 
 abbrev pub read_ending : List File → Stamp → (name : List ℕ) (refused : Option Diagnostic) → Ending
 read_ending files stamp name (Some diagnostic) = refused_by diagnostic
-read_ending files stamp name None = record { diagnostic = None; changes = read_changes stamp (file_named name files) }
+read_ending files stamp name None = record { diagnostic = None; changes = read_changes files stamp (file_named name files) }

@@ -1,5 +1,7 @@
+pub mod Delta
 pub mod Diagnostics
 pub mod Effects
 pub mod Files
 pub mod Readings
 pub mod Rows
+pub mod Table

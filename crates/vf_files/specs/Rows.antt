@@ -10,11 +10,10 @@ use Rattle.vf_base.specs.declared.action.Actions.{Actions}
 use Rattle.vf_base.specs.declared.contents.Contents.{Contents}
 use Rattle.vf_base.specs.declared.diagnostic.Diagnostic.{Diagnostic}
 use Rattle.vf_base.specs.declared.element.Element.{Element}
-use Rattle.vf_tree.specs.Actions.{Done, replaced}
+use Rattle.vf_tree.specs.Actions.{Outcome, replaced}
 use Rattle.vf_tree.specs.Contexts.{shown}
 use Rattle.vf_tree.specs.FileTree.{new_file}
-use Rattle.vf_tree.specs.declared.errors.TreeError.{TreeError}
-use Rattle.vf_tree.specs.declared.errors.TreeError.TheVariants as tree_errors
+use Rattle.vf_tree.specs.TreeRefusal.{TreeRefusal, Outside, NotFound, BadContext}
 use Rattle.vf_doctype.specs.DocumentTypes.{constraint_of, doc_type}
 use Rattle.vf_doctype.specs.declared.doc_type.DocType.{DocType}
 use Rattle.vf_attr.specs.Access.{may}
@@ -27,6 +26,7 @@ use Rattle.vf_files.specs.declared.creation.Created.TheVariants as creations
 use Rattle.vf_files.specs.declared.creation.NewFile.{NewFile}
 use Rattle.vf_files.specs.declared.opening.Opened.{Opened}
 use Rattle.vf_files.specs.declared.opening.Opened.TheVariants as openings
+use Rattle.vf_files.specs.declared.limits.TheConstants.{MOST_FILES}
 use Rattle.vf_files.specs.Diagnostics.{plain, name_unknown, name_exists, not_permitted, access_denied, bad_password, contents_mismatch, outside_constraint_set, fadu_not_found, bad_context, store_full, unit_not_agreed}
 use Rattle.vf_files.specs.Files.{file_named}
 
@@ -35,18 +35,18 @@ abbrev pub includes : (set part : ℕ) → Bool
 includes set part = nat_eq (bit_and part set) part
 
 -- the functional units that a message needs (ISO 8571-3): read 1, write 2, limited management 8
-abbrev pub unit_row : (units needed : ℕ) → Option ℕ
-unit_row units needed = if includes units needed then None else Some unit_not_agreed
+abbrev pub unit_row : (units needed : ℕ) → Option Diagnostic
+unit_row units needed = if includes units needed then None else Some (plain unit_not_agreed)
 
-abbrev pub access_row : Result (Unit {0}) AccessError → Option ℕ
+abbrev pub access_row : Result (Unit {0}) AccessError → Option Diagnostic
 access_row (Ok done) = None
-access_row (Err access_errors.NotPermitted) = Some not_permitted
-access_row (Err access_errors.Denied) = Some access_denied
-access_row (Err access_errors.BadPassword) = Some bad_password
+access_row (Err access_errors.NotPermitted) = Some (plain not_permitted)
+access_row (Err access_errors.Denied) = Some (plain access_denied)
+access_row (Err access_errors.BadPassword) = Some (plain bad_password)
 
 -- F-SELECT: the file is there, and the identity may do the requested actions
-abbrev pub select_row : Option File → (who : List ℕ) (given : Option (List ℕ)) → Actions → Option ℕ
-select_row None who given requested = Some name_unknown
+abbrev pub select_row : Option File → (who : List ℕ) (given : Option (List ℕ)) → Actions → Option Diagnostic
+select_row None who given requested = Some (plain name_unknown)
 select_row (Some file) who given requested = access_row (may file who given requested)
 
 -- F-CREATE: the new file, with its creator and the moment
@@ -64,17 +64,16 @@ made wanted stamp doc = record {
   tree = new_file (constraint_of doc.kind);
 }
 
-abbrev pub absent_row : Option File → Option ℕ
+abbrev pub absent_row : Option File → Option Diagnostic
 absent_row None = None
-absent_row (Some file) = Some name_exists
+absent_row (Some file) = Some (plain name_exists)
 
--- a filestore has at most 1,024 files
-abbrev pub count_row : List File → Option ℕ
-count_row files = if nat_lt (length files) 1024 then None else Some store_full
+abbrev pub count_row : List File → Option Diagnostic
+count_row files = if nat_lt (length files) MOST_FILES then None else Some (plain store_full)
 
-abbrev pub made_unless : Option ℕ → File → Created
+abbrev pub made_unless : Option Diagnostic → File → Created
 made_unless None file = creations.Made file
-made_unless (Some number) file = creations.Refused (plain number)
+made_unless (Some diagnostic) file = creations.Refused diagnostic
 
 -- the new file has a document type, and its creator may do the requested actions
 abbrev pub typed : Option DocType → List File → Stamp → Option (List ℕ) → Actions → NewFile → Created
@@ -83,9 +82,9 @@ typed (Some doc) files stamp given requested wanted =
     let file = made wanted stamp doc in
     made_unless (option_or (count_row files) (access_row (may file stamp.identity given requested))) file
 
-abbrev pub created_unless : Option ℕ → List File → Stamp → Option (List ℕ) → Actions → NewFile → Created
+abbrev pub created_unless : Option Diagnostic → List File → Stamp → Option (List ℕ) → Actions → NewFile → Created
 created_unless None files stamp given requested wanted = typed (doc_type wanted.contents) files stamp given requested wanted
-created_unless (Some number) files stamp given requested wanted = creations.Refused (plain number)
+created_unless (Some diagnostic) files stamp given requested wanted = creations.Refused diagnostic
 
 abbrev pub created : List File → (units : ℕ) → Stamp → Option (List ℕ) → Actions → NewFile → Created
 created files units stamp given requested wanted =
@@ -97,29 +96,29 @@ modes Unstructured = 29
 modes SequentialFlat = 19
 
 -- F-OPEN: the mode is within the requested actions and within those of the constraint set
-abbrev pub mode_row : Constraint → (requested mode : ℕ) → Option ℕ
+abbrev pub mode_row : Constraint → (requested mode : ℕ) → Option Diagnostic
 mode_row constraint requested mode =
-    if not (includes requested mode) then Some not_permitted
-    else if not (includes (modes constraint) mode) then Some outside_constraint_set
+    if not (includes requested mode) then Some (plain not_permitted)
+    else if not (includes (modes constraint) mode) then Some (plain outside_constraint_set)
     else None
 
-abbrev pub opened_unless : Option ℕ → Contents → Opened
+abbrev pub opened_unless : Option Diagnostic → Contents → Opened
 opened_unless None contents = openings.Contents contents
-opened_unless (Some number) contents = openings.Refused (plain number)
+opened_unless (Some diagnostic) contents = openings.Refused diagnostic
 
 -- the contents type of the file that is opened
 abbrev pub opened : Option File → Actions → (mode : ℕ) → Opened
 opened None requested mode = openings.Refused (plain name_unknown)
 opened (Some file) requested mode = opened_unless (mode_row file.tree.constraint requested.value mode) file.contents
 
-abbrev pub action_row : (mode action : ℕ) → Option ℕ
-action_row mode action = if includes mode action then None else Some not_permitted
+abbrev pub action_row : (mode action : ℕ) → Option Diagnostic
+action_row mode action = if includes mode action then None else Some (plain not_permitted)
 
-abbrev pub tree_number : TreeError → ℕ
-tree_number tree_errors.Outside = outside_constraint_set
-tree_number tree_errors.NotFound = fadu_not_found
-tree_number tree_errors.BadContext = bad_context
-tree_number tree_errors.NoMemory = 0
+-- what a tree refuses
+abbrev pub tree_diagnostic : TreeRefusal → Diagnostic
+tree_diagnostic Outside = plain outside_constraint_set
+tree_diagnostic NotFound = plain fadu_not_found
+tree_diagnostic BadContext = plain bad_context
 
 -- What the request of a transfer is given: it is refused, and then the transfer performs nothing; or it is a read,
 -- and this is the file's version, what is shown of it and the position after it.
@@ -132,13 +131,13 @@ abbrev pub refusal_of : Given → Option Diagnostic
 refusal_of (Refused diagnostic) = Some diagnostic
 refusal_of _ = None
 
-abbrev pub given_unless : Option ℕ → Given → Given
-given_unless (Some number) given = Refused (plain number)
+abbrev pub given_unless : Option Diagnostic → Given → Given
+given_unless (Some diagnostic) given = Refused diagnostic
 given_unless None given = given
 
-abbrev pub showing : (version : ℕ) → Result (List Element × ℕ) TreeError → Given
+abbrev pub showing : (version : ℕ) → Result (List Element × ℕ) TreeRefusal → Given
 showing version (Ok answer) = Showed version answer.0 answer.1
-showing version (Err error) = Refused (plain (tree_number error))
+showing version (Err refusal) = Refused (tree_diagnostic refusal)
 
 abbrev pub read_of : Option File → (mode position : ℕ) → FaduId → Context → Given
 read_of None mode position fadu context = Refused (plain name_unknown)
@@ -150,16 +149,16 @@ abbrev pub read_given : Option File → (units mode position : ℕ) → FaduId �
 read_given file units mode position fadu context = given_unless (unit_row units 1) (read_of file mode position fadu context)
 
 -- whether the constraint set takes the replacement of a FADU, whatever comes
-abbrev pub replace_row : Result Done TreeError → Option ℕ
-replace_row (Ok done) = None
-replace_row (Err error) = Some (tree_number error)
+abbrev pub replace_row : Result Outcome TreeRefusal → Option Diagnostic
+replace_row (Ok outcome) = None
+replace_row (Err refusal) = Some (tree_diagnostic refusal)
 
-abbrev pub write_in : Option File → (mode : ℕ) → FaduId → Option ℕ
-write_in None mode fadu = Some name_unknown
+abbrev pub write_in : Option File → (mode : ℕ) → FaduId → Option Diagnostic
+write_in None mode fadu = Some (plain name_unknown)
 write_in (Some file) mode fadu = option_or (action_row mode 4) (replace_row (replaced file.tree fadu []))
 
 -- F-WRITE by replace
-abbrev pub write_row : Option File → (units mode : ℕ) → FaduId → Option ℕ
+abbrev pub write_row : Option File → (units mode : ℕ) → FaduId → Option Diagnostic
 write_row file units mode fadu = option_or (unit_row units 2) (write_in file mode fadu)
 
 abbrev pub write_given : Option File → (units mode : ℕ) → FaduId → Given

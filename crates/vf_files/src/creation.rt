@@ -2,11 +2,12 @@ ghost use Rattle.std.specs.Prelude.{◌≡◌, IfOk, option_copied};
 ghost use Rattle.std.specs.Option.{option_or};
 ghost use Rattle.vf_files.specs.Files.{file_named};
 ghost use Rattle.vf_attr.specs.Access.{may as may_meant};
-ghost use Rattle.vf_files.specs.Rows.{absent_row, access_row, count_row, created, made as made_meant, unit_row};
+ghost use Rattle.vf_files.specs.Rows.{absent_row, access_row as access_meant, count_row, created, made as made_meant, unit_row};
 
-use crate::Files;
+use crate::{Files, MOST_FILES};
 use crate::numbers::{
-    CONTENTS_MISMATCH, NAME_EXISTS, STORE_FULL, UNIT_NOT_AGREED, access_number, includes, plain,
+    CONTENTS_MISMATCH, NAME_EXISTS, STORE_FULL, UNIT_NOT_AGREED, access_row, includes, plain,
+    refused,
 };
 use std::alloc::Global;
 use vf_attr::{File, Stamp, may};
@@ -34,13 +35,10 @@ pub enum Created {
 /// The unit of limited file management.
 const MANAGEMENT: u16 = 8;
 
-/// A filestore has at most so many files.
-const MOST_FILES: usize = 1024;
-
 /// Makes a new file (ISO 8571-3, F-CREATE), empty and of version 1, under these functional units.
 ///
 /// Refused with 33 without limited management, 12 where a file has the name, 17 where the contents are no document
-/// type, 24 where there are 1,024 files, and 13, 14 or 15 where the creator may not do the requested actions.
+/// type, 24 where there are `MOST_FILES` files, and 13, 14 or 15 where the creator may not do the requested actions.
 pub fn create(
     alloc: Global,
     files: &Files,
@@ -52,28 +50,28 @@ pub fn create(
 ) -> Result<Created, NoMemory>
     ensures { IfOk result (λ made. made ≡ created files.now units stamp (option_copied password.entry) requested wanted) }
 {
-    if let Some(number) = refused_create(files, units, &wanted.name) {
-        return Ok(Created::Refused(plain(number)));
+    if let Some(diagnostic) = refused_create(files, units, &wanted.name) {
+        return Ok(Created::Refused(diagnostic));
     }
     let Some(doc) = DocType::of(&wanted.contents) else {
         return Ok(Created::Refused(plain(CONTENTS_MISMATCH)));
     };
     let file = made(alloc, doc, stamp, wanted)?;
-    if let Some(number) = refused_new(files, &file, password, requested) {
-        return Ok(Created::Refused(plain(number)));
+    if let Some(diagnostic) = refused_new(files, &file, password, requested) {
+        return Ok(Created::Refused(diagnostic));
     }
     Ok(Created::Made(file))
 }
 
 /// What refuses a creation by its name.
-fn refused_create(files: &Files, units: u16, name: &Name) -> Option<u16>
+fn refused_create(files: &Files, units: u16, name: &Name) -> Option<Diagnostic>
     ensures { result ≡ option_or (unit_row units 8) (absent_row (file_named name.now files.now)) }
 {
     if !includes(units, MANAGEMENT) {
-        return Some(UNIT_NOT_AGREED);
+        return refused(UNIT_NOT_AGREED);
     }
     if files.named(name).is_some() {
-        return Some(NAME_EXISTS);
+        return refused(NAME_EXISTS);
     }
     None
 }
@@ -84,13 +82,13 @@ fn refused_new(
     file: &File,
     password: Option<&Octets>,
     requested: Actions,
-) -> Option<u16>
-    ensures { result ≡ option_or (count_row files.now) (access_row (may_meant file.now file.now.created.identity (option_copied password.entry) requested)) }
+) -> Option<Diagnostic>
+    ensures { result ≡ option_or (count_row files.now) (access_meant (may_meant file.now file.now.created.identity (option_copied password.entry) requested)) }
 {
     if files.len() >= MOST_FILES {
-        return Some(STORE_FULL);
+        return refused(STORE_FULL);
     }
-    access_number(may(file, &file.created.identity, password, requested))
+    access_row(may(file, &file.created.identity, password, requested))
 }
 
 /// The new file.

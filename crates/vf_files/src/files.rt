@@ -1,45 +1,46 @@
-ghost use Rattle.std.specs.Prelude.{◌≡◌, ◌<◌, ◌≤◌, [], IfOk, MatchOption, length, nat_le, map, vec_len, OnOk, OnErr, is_some, nat_eq, option_copied};
-ghost use Rattle.std.specs.Cmp.Lexicographic.{pointwise};
-ghost use Rattle.indexmap.specs.IndexMap.{IsUnchanged, insert_all as entries_with, insert_entry, spare, values};
-ghost use Rattle.vf_files.specs.Files.{after_changes, file_named, named_file, octets_of_files, octets_of_option, with_file};
-ghost use Rattle.vf_tree.specs.FileTree.{octets_in};
+ghost use Rattle.std.specs.Prelude.{◌≡◌, ◌<◌, ◌++◌, [], ◌∷◌, None, IfOk, IfSome, length, nat_le, OnOk, OnErr, is_some, option_copied, slice_get, Some};
+ghost use Rattle.indexmap.specs.IndexMap.{IsUnchanged};
+ghost use Rattle.vf_files.specs.Files.{after_changes, file_named, octets_of_files, with_file};
 
-use crate::{Change, Changes};
+use crate::table::{counted_octets, insert, make_all, named_changes, octets_at, octets_of};
+use crate::{Changes, MOST_FILESTORE_OCTETS};
 use indexmap::IndexMap;
 use std::alloc::Global;
 use std::marker::Model;
 use vf_attr::File;
 use vf_base::{Name, NoMemory};
-use vf_tree::Tree;
-
-/// A filestore has at most so many octets of strings.
-const MOST_OCTETS: u64 = 268_435_456;
 
 /// The files in the order of their creation, found by name.
 #[derive(Drop)]
 pub struct Files {
     by_name: IndexMap<Name, File>,
+    /// The octets of all strings, or the type's end where they are more.
+    octets: u64,
+    alloc: Global,
 }
 
 impl Model for Files {
-    ghost use Rattle.std.specs.Prelude.{◌≡◌, List, map};
-    ghost use Rattle.indexmap.specs.IndexMap.{keys, values};
+    ghost use Rattle.std.specs.Prelude.{◌≡◌, List};
+    ghost use Rattle.indexmap.specs.IndexMap.{values};
     ghost use Rattle.vf_attr.specs.declared.file.File.{File};
+    ghost use Rattle.vf_files.specs.Table.{IsKeyed, counted};
 
     ghost Value = { List File };
 
     ghost view = { λ files. values files.by_name };
 
-    ghost invariant = { λ files. keys files.by_name ≡ map (λ (file : File). file.name) (values files.by_name) };
+    ghost invariant = { λ files. IsKeyed files.by_name.entries × (files.octets ≡ counted (values files.by_name)) };
 }
 
 impl Files {
-    /// No files; the allocator is kept for those that are put.
+    /// No files; the allocator is kept for those that come.
     pub fn new(alloc: Global) -> Files
         ensures { result ≡ [] }
     {
         Files {
             by_name: IndexMap::new(alloc),
+            octets: 0,
+            alloc,
         }
     }
 
@@ -49,9 +50,18 @@ impl Files {
         self.by_name.len()
     }
 
+    /// The file at this place, which is absent exactly from the length on.
+    pub fn get(&self, place: usize) -> Option<&File>
+        ensures { option_copied result ≡ slice_get self.now place }
+    {
+        let (_, file) = self.by_name.get_index(place)?;
+        Some(file)
+    }
+
     /// The file of this name; `None` exactly where there is none.
     pub fn named(&self, name: &Name) -> Option<&File>
-        ensures { option_copied result ≡ file_named name.now self.now }
+        ensures found { option_copied result ≡ file_named name.now self.now }
+        ensures itself { IfSome result (λ file. file_named file.now.name self.now ≡ Some file.now) }
     {
         self.by_name.get(name)
     }
@@ -63,37 +73,27 @@ impl Files {
         self.named(name).is_some()
     }
 
-    /// Puts the file into the place of the one of its name, or behind all others. Without memory nothing changes.
-    pub fn put(&mut self, alloc: Global, file: File) -> Result<(), NoMemory>
-        ensures ok { OnOk result (self.new ≡ with_file file self.old) }
+    /// Puts a file, whose name no other has, after the others. Without memory nothing changes.
+    pub fn push(&mut self, file: File) -> Result<(), NoMemory>
+        requires { file_named file.name self.old ≡ None }
+        ensures ok { OnOk result (self.new ≡ self.old ++ file ∷ []) }
         ensures err { OnErr result (self.new ≡ self.old) }
     {
-        let name = file.name.copy(alloc)?;
+        let name = file.name.copy(self.alloc)?;
+        let more = octets_of(&file.tree);
         insert(&mut self.by_name, name, file)?;
+        self.octets = counted_octets(&self.by_name, self.octets, more, 0);
         Ok(())
     }
 
-    /// Whether the filestore has at most 268,435,456 octets of strings with this file in the place of the one of its
-    /// name.
+    /// Whether the filestore has at most `MOST_FILESTORE_OCTETS` octets of strings with this file in the place of the
+    /// one of its name.
     pub fn has_room_for(&self, file: &File) -> bool
-        ensures { result ≡ nat_le (octets_of_files (with_file file.now self.now)) 268435456 }
+        ensures { result ≡ nat_le (octets_of_files (with_file file.now self.now)) MOST_FILESTORE_OCTETS }
     {
-        let most = MOST_OCTETS + self.octets_at(&file.name);
-        let Some(all) = octets_within(&self.by_name, most) else {
-            return false;
-        };
-        file.tree.size() <= most - all
-    }
-
-    /// The octets of the file of this name; none where there is no such file.
-    fn octets_at(&self, name: &Name) -> u64
-        ensures octets { result ≡ octets_of_option (file_named name.now self.now) }
-        ensures within { result ≤ 16777216 }
-    {
-        match self.named(name) {
-            Some(file) => octets_of(&file.tree),
-            None => 0,
-        }
+        let old = octets_at(&self.by_name, &file.name);
+        let new = octets_of(&file.tree);
+        self.octets <= MOST_FILESTORE_OCTETS + old - new
     }
 
     /// Makes all of the changes in their order, or none.
@@ -101,75 +101,9 @@ impl Files {
         ensures ok { OnOk result (self.new ≡ after_changes changes self.old) }
         ensures err { OnErr result (self.new ≡ self.old) }
     {
-        let named = named_files(alloc, changes)?;
+        let named = named_changes(alloc, changes)?;
         self.by_name.reserve(named.len())?;
-        insert_all(&mut self.by_name, named);
+        self.octets = make_all(&mut self.by_name, self.octets, named);
         Ok(())
     }
-}
-
-/// The octets of a tree's strings.
-fn octets_of(tree: &Tree) -> u64
-    ensures octets { result ≡ octets_in tree.now.units }
-    ensures within { result ≤ 16777216 }
-{
-    let _units = tree.units();
-    tree.size()
-}
-
-/// The octets of all strings; absent where they are more than so many.
-fn octets_within(by_name: &IndexMap<Name, File>, most: u64) -> Option<u64>
-    ensures { MatchOption result (most < octets_of_files (values by_name.now)) (λ octets. (octets ≡ octets_of_files (values by_name.now)) × (octets ≤ most)) }
-{
-    let mut octets = 0;
-    for file in by_name.values() {
-        let more = file.tree.size();
-        if more > most - octets {
-            return None;
-        }
-        octets += more;
-    }
-    Some(octets)
-}
-
-/// The file that a change puts, behind its name.
-fn named_change(alloc: Global, change: Change) -> Result<(Name, File), NoMemory>
-    ensures { IfOk result (λ named. named ≡ named_file change) }
-{
-    match change {
-        Change::PutFile { file } => {
-            let name = file.name.copy(alloc)?;
-            Ok((name, file))
-        }
-    }
-}
-
-/// The files that the changes put, each behind its name.
-fn named_files(alloc: Global, changes: Changes) -> Result<Vec<(Name, File)>, NoMemory>
-    ensures { IfOk result (λ named. named.items ≡ map named_file changes) }
-{
-    let mut named = Vec::new(alloc);
-    for change in changes.into_vec() {
-        let file = named_change(alloc, change)?;
-        named.push(file)?;
-    }
-    Ok(named)
-}
-
-/// Inserts all of the entries, for which there is room.
-fn insert_all(by_name: &mut IndexMap<Name, File>, named: Vec<(Name, File)>)
-    requires { vec_len named ≤ spare by_name.old }
-    ensures { by_name.new.entries ≡ entries_with (pointwise nat_eq) by_name.old.entries named.items }
-{
-    for (name, file) in named {
-        let _ = by_name.insert(name, file).unwrap();
-    }
-}
-
-fn insert(by_name: &mut IndexMap<Name, File>, name: Name, file: File) -> Result<(), NoMemory>
-    ensures ok { OnOk result (by_name.new.entries ≡ insert_entry (pointwise nat_eq) by_name.old.entries name file) }
-    ensures err { OnErr result (IsUnchanged by_name.old by_name.new) }
-{
-    by_name.insert(name, file)?;
-    Ok(())
 }

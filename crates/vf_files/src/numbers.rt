@@ -1,11 +1,10 @@
 //! The diagnostics of actions on files (ISO 8571-3; the numbers are profile).
-ghost use Rattle.std.specs.Prelude.{◌≡◌};
+ghost use Rattle.std.specs.Prelude.{◌≡◌, Some};
 ghost use Rattle.vf_files.specs.Diagnostics.{plain as plain_meant};
-ghost use Rattle.vf_files.specs.Rows.{access_row, includes as includes_meant, tree_number as tree_meant};
+ghost use Rattle.vf_files.specs.Rows.{access_row as access_meant, includes as includes_meant};
 
 use vf_attr::AccessError;
 use vf_base::Diagnostic;
-use vf_tree::TreeError;
 
 pub(crate) const NAME_UNKNOWN: u16 = 11;
 
@@ -55,26 +54,21 @@ pub(crate) fn includes(set: u16, part: u16) -> bool
     part & set == part
 }
 
-/// The diagnostic of what access control answers.
-pub(crate) fn access_number(answer: Result<(), AccessError>) -> Option<u16>
-    ensures { result ≡ access_row answer }
+/// What access control refuses.
+pub(crate) fn access_row(answer: Result<(), AccessError>) -> Option<Diagnostic>
+    ensures { result ≡ access_meant answer }
 {
     match answer {
         Ok(()) => None,
-        Err(AccessError::NotPermitted) => Some(NOT_PERMITTED),
-        Err(AccessError::Denied) => Some(ACCESS_DENIED),
-        Err(AccessError::BadPassword) => Some(BAD_PASSWORD),
+        Err(AccessError::NotPermitted) => refused(NOT_PERMITTED),
+        Err(AccessError::Denied) => refused(ACCESS_DENIED),
+        Err(AccessError::BadPassword) => refused(BAD_PASSWORD),
     }
 }
 
-/// The diagnostic of what a tree refuses.
-pub(crate) fn tree_number(error: TreeError) -> u16
-    ensures { result ≡ tree_meant error }
+/// A refusal with the diagnostic of this number.
+pub(crate) fn refused(number: u16) -> Option<Diagnostic>
+    ensures { result ≡ Some (plain_meant number) }
 {
-    match error {
-        TreeError::Outside => OUTSIDE_CONSTRAINT_SET,
-        TreeError::NotFound => FADU_NOT_FOUND,
-        TreeError::BadContext => BAD_CONTEXT,
-        TreeError::NoMemory => 0,
-    }
+    Some(plain(number))
 }

@@ -3,7 +3,7 @@ ghost use Rattle.vf_files.specs.Files.{file_named};
 ghost use Rattle.vf_files.specs.Rows.{mode_row, modes as modes_meant, opened};
 
 use crate::Files;
-use crate::numbers::{NAME_UNKNOWN, NOT_PERMITTED, OUTSIDE_CONSTRAINT_SET, includes, plain};
+use crate::numbers::{NAME_UNKNOWN, NOT_PERMITTED, OUTSIDE_CONSTRAINT_SET, includes, plain, refused};
 use std::alloc::Global;
 use vf_base::{Actions, Constraint, Contents, Diagnostic, Name, NoMemory};
 
@@ -31,21 +31,21 @@ pub fn open_file(
     let Some(file) = files.named(name) else {
         return Ok(Opened::Refused(plain(NAME_UNKNOWN)));
     };
-    if let Some(number) = refused_mode(file.tree.constraint(), requested.value, mode) {
-        return Ok(Opened::Refused(plain(number)));
+    if let Some(diagnostic) = refused_mode(file.tree.constraint(), requested.value, mode) {
+        return Ok(Opened::Refused(diagnostic));
     }
     let contents = file.contents.copy(alloc)?;
     Ok(Opened::Contents(contents))
 }
 
-fn refused_mode(constraint: Constraint, requested: u8, mode: u8) -> Option<u16>
+fn refused_mode(constraint: Constraint, requested: u8, mode: u8) -> Option<Diagnostic>
     ensures { result ≡ mode_row constraint requested mode }
 {
     if !includes(u16::from(requested), u16::from(mode)) {
-        return Some(NOT_PERMITTED);
+        return refused(NOT_PERMITTED);
     }
     if !includes(modes(constraint), u16::from(mode)) {
-        return Some(OUTSIDE_CONSTRAINT_SET);
+        return refused(OUTSIDE_CONSTRAINT_SET);
     }
     None
 }

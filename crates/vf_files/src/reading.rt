@@ -5,7 +5,10 @@ ghost use Rattle.vf_files.specs.Rows.{read_given, showing};
 ghost use Rattle.vf_tree.specs.Contexts.{shown as shown_meant};
 
 use crate::Files;
-use crate::numbers::{NAME_UNKNOWN, NOT_PERMITTED, UNIT_NOT_AGREED, includes, plain, tree_number};
+use crate::numbers::{
+    BAD_CONTEXT, FADU_NOT_FOUND, NAME_UNKNOWN, NOT_PERMITTED, OUTSIDE_CONSTRAINT_SET,
+    UNIT_NOT_AGREED, includes, plain,
+};
 use std::alloc::Global;
 use vf_attr::File;
 use vf_base::{Context, Diagnostic, Element, FaduId, Name, NoMemory};
@@ -73,7 +76,9 @@ fn show(
             elements,
             position,
         }),
+        Err(TreeError::Outside) => Ok(Reading::Refused(plain(OUTSIDE_CONSTRAINT_SET))),
+        Err(TreeError::NotFound) => Ok(Reading::Refused(plain(FADU_NOT_FOUND))),
+        Err(TreeError::BadContext) => Ok(Reading::Refused(plain(BAD_CONTEXT))),
         Err(TreeError::NoMemory) => Err(NoMemory),
-        Err(error) => Ok(Reading::Refused(plain(tree_number(error)))),
     }
 }

@@ -1,14 +1,14 @@
-ghost use Rattle.std.specs.Prelude.{◌≡◌, [], IfOk};
+ghost use Rattle.std.specs.Prelude.{◌≡◌, ◌<◌, [], IfOk, Some};
 ghost use Rattle.vf_doctype.specs.DocumentTypes.{doc_type};
-ghost use Rattle.vf_files.specs.Effects.{after_write, element_number as element_meant, only_unit as unit_meant, performed, put_tree, replacing, tree_after as after_meant, write_ending, fitting};
+ghost use Rattle.vf_files.specs.Effects.{after_write, only_unit as unit_meant, performed, put_tree, replacing, tree_after as after_meant, write_ending, fitting};
 ghost use Rattle.vf_files.specs.Files.{file_named};
 ghost use Rattle.vf_files.specs.Rows.{replace_row, write_in, write_row};
 ghost use Rattle.vf_tree.specs.Actions.{replaced};
 
 use crate::numbers::{
-    BAD_ELEMENT, CANCELLED, CONTENTS_MISMATCH, ELEMENT_TOO_LONG, FADU_NOT_FOUND, FILE_FULL,
-    NAME_UNKNOWN, NOT_PERMITTED, OUTSIDE_CONSTRAINT_SET, STORE_FULL, UNIT_NOT_AGREED, includes,
-    plain, tree_number,
+    BAD_CONTEXT, BAD_ELEMENT, CANCELLED, CONTENTS_MISMATCH, ELEMENT_TOO_LONG, FADU_NOT_FOUND,
+    FILE_FULL, NAME_UNKNOWN, NOT_PERMITTED, OUTSIDE_CONSTRAINT_SET, STORE_FULL, UNIT_NOT_AGREED,
+    includes, plain, refused,
 };
 use crate::{Ending, Files};
 use std::alloc::Global;
@@ -23,32 +23,31 @@ const WRITE_UNIT: u16 = 2;
 /// The action of replace, in a mode.
 const REPLACE_ACTION: u16 = 4;
 
-/// The number of the diagnostic that refuses the request of a write by replace, of a file that is open in this mode
-/// (ISO 8571-3, F-WRITE): 33 without the unit of write, 11 where there is no file of the name, 13 where the mode has
+/// What refuses the request of a write by replace, of a file that is open in this mode (ISO 8571-3, F-WRITE): 33 without the unit of write, 11 where there is no file of the name, 13 where the mode has
 /// no replace, 18 where the constraint set has none, and 19 where it doesn't take the identity.
-pub fn refused_write(files: &Files, name: &Name, units: u16, mode: u8, fadu: FaduId) -> Option<u16>
+pub fn refused_write(files: &Files, name: &Name, units: u16, mode: u8, fadu: FaduId) -> Option<Diagnostic>
     ensures { result ≡ write_row (file_named name.now files.now) units mode fadu }
 {
     if !includes(units, WRITE_UNIT) {
-        return Some(UNIT_NOT_AGREED);
+        return refused(UNIT_NOT_AGREED);
     }
     let Some(file) = files.named(name) else {
-        return Some(NAME_UNKNOWN);
+        return refused(NAME_UNKNOWN);
     };
     if !includes(u16::from(mode), REPLACE_ACTION) {
-        return Some(NOT_PERMITTED);
+        return refused(NOT_PERMITTED);
     }
     refused_replace(&file.tree, fadu)
 }
 
 /// What refuses a replacement, whatever comes.
-fn refused_replace(tree: &Tree, fadu: FaduId) -> Option<u16>
+fn refused_replace(tree: &Tree, fadu: FaduId) -> Option<Diagnostic>
     ensures { result ≡ replace_row (replaced tree.now fadu []) }
 {
     match (tree.constraint(), fadu) {
-        (Constraint::SequentialFlat, _) => Some(OUTSIDE_CONSTRAINT_SET),
+        (Constraint::SequentialFlat, _) => refused(OUTSIDE_CONSTRAINT_SET),
         (Constraint::Unstructured, FaduId::Begin | FaduId::First) => None,
-        (Constraint::Unstructured, _) => Some(FADU_NOT_FOUND),
+        (Constraint::Unstructured, _) => refused(FADU_NOT_FOUND),
     }
 }
 
@@ -58,7 +57,8 @@ fn refused_replace(tree: &Tree, fadu: FaduId) -> Option<u16>
 /// Refused with the diagnostic of the request, 32 where the initiator gave one, 11 where there is no file of the name,
 /// 17 where its contents are no document type, 21 or 22 by the first value that isn't of it, 18 and 19 as at the
 /// request, 23 where the file would pass its limits or its version is spent, and 24 where the filestore would have
-/// more than 268,435,456 octets. Else the file has the values, a version more and the stamp.
+/// more than `MOST_FILESTORE_OCTETS`. Else the file has the values, a version more and the stamp; where its units are
+/// equal to those before, its attributes alone change.
 pub fn end_write(
     alloc: Global,
     files: &Files,
@@ -93,6 +93,7 @@ fn perform(
     fadu: FaduId,
     values: &[Element],
 ) -> Result<Ending, NoMemory>
+    requires { file_named file.now.name files.now ≡ Some file.now }
     ensures { IfOk result (λ ending. ending ≡ put_tree files.now stamp file.now (after_meant (doc_type file.now.contents) file.now.tree fadu values.now)) }
 {
     let Some(doc) = DocType::of(&file.contents) else {
@@ -103,7 +104,7 @@ fn perform(
             let ending = put(alloc, files, stamp, file, tree)?;
             Ok(ending)
         }
-        Err(number) => Ok(Ending::refused(alloc, plain(number))),
+        Err(diagnostic) => Ok(Ending::refused(alloc, diagnostic)),
     }
 }
 
@@ -115,20 +116,30 @@ fn put(
     file: &File,
     tree: Tree,
 ) -> Result<Ending, NoMemory>
+    requires { file_named file.now.name files.now ≡ Some file.now }
     ensures { IfOk result (λ ending. ending ≡ put_tree files.now stamp file.now (Ok tree)) }
 {
     if file.version == u32::MAX {
         return Ok(Ending::refused(alloc, plain(FILE_FULL)));
     }
-    let mut file = file.copy(alloc)?;
-    file.modified = Some(stamp);
-    file.version += 1;
-    file.tree = tree;
-    if !files.has_room_for(&file) {
+    let after = written(alloc, stamp, file, tree)?;
+    if !files.has_room_for(&after) {
         return Ok(Ending::refused(alloc, plain(STORE_FULL)));
     }
-    let ending = Ending::put(alloc, file)?;
+    let ending = Ending::written(alloc, file, after)?;
     Ok(ending)
+}
+
+/// The file once it is written: with this tree, a version more and the stamp.
+fn written(alloc: Global, stamp: Stamp, file: &File, tree: Tree) -> Result<File, NoMemory>
+    requires { file.now.version < 4294967295 }
+    ensures { IfOk result (λ after. after ≡ after_write file.now stamp tree) }
+{
+    let mut after = file.copy(alloc)?;
+    after.modified = Some(stamp);
+    after.version += 1;
+    after.tree = tree;
+    Ok(after)
 }
 
 /// The tree with the units of the values in the place of what the identity means, or why there is none.
@@ -138,7 +149,7 @@ fn tree_after(
     tree: &Tree,
     fadu: FaduId,
     values: &[Element],
-) -> Result<Result<Tree, u16>, NoMemory>
+) -> Result<Result<Tree, Diagnostic>, NoMemory>
     ensures { IfOk result (λ after. after ≡ after_meant (Some doc.now) tree.now fadu values.now) }
 {
     match doc.units(alloc, values) {
@@ -146,8 +157,8 @@ fn tree_after(
             let unit = only_unit(alloc, units);
             replace(alloc, tree, fadu, unit)
         }
-        Err(DocError::BadElement) => Ok(Err(BAD_ELEMENT)),
-        Err(DocError::TooLong) => Ok(Err(ELEMENT_TOO_LONG)),
+        Err(DocError::BadElement) => Ok(Err(plain(BAD_ELEMENT))),
+        Err(DocError::TooLong) => Ok(Err(plain(ELEMENT_TOO_LONG))),
         Err(DocError::NoMemory) => Err(NoMemory),
     }
 }
@@ -169,16 +180,18 @@ fn replace(
     tree: &Tree,
     fadu: FaduId,
     unit: DataUnit,
-) -> Result<Result<Tree, u16>, NoMemory>
+) -> Result<Result<Tree, Diagnostic>, NoMemory>
     ensures { IfOk result (λ after. after ≡ fitting (replaced tree.now fadu unit)) }
 {
     if !tree.has_room_to_replace(fadu, &unit) {
-        return Ok(Err(FILE_FULL));
+        return Ok(Err(plain(FILE_FULL)));
     }
     let mut tree = tree.copy(alloc)?;
     match tree.replace(alloc, fadu, unit) {
         Ok(_) => Ok(Ok(tree)),
+        Err(TreeError::Outside) => Ok(Err(plain(OUTSIDE_CONSTRAINT_SET))),
+        Err(TreeError::NotFound) => Ok(Err(plain(FADU_NOT_FOUND))),
+        Err(TreeError::BadContext) => Ok(Err(plain(BAD_CONTEXT))),
         Err(TreeError::NoMemory) => Err(NoMemory),
-        Err(error) => Ok(Err(tree_number(error))),
     }
 }

@@ -1,4 +1,4 @@
--- An entry whose key is behind distinct keys goes behind their entries.
+-- An entry whose key is after distinct keys goes after their entries.
 use Rattle.std.proofs.Common.{◌≡◌, ◌∙◌, ℕ, false, cond, List, [], ◌∷◌, ◌++◌, refl, sym, ap, subst, append_assoc, nat_eq}
 use Rattle.std.specs.Cmp.Lexicographic.{nat_list_eq_equiv, pointwise}
 use Rattle.std.specs.List.{AllByRecursion, IsDistinct}

@@ -21,7 +21,7 @@ before holder held = stands_before holder held.holder
 abbrev differs : Holder → Held → Bool
 differs holder held = not (is_same held.holder holder)
 
--- of those that stand behind a holder none is it
+-- of those that stand after a holder none is it
 others_behind : (holder : Holder) (hs : List Held) → list_all (before holder) hs ≡ true → others holder hs ≡ hs
 others_behind holder [] all = refl
 others_behind holder (x ∷ xs) all =
@@ -46,7 +46,7 @@ first_in_order h (x ∷ xs) all =
     let behind : holder_cmp x.holder h.holder ≡ Greater = reversed h.holder x.holder Less here in
     λ i. cond (is_lt (behind i)) (x ∷ in_order h xs) (h ∷ x ∷ xs)
 
--- what stands behind one that stands behind the holder
+-- what stands after one that stands after the holder
 pub all_behind : (holder other : Holder) (hs : List Held) → holder_cmp holder other ≡ Less → list_all (before other) hs ≡ true → list_all (before holder) hs ≡ true
 all_behind holder other [] ahead all = refl
 all_behind holder other (x ∷ xs) ahead all =

@@ -23,7 +23,7 @@ before_at holder [] k d within all = absurd (omega arith)
 before_at holder (x ∷ xs) zero d within all = less_from _ (first_so (before holder x) (list_all (before holder) xs) all)
 before_at holder (x ∷ xs) (suc k) d within all = before_at holder xs k d (grind (arith, within)) (second_so (before holder x) (list_all (before holder) xs) all)
 
--- where the first is not before the holder, all others stand behind it
+-- where the first is not before the holder, all others stand after it
 not_below : (holder : Holder) (x y : Held) → holder_cmp x.holder y.holder ≡ Less → ordering_index (from holder x) ≤ ordering_index (from holder y)
 not_below holder x y ahead = by (from holder x) (from holder y) refl refl
   where

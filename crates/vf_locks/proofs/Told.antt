@@ -39,7 +39,7 @@ absent_ahead holder y ys ordered ahead =
     let rest = all_behind holder y.holder ys ahead ordered.0 in
     controls_behind holder (y ∷ ys) (λ i. is_lt (ahead i) && rest i)
 
--- lists that agree and begin with one holder agree behind it
+-- lists that agree and begin with one holder agree after it
 agree_behind : (x y : Held) (xs ys : List Held) → IsOrdered (x ∷ xs) → IsOrdered (y ∷ ys) → x.holder ≡ y.holder
     → ((holder : Holder) → controls_of holder (x ∷ xs) ≡ controls_of holder (y ∷ ys)) → (holder : Holder) → controls_of holder xs ≡ controls_of holder ys
 agree_behind x y xs ys p q alike agree holder = by (is_same x.holder holder) refl

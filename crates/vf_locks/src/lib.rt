@@ -10,8 +10,6 @@ mod holder;
 mod laws;
 mod locks;
 mod search;
-#[cfg(test)]
-mod tests;
 
 pub use conflict::{Conflict, GrantError};
 pub use counts::HeldCounts;

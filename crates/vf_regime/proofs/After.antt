@@ -15,13 +15,13 @@ use Rattle.vf_files.specs.declared.reading.Reading.TheVariants as readings
 use Rattle.vf_transfer.specs.Transfer.{Entry as TransferEntry, Value, joined as joined_values, standing as standing_values, survivors as surviving}
 use Rattle.vf_tree.specs.FileTree.{octets_of, octets_of_unit}
 use Rattle.vf_regime.specs.History.{has_data_end, positioned}
-use Rattle.vf_regime.specs.Transfers.{position_after, refused_by}
+use Rattle.vf_regime.specs.Transfers.{position_after}
 use Rattle.vf_regime.specs.Transition.{given_by, read_said}
 
--- what refuses a write is kept as the diagnostic of its row
-pub given_kept : (row : Option ℕ) → given_unless row Nothing ≡ given_by (refused_by row)
+-- what refuses a write is kept
+pub given_kept : (row : Option Diagnostic) → given_unless row Nothing ≡ given_by row
 given_kept None = refl
-given_kept (Some number) = refl
+given_kept (Some diagnostic) = refl
 
 shown_behind : (elements : List Element) (diagnostic : Option Diagnostic)
     → has_data_end (map answers.Element elements ++ answers.Pdu (DataEnd diagnostic) ∷ []) ≡ true
@@ -37,7 +37,7 @@ read_shown (readings.Showed version elements position) = shown_behind elements.i
 pub value_survives : (start : ℕ) (element : Element) (entries : List TransferEntry)
     → surviving start (Value element ∷ entries) ≡ surviving start entries ++ element ∷ []
 value_survives start element entries =
-    sym (append_assoc (joined_values (standing_values start entries).closed) (standing_values start entries).behind (element ∷ []))
+    sym (append_assoc (joined_values (standing_values start entries).closed) (standing_values start entries).after (element ∷ []))
 
 -- and has its octets
 pub value_counts : (start : ℕ) (element : Element) (entries : List TransferEntry)

@@ -51,7 +51,7 @@ ending_kept (movements.Reading refused) history r files stamp name =
 
 module _ (tables : Tables) (state : State) (party : StandingParty) (moment : ℕ) where
   pub select_performed : (associated : Associated) → IsAssociated associated party.link party.history
-      → (name : List ℕ) (actions : Actions) (controls : Option AttributeControls) (password : Option (List ℕ)) (row : Option ℕ)
+      → (name : List ℕ) (actions : Actions) (controls : Option AttributeControls) (password : Option (List ℕ)) (row : Option Diagnostic)
       → select_row (file_named name tables.files) associated.identity password actions ≡ row
       → performed (with_tables tables state) party moment (messages.Pdu (SelectRequest name actions controls password))
       ≡ selected_by row (with_tables tables state) party moment (messages.Pdu (SelectRequest name actions controls password))

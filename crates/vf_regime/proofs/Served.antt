@@ -10,6 +10,8 @@ use Rattle.std.proofs.lemmas.Bool.Decides.{nat_tests}
 use Rattle.std.proofs.lemmas.Nat.{and_le_r}
 use Rattle.std.proofs.lemmas.Slice.Eq.{bytes_eq-Decides}
 use Rattle.vf_attr.specs.Access.{may}
+use Rattle.vf_attr.specs.Attributes.{are_same_attributes, attributes_of, with_attributes}
+use Rattle.vf_attr.specs.declared.attributes.Attributes.{Attributes}
 use Rattle.vf_attr.specs.declared.errors.AccessError.{AccessError}
 use Rattle.vf_attr.specs.declared.errors.AccessError.TheVariants as access_errors
 use Rattle.vf_attr.specs.declared.file.File.{File}
@@ -40,11 +42,12 @@ use Rattle.vf_pdu.specs.PduMeaning.{IsInRange}
 use Rattle.vf_pdu.specs.PduRows.{row_of}
 use Rattle.vf_pdu.specs.declared.pdu.Pdu.{Pdu}
 use Rattle.vf_pdu.specs.declared.pdu.Pdu.TheVariants.{InitializeRequest, InitializeResponse, TerminateRequest, ProviderAbort, SelectRequest, SelectResponse, DeselectRequest, CreateRequest, CreateResponse, OpenRequest, OpenResponse, CloseRequest, ReadRequest, WriteRequest, DataEnd, TransferEndRequest, TransferEndResponse}
+use Rattle.vf_files.specs.Delta.{change_of, change_where, delta}
 use Rattle.vf_files.specs.Diagnostics.{plain}
-use Rattle.vf_files.specs.Effects.{after_write, fitting, is_within_file, octets_row, only_unit, performed as write_performed, put_tree, put_unless, read_changes, read_ending, replacing, tree_after, version_row, write_ending}
-use Rattle.vf_files.specs.Files.{after_changes, file_named, with_file}
-use Rattle.vf_files.specs.Rows.{Given, Nothing, Refused, Showed, absent_row, access_row, action_row, count_row, created, created_unless, given_unless, includes, made, made_unless, modes, opened, opened_unless, read_given, read_of, refusal_of, replace_row, select_row, showing, tree_number, typed, unit_row, write_given, write_in, write_row}
-use Rattle.vf_files.specs.declared.changes.Change.{Change}
+use Rattle.vf_files.proofs.Deltas.{delta-with_file, found_itself}
+use Rattle.vf_files.specs.Effects.{after_read, after_write, fitting, is_within_file, octets_row, only_unit, performed as write_performed, put_tree, put_unless, read_changes, read_ending, replacing, tree_after, version_row, write_ending}
+use Rattle.vf_files.specs.Files.{after_changes, file_named, with_attributes_of, with_file}
+use Rattle.vf_files.specs.Rows.{Given, Nothing, Refused, Showed, absent_row, access_row, action_row, count_row, created, created_unless, given_unless, includes, made, made_unless, modes, opened, opened_unless, read_given, read_of, refusal_of, replace_row, select_row, showing, tree_diagnostic, typed, unit_row, write_given, write_in, write_row}
 use Rattle.vf_files.specs.declared.changes.Change.TheVariants.{PutFile}
 use Rattle.vf_files.specs.declared.creation.Created.{Created}
 use Rattle.vf_files.specs.declared.creation.Created.TheVariants as creations
@@ -52,10 +55,11 @@ use Rattle.vf_files.specs.declared.creation.NewFile.{NewFile}
 use Rattle.vf_files.specs.declared.ending.Ending.{Ending}
 use Rattle.vf_files.specs.declared.opening.Opened.{Opened}
 use Rattle.vf_files.specs.declared.opening.Opened.TheVariants as openings
-use Rattle.vf_tree.specs.Actions.{Done, replaced, replacement}
+use Rattle.vf_tree.specs.Actions.{Outcome, replaced, replacement}
 use Rattle.vf_tree.specs.Contexts.{shown}
+use Rattle.vf_tree.specs.Same.{are_same_units}
 use Rattle.vf_tree.specs.FileTree.{DataUnit, FileTree, new_file}
-use Rattle.vf_tree.specs.declared.errors.TreeError.{TreeError}
+use Rattle.vf_tree.specs.TreeRefusal.{TreeRefusal}
 use Rattle.vf_regime.specs.Built.{is_built}
 use Rattle.vf_regime.specs.History.{History, Move, Reads, Writes, Transfer, agreed, association, data_end, done, mode, position, selection, stage, survivors, transfer, transfers}
 use Rattle.vf_regime.specs.Sayable.{CanServe, GoesOnServing, IsConcluded, IsGiven, IsSayable, IsServable, IsTold, NextCanServe, SaidIsSayable}
@@ -66,19 +70,16 @@ use Rattle.vf_regime.proofs.Strings.{AreStrings, AreUnits, IsShown, ShowsGood, s
 abbrev AreServable : List File → Type 0
 AreServable files = AllByRecursion IsServable files
 
-abbrev pub IsNumber : ℕ → Type 0
-IsNumber number = IsTold (plain number)
+abbrev pub IsRow : Option Diagnostic → Type 0
+IsRow row = IfSome row IsTold
 
-abbrev pub IsRow : Option ℕ → Type 0
-IsRow row = IfSome row IsNumber
-
-or_row : (first later : Option ℕ) → IsRow first → IsRow later → IsRow (option_or first later)
+or_row : (first later : Option Diagnostic) → IsRow first → IsRow later → IsRow (option_or first later)
 or_row None later a b = b
-or_row (Some number) later a b = a
+or_row (Some diagnostic) later a b = a
 
-row_if : (b : Bool) (number : ℕ) → IsNumber number → IsRow (if b then None else Some number)
-row_if true number is = tt
-row_if false number is = is
+row_if : (b : Bool) (diagnostic : Diagnostic) → IsTold diagnostic → IsRow (if b then None else Some diagnostic)
+row_if true diagnostic is = tt
+row_if false diagnostic is = is
 
 -- ---- conjunctions
 
@@ -200,12 +201,32 @@ put_good file (other ∷ files) is good = by (pointwise nat_eq file.name other.n
     by true rest = (is, good.1)
     by false rest = (good.0, rest)
 
-abbrev pub IsGoodChange : Change → Type 0
-IsGoodChange (PutFile file) = IsServable file
+attributes_good : (name : List ℕ) (attributes : Attributes) (doc : DocType) (files : List File) → doc_type attributes.contents ≡ Some doc
+    → AreServable files → AreServable (with_attributes_of name attributes files)
+attributes_good name attributes doc [] typed good = tt
+attributes_good name attributes doc (file ∷ files) typed good =
+    by (pointwise nat_eq name file.name) (attributes_good name attributes doc files typed good.1)
+  where
+    by : (b : Bool) → AreServable (with_attributes_of name attributes files)
+        → AreServable (if b then with_attributes attributes file ∷ files else file ∷ with_attributes_of name attributes files)
+    by true rest = (record { doc = doc; typed = typed; strings = good.0.strings }, good.1)
+    by false rest = (good.0, rest)
 
-changes_good : (changes : List Change) (files : List File) → AllByRecursion IsGoodChange changes → AreServable files → AreServable (after_changes changes files)
-changes_good [] files all good = good
-changes_good (PutFile file ∷ changes) files all good = changes_good changes (with_file file files) all.1 (put_good file files all.0 good)
+change_good : (before after : File) (files : List File) → IsServable after → AreServable files
+    → AreServable (after_changes (change_of before after) files)
+change_good before after files is good =
+    by (are_same_units before.tree.units after.tree.units) (are_same_attributes (attributes_of before) (attributes_of after))
+  where
+    by : (units attributes : Bool) → AreServable (after_changes (change_where units attributes before after) files)
+    by false attributes = put_good after files is good
+    by true false = attributes_good before.name (attributes_of after) is.doc files is.typed good
+    by true true = good
+
+-- the changes by which a file stands in the place of another leave files that can be served
+delta_good : (before after : File) (files : List File) → file_named after.name files ≡ Some before → IsServable after → AreServable files
+    → AreServable (after_changes (delta files (with_file after files)) files)
+delta_good before after files found is good =
+    subst (λ changes. AreServable (after_changes changes files)) (sym (delta-with_file before after files found)) (change_good before after files is good)
 
 -- ---- F-SELECT, F-CREATE and F-OPEN
 
@@ -223,7 +244,7 @@ abbrev pub IsGoodCreated : Created → Type 0
 IsGoodCreated (creations.Refused diagnostic) = IsTold diagnostic
 IsGoodCreated (creations.Made file) = IsServable file
 
-made_good : (row : Option ℕ) (file : File) → IsRow row → IsServable file → IsGoodCreated (made_unless row file)
+made_good : (row : Option Diagnostic) (file : File) → IsRow row → IsServable file → IsGoodCreated (made_unless row file)
 made_good None file told is = is
 made_good (Some number) file told is = told
 
@@ -250,7 +271,7 @@ created_good files units stamp given actions wanted =
     absent None = tt
     absent (Some file) = refl
 
-    by : (row : Option ℕ) → IsRow row → IsGoodCreated (created_unless row files stamp given actions wanted)
+    by : (row : Option Diagnostic) → IsRow row → IsGoodCreated (created_unless row files stamp given actions wanted)
     by None told = typed_good (doc_type wanted.contents) files stamp given actions wanted refl
     by (Some number) told = told
 
@@ -262,14 +283,14 @@ opened_good : (file : Option File) (actions : Actions) (mode : ℕ) → IfSome f
 opened_good None actions mode good = refl
 opened_good (Some file) actions mode good = by (includes actions.value mode) (includes (modes file.tree.constraint) mode)
   where
-    by : (a b : Bool) → IsGoodOpened (opened_unless (if not a then Some 13 else if not b then Some 18 else None) file.contents)
+    by : (a b : Bool) → IsGoodOpened (opened_unless (if not a then Some (plain 13) else if not b then Some (plain 18) else None) file.contents)
     by true true = contents_told file.contents good.doc good.typed
     by true false = refl
     by false b = refl
 
 -- ---- transfers
 
-given_good : (row : Option ℕ) (given : Given) → IsRow row → IsGiven given → IsGiven (given_unless row given)
+given_good : (row : Option Diagnostic) (given : Given) → IsRow row → IsGiven given → IsGiven (given_unless row given)
 given_good None given told is = is
 given_good (Some number) given told is = told
 
@@ -279,11 +300,11 @@ IsRead Nothing = Unit {0}
 IsRead (Refused diagnostic) = IsTold diagnostic
 IsRead (Showed version elements position) = AllByRecursion IsShown elements
 
-read_unless : (row : Option ℕ) (given : Given) → IsRow row → IsRead given → IsRead (given_unless row given)
+read_unless : (row : Option Diagnostic) (given : Given) → IsRow row → IsRead given → IsRead (given_unless row given)
 read_unless None given told is = is
 read_unless (Some number) given told is = told
 
-showing_good : (version : ℕ) (answer : Result (List Element × ℕ) TreeError) → ShowsGood answer → IsRead (showing version answer)
+showing_good : (version : ℕ) (answer : Result (List Element × ℕ) TreeRefusal) → ShowsGood answer → IsRead (showing version answer)
 showing_good version (Ok answer) good = good
 showing_good version (Err error) good = good
 
@@ -297,17 +318,17 @@ read_good file units mode position fadu context good = read_unless (unit_row uni
         (showing_good file.version _ (shown_good file.tree position fadu context good.strings))
 
 -- a replacement, and why it is none
-abbrev pub IsGoodDone : Result Done TreeError → Type 0
-IsGoodDone (Ok done) = AllByRecursion AreStrings done.tree.units
-IsGoodDone (Err error) = IsNumber (tree_number error)
+abbrev pub IsGoodOutcome : Result Outcome TreeRefusal → Type 0
+IsGoodOutcome (Ok outcome) = AllByRecursion AreStrings outcome.tree.units
+IsGoodOutcome (Err refusal) = IsTold (tree_diagnostic refusal)
 
-replacement_good : (constraint : Constraint) (units : List DataUnit) (fadu : FaduId) (unit : DataUnit) → AreStrings unit → IsGoodDone (replacement constraint units fadu unit)
+replacement_good : (constraint : Constraint) (units : List DataUnit) (fadu : FaduId) (unit : DataUnit) → AreStrings unit → IsGoodOutcome (replacement constraint units fadu unit)
 replacement_good Unstructured units Begin unit good = (good, tt)
 replacement_good Unstructured units First unit good = (good, tt)
 replacement_good Unstructured units _ unit good = refl
 replacement_good SequentialFlat units fadu unit good = refl
 
-replace_told : (answer : Result Done TreeError) → IsGoodDone answer → IsRow (replace_row answer)
+replace_told : (answer : Result Outcome TreeRefusal) → IsGoodOutcome answer → IsRow (replace_row answer)
 replace_told (Ok done) good = tt
 replace_told (Err error) good = good
 
@@ -319,14 +340,14 @@ write_good file units mode fadu = given_good (write_row file units mode fadu) No
     by (Some file) = or_row (action_row mode 4) (replace_row (replaced file.tree fadu [])) (row_if _ _ refl)
         (replace_told (replaced file.tree fadu []) (replacement_good file.tree.constraint file.tree.units fadu [] tt))
 
-abbrev pub IsGoodTree : Result FileTree ℕ → Type 0
+abbrev pub IsGoodTree : Result FileTree Diagnostic → Type 0
 IsGoodTree (Ok tree) = AllByRecursion AreStrings tree.units
-IsGoodTree (Err number) = IsNumber number
+IsGoodTree (Err diagnostic) = IsTold diagnostic
 
-fitting_good : (answer : Result Done TreeError) → IsGoodDone answer → IsGoodTree (fitting answer)
+fitting_good : (answer : Result Outcome TreeRefusal) → IsGoodOutcome answer → IsGoodTree (fitting answer)
 fitting_good (Ok done) good = by (is_within_file done.tree.units)
   where
-    by : (b : Bool) → IsGoodTree (if b then Ok done.tree else Err 23)
+    by : (b : Bool) → IsGoodTree (if b then Ok done.tree else Err (plain 23))
     by true = good
     by false = refl
 fitting_good (Err error) good = good
@@ -346,45 +367,50 @@ tree_good contents doc e tree fadu values =
     subst (λ (o : Option DocType). IsGoodTree (tree_after o tree fadu values)) (sym e)
     (replacing_good (units doc values) tree fadu (units_good doc (doc_class contents doc e) values))
 
-pub record IsGoodEnding (ending : Ending) : Type 0 where
+pub record IsGoodEnding (files : List File) (ending : Ending) : Type 0 where
   pub told : IfSome ending.diagnostic IsTold
-  pub changes : AllByRecursion IsGoodChange ending.changes
+  pub changes : AreServable (after_changes ending.changes files)
 
-put_ending : (row : Option ℕ) (file : File) → IsRow row → IsServable file → IsGoodEnding (put_unless row file)
-put_ending None file told is = record { told = tt; changes = (is, tt) }
-put_ending (Some number) file told is = record { told = told; changes = tt }
+put_ending : (row : Option Diagnostic) (files : List File) (before after : File) → file_named after.name files ≡ Some before → IsRow row
+    → IsServable after → AreServable files → IsGoodEnding files (put_unless row files after)
+put_ending None files before after found told is good = record { told = tt; changes = delta_good before after files found is good }
+put_ending (Some diagnostic) files before after found told is good = record { told = told; changes = good }
 
-tree_ending : (files : List File) (stamp : Stamp) (file : File) → IsServable file → (answer : Result FileTree ℕ) → IsGoodTree answer
-    → IsGoodEnding (put_tree files stamp file answer)
-tree_ending files stamp file is (Err number) good = record { told = good; changes = tt }
-tree_ending files stamp file is (Ok tree) good =
+tree_ending : (files : List File) (stamp : Stamp) (file : File) → file_named file.name files ≡ Some file → IsServable file → AreServable files
+    → (answer : Result FileTree Diagnostic) → IsGoodTree answer → IsGoodEnding files (put_tree files stamp file answer)
+tree_ending files stamp file found is good (Err diagnostic) told = record { told = told; changes = good }
+tree_ending files stamp file found is good (Ok tree) strings =
     let after : File = after_write file stamp tree in
-    put_ending (option_or (version_row file.version) (octets_row (with_file after files))) after
+    put_ending (option_or (version_row file.version) (octets_row (with_file after files))) files file after found
     (or_row (version_row file.version) (octets_row (with_file after files)) (row_if _ _ refl) (row_if _ _ refl))
-    (record { doc = is.doc; typed = is.typed; strings = good })
+    (record { doc = is.doc; typed = is.typed; strings = strings }) good
 
-performed_ending : (files : List File) (stamp : Stamp) (file : Option File) (fadu : FaduId) (values : List Element) → IfSome file IsServable
-    → IsGoodEnding (write_performed files stamp file fadu values)
-performed_ending files stamp None fadu values good = record { told = refl; changes = tt }
-performed_ending files stamp (Some file) fadu values good =
-    tree_ending files stamp file good (tree_after (doc_type file.contents) file.tree fadu values)
-    (tree_good file.contents good.doc good.typed file.tree fadu values)
+performed_ending : (files : List File) (stamp : Stamp) (name : List ℕ) (found : Option File) (fadu : FaduId) (values : List Element)
+    → file_named name files ≡ found → AreServable files → IfSome found IsServable → IsGoodEnding files (write_performed files stamp found fadu values)
+performed_ending files stamp name None fadu values is good served = record { told = refl; changes = good }
+performed_ending files stamp name (Some file) fadu values is good served =
+    tree_ending files stamp file (found_itself name files file is) served good (tree_after (doc_type file.contents) file.tree fadu values)
+    (tree_good file.contents served.doc served.typed file.tree fadu values)
 
 write_ends : (files : List File) (stamp : Stamp) (name : List ℕ) (refused ended : Option Diagnostic) (fadu : FaduId) (values : List Element)
-    → AreServable files → IfSome refused IsTold → IsGoodEnding (write_ending files stamp name refused ended fadu values)
-write_ends files stamp name (Some diagnostic) ended fadu values good told = record { told = told; changes = tt }
-write_ends files stamp name None (Some diagnostic) fadu values good told = record { told = refl; changes = tt }
+    → AreServable files → IfSome refused IsTold → IsGoodEnding files (write_ending files stamp name refused ended fadu values)
+write_ends files stamp name (Some diagnostic) ended fadu values good told = record { told = told; changes = good }
+write_ends files stamp name None (Some diagnostic) fadu values good told = record { told = refl; changes = good }
 write_ends files stamp name None None fadu values good told =
-    performed_ending files stamp (file_named name files) fadu values (found_good name files good)
+    performed_ending files stamp name (file_named name files) fadu values refl good (found_good name files good)
 
-read_put : (stamp : Stamp) (file : Option File) → IfSome file IsServable → AllByRecursion IsGoodChange (read_changes stamp file)
-read_put stamp None good = tt
-read_put stamp (Some file) good = (record { doc = good.doc; typed = good.typed; strings = good.strings }, tt)
+read_put : (files : List File) (stamp : Stamp) (name : List ℕ) (found : Option File) → file_named name files ≡ found → AreServable files
+    → IfSome found IsServable → AreServable (after_changes (read_changes files stamp found) files)
+read_put files stamp name None is good served = good
+read_put files stamp name (Some file) is good served =
+    delta_good file (after_read file stamp) files (found_itself name files file is)
+    (record { doc = served.doc; typed = served.typed; strings = served.strings }) good
 
 read_ends : (files : List File) (stamp : Stamp) (name : List ℕ) (refused : Option Diagnostic) → AreServable files → IfSome refused IsTold
-    → IsGoodEnding (read_ending files stamp name refused)
-read_ends files stamp name (Some diagnostic) good told = record { told = told; changes = tt }
-read_ends files stamp name None good told = record { told = tt; changes = read_put stamp (file_named name files) (found_good name files good) }
+    → IsGoodEnding files (read_ending files stamp name refused)
+read_ends files stamp name (Some diagnostic) good told = record { told = told; changes = good }
+read_ends files stamp name None good told =
+    record { told = tt; changes = read_put files stamp name (file_named name files) refl good (found_good name files good) }
 
 refusal_told : (given : Given) → IsGiven given → IfSome (refusal_of given) IsTold
 refusal_told Nothing is = tt
@@ -415,47 +441,47 @@ transfer_good [] good = tt
 transfer_good (last ∷ earlier) good = transfer_given last.message last.given good.0 (transfer earlier) (transfer_good earlier good.1)
 
 ending_good : (found : Option Transfer) (files : List File) (stamp : Stamp) (name : List ℕ) (ended : Option Diagnostic) (values : List Element)
-    → IsGoodTransfer found → AreServable files → IsGoodEnding (ending_in found files stamp name ended values)
-ending_good None files stamp name ended values told good = record { told = tt; changes = tt }
+    → IsGoodTransfer found → AreServable files → IsGoodEnding files (ending_in found files stamp name ended values)
+ending_good None files stamp name ended values told good = record { told = tt; changes = good }
 ending_good (Some found) files stamp name ended values told good = by found.move
   where
-    by : (move : Move) → IsGoodEnding (ending_by move files stamp name (refusal_of found.given) ended values)
+    by : (move : Move) → IsGoodEnding files (ending_by move files stamp name (refusal_of found.given) ended values)
     by (Reads fadu context) = read_ends files stamp name (refusal_of found.given) good (refusal_told found.given told)
     by (Writes fadu) = write_ends files stamp name (refusal_of found.given) ended fadu values good (refusal_told found.given told)
 
 -- ---- what a message comes to
 
-pub record IsGood (consequence : Consequence) : Type 0 where
+pub record IsGood (files : List File) (consequence : Consequence) : Type 0 where
   pub said : AllByRecursion IsSayable consequence.said
-  pub changes : AllByRecursion IsGoodChange consequence.changes
+  pub changes : AreServable (after_changes consequence.changes files)
   pub party : IfSome consequence.party (λ (party : StandingParty). AreConcluded party.history)
 
-quiet : IsGood (leaves [])
-quiet = record { said = tt; changes = tt; party = tt }
+quiet : (files : List File) → AreServable files → IsGood files (leaves [])
+quiet files good = record { said = tt; changes = good; party = tt }
 
 module _ (state : State) (party : StandingParty) (moment : ℕ) (serves : CanServe state party) where
-  refuses_good : (message : Message) (response : Pdu) → IsInRange response → IsGood (refuses party message response)
-  refuses_good message response told = record { said = (told, tt); changes = tt; party = serves.history }
+  refuses_good : (message : Message) (response : Pdu) → IsInRange response → IsGood state.files (refuses party message response)
+  refuses_good message response told = record { said = (told, tt); changes = serves.files; party = serves.history }
 
   concludes_good : (message : Message) (said : List Said) (changes : List Change) (given : Given) → AllByRecursion IsSayable said
-      → AllByRecursion IsGoodChange changes → IsGiven given → IsGood (concludes state party moment message said changes given)
+      → AreServable (after_changes changes state.files) → IsGiven given → IsGood state.files (concludes state party moment message said changes given)
   concludes_good message said changes given told good is = record { said = told; changes = good; party = (is, serves.history) }
 
-  selects_good : (message : Message) (row : Option ℕ) → IsRow row → IsGood (selected_by row state party moment message)
+  selects_good : (message : Message) (row : Option Diagnostic) → IsRow row → IsGood state.files (selected_by row state party moment message)
   unfolding row_of
-  selects_good message None told = concludes_good message _ [] Nothing (refl, tt) tt tt
-  selects_good message (Some number) told = refuses_good message _ (select_told (plain number) told)
+  selects_good message None told = concludes_good message _ [] Nothing (refl, tt) serves.files tt
+  selects_good message (Some diagnostic) told = refuses_good message _ (select_told diagnostic told)
 
-  creates_good : (message : Message) (made : Created) → IsGoodCreated made → IsGood (created_by made state party moment message)
+  creates_good : (message : Message) (made : Created) → IsGoodCreated made → IsGood state.files (created_by made state party moment message)
   unfolding row_of
   creates_good message (creations.Refused diagnostic) told = refuses_good message _ (create_told diagnostic told)
-  creates_good message (creations.Made file) is = concludes_good message _ (PutFile file ∷ []) Nothing (refl, tt) (is, tt) tt
+  creates_good message (creations.Made file) is = concludes_good message _ (PutFile file ∷ []) Nothing (refl, tt) (put_good file state.files is serves.files) tt
 
-  opens_good : (message : Message) (found : Opened) → IsGoodOpened found → IsGood (opened_by found state party moment message)
+  opens_good : (message : Message) (found : Opened) → IsGoodOpened found → IsGood state.files (opened_by found state party moment message)
   opens_good message (openings.Refused diagnostic) told = refuses_good message _ (open_told diagnostic told)
-  opens_good message (openings.Contents contents) told = concludes_good message _ [] Nothing (told, tt) tt tt
+  opens_good message (openings.Contents contents) told = concludes_good message _ [] Nothing (told, tt) serves.files tt
 
-  ends_good : (message : Message) (ending : Ending) → IsGoodEnding ending → IsGood (ended_by ending state party moment message)
+  ends_good : (message : Message) (ending : Ending) → IsGoodEnding state.files ending → IsGood state.files (ended_by ending state party moment message)
   ends_good message ending good =
       concludes_good message _ ending.changes (given_by ending.diagnostic) (end_told ending.diagnostic good.told, tt) good.changes (given_told ending.diagnostic good.told)
 
@@ -463,11 +489,11 @@ module _ (state : State) (party : StandingParty) (moment : ℕ) (serves : CanSer
   shown_said [] good = (data_told None tt, tt)
   shown_said (element ∷ elements) good = (good.0, shown_said elements good.1)
 
-  reads_good : (message : Message) (given : Given) → IsRead given → IsGood (read_by given state party moment message)
-  reads_good message Nothing is = concludes_good message [] [] Nothing tt tt tt
-  reads_good message (Refused diagnostic) is = concludes_good message _ [] (Refused diagnostic) (data_told (Some diagnostic) is, tt) tt is
+  reads_good : (message : Message) (given : Given) → IsRead given → IsGood state.files (read_by given state party moment message)
+  reads_good message Nothing is = concludes_good message [] [] Nothing tt serves.files tt
+  reads_good message (Refused diagnostic) is = concludes_good message _ [] (Refused diagnostic) (data_told (Some diagnostic) is, tt) serves.files is
   reads_good message (Showed version elements position) is =
-      concludes_good message _ [] (Showed version elements position) (shown_said elements is) tt tt
+      concludes_good message _ [] (Showed version elements position) (shown_said elements is) serves.files tt
 
   -- the window that is proposed is 1 so far
   window_said : (units window : ℕ) → nat_eq window 1 ≡ true → IsInRange (InitializeResponse None (agreed units) (min window 16))
@@ -477,16 +503,16 @@ module _ (state : State) (party : StandingParty) (moment : ℕ) (serves : CanSer
       subst (λ (w : ℕ). IsInRange (InitializeResponse None (agreed units) (min w 16))) (sym one)
       (ands (nat_le 0 (agreed units) && nat_le (agreed units) 65535) true (between 0 65535 (agreed units) (omega arith) (omega (arith, and_le_r units 15))) refl)
 
-  requested_good : (request : Pdu) → is_built (messages.Pdu request) ≡ true → IsGood (requested state party moment request)
+  requested_good : (request : Pdu) → is_built (messages.Pdu request) ≡ true → IsGood state.files (requested state party moment request)
   unfolding row_of
   requested_good (InitializeRequest units identity password window) e =
       let one : nat_eq window 1 ≡ true = (and_parts (nat_eq units 15 && is_none identity && is_none password) (nat_eq window 1) e).1 in
-      concludes_good (messages.Pdu (InitializeRequest units identity password window)) _ [] Nothing (window_said units window one, tt) tt tt
-  requested_good TerminateRequest e = record { said = (refl, tt); changes = tt; party = tt }
+      concludes_good (messages.Pdu (InitializeRequest units identity password window)) _ [] Nothing (window_said units window one, tt) serves.files tt
+  requested_good TerminateRequest e = record { said = (refl, tt); changes = serves.files; party = tt }
   requested_good (SelectRequest name actions controls password) e =
       selects_good (messages.Pdu (SelectRequest name actions controls password)) _
       (select_good (file_named name state.files) (identity_in (association party.history)) password actions)
-  requested_good DeselectRequest e = concludes_good (messages.Pdu DeselectRequest) _ [] Nothing (refl, tt) tt tt
+  requested_good DeselectRequest e = concludes_good (messages.Pdu DeselectRequest) _ [] Nothing (refl, tt) serves.files tt
   requested_good (CreateRequest over name contents permitted terms actions controls password) e =
       creates_good (messages.Pdu (CreateRequest over name contents permitted terms actions controls password)) _
       (created_good state.files (units_in (association party.history)) (stamp_of (association party.history) moment) password actions
@@ -495,28 +521,28 @@ module _ (state : State) (party : StandingParty) (moment : ℕ) (serves : CanSer
       opens_good (messages.Pdu (OpenRequest mode contents controls activity)) _
       (opened_good (file_named (file_in (selection party.history)) state.files) (requested_in (selection party.history)) mode
       (found_good (file_in (selection party.history)) state.files serves.files))
-  requested_good CloseRequest e = concludes_good (messages.Pdu CloseRequest) _ [] Nothing (refl, tt) tt tt
+  requested_good CloseRequest e = concludes_good (messages.Pdu CloseRequest) _ [] Nothing (refl, tt) serves.files tt
   requested_good (ReadRequest fadu context) e =
       reads_good (messages.Pdu (ReadRequest fadu context)) _
       (read_good (file_named (file_in (selection party.history)) state.files) (units_in (association party.history)) (mode_in (mode party.history)) (position party.history) fadu context
       (found_good (file_in (selection party.history)) state.files serves.files))
   requested_good (WriteRequest operation fadu) e =
-      concludes_good (messages.Pdu (WriteRequest operation fadu)) [] [] _ tt tt
+      concludes_good (messages.Pdu (WriteRequest operation fadu)) [] [] _ tt serves.files
       (write_good (file_named (file_in (selection party.history)) state.files) (units_in (association party.history)) (mode_in (mode party.history)) fadu)
-  requested_good (DataEnd diagnostic) e = concludes_good (messages.Pdu (DataEnd diagnostic)) [] [] Nothing tt tt tt
+  requested_good (DataEnd diagnostic) e = concludes_good (messages.Pdu (DataEnd diagnostic)) [] [] Nothing tt serves.files tt
   requested_good TransferEndRequest e =
       ends_good (messages.Pdu TransferEndRequest) _
       (ending_good (transfer party.history) state.files (stamp_of (association party.history) moment) (file_in (selection party.history)) (joined (data_end party.history)) (survivors party.history)
       (transfer_good party.history serves.history) serves.files)
-  requested_good _ e = quiet
+  requested_good _ e = quiet state.files serves.files
 
-  performed_good : (message : Message) → is_built message ≡ true → IsGood (performed state party moment message)
+  performed_good : (message : Message) → is_built message ≡ true → IsGood state.files (performed state party moment message)
   performed_good (messages.Pdu request) e = requested_good request e
-  performed_good (messages.Element element) e = concludes_good (messages.Element element) [] [] Nothing tt tt tt
-  performed_good _ e = quiet
+  performed_good (messages.Element element) e = concludes_good (messages.Element element) [] [] Nothing tt serves.files tt
+  performed_good _ e = quiet state.files serves.files
 
-  aborts_good : (number : ℕ) → IsInRange (ProviderAbort number 0) → IsGood (aborts number)
-  aborts_good number told = record { said = (told, tt); changes = tt; party = tt }
+  aborts_good : (number : ℕ) → IsInRange (ProviderAbort number 0) → IsGood state.files (aborts number)
+  aborts_good number told = record { said = (told, tt); changes = serves.files; party = tt }
 
   limit_told : (values : List Element) (done : ℕ) (message : Message) → IfSome (limit values done message) (λ number. IsInRange (ProviderAbort number 0))
   unfolding row_of
@@ -538,17 +564,17 @@ module _ (state : State) (party : StandingParty) (moment : ℕ) (serves : CanSer
   limit_told values done (messages.Pdu _) = tt
   limit_told values done _ = tt
 
-  unless_good : (row : Option ℕ) (consequence : Consequence) → IfSome row (λ number. IsInRange (ProviderAbort number 0)) → IsGood consequence
-      → IsGood (unless_aborted row consequence)
+  unless_good : (row : Option ℕ) (consequence : Consequence) → IfSome row (λ number. IsInRange (ProviderAbort number 0)) → IsGood state.files consequence
+      → IsGood state.files (unless_aborted row consequence)
   unless_good None consequence told good = good
   unless_good (Some number) consequence told good = aborts_good number told
 
-  pub transition_good : (message : Message) → IsGood (transition state party moment message)
+  pub transition_good : (message : Message) → IsGood state.files (transition state party moment message)
   unfolding row_of
   transition_good message = by (is_built message) refl (takes (stage party.history) message)
     where
       by : (built : Bool) → is_built message ≡ built → (placed : Bool)
-          → IsGood (if not built then aborts not_built else if not placed then aborts wrong_state else taken state party moment message)
+          → IsGood state.files (if not built then aborts not_built else if not placed then aborts wrong_state else taken state party moment message)
       by false e placed = aborts_good not_built refl
       by true e false = aborts_good wrong_state refl
       by true e true =
@@ -561,11 +587,11 @@ said_is_sayable state party moment message serves = (transition_good state party
 pub goes_on_serving : GoesOnServing
 goes_on_serving state party moment link message serves = by (transition state party moment message) (transition_good state party moment serves message)
   where
-    by : (consequence : Consequence) → IsGood consequence → NextCanServe (after_transition state link consequence) consequence.party
+    by : (consequence : Consequence) → IsGood state.files consequence → NextCanServe (after_transition state link consequence) consequence.party
     by consequence good = next consequence.party good.party
       where
         files : AreServable (after_changes consequence.changes state.files)
-        files = changes_good consequence.changes state.files good.changes serves.files
+        files = good.changes
 
         next : (found : Option StandingParty) → IfSome found (λ (party : StandingParty). AreConcluded party.history)
             → NextCanServe (after_transition state link consequence) found

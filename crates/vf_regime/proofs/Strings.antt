@@ -25,11 +25,10 @@ use Rattle.vf_elements.specs.Sizes.{IsShort}
 use Rattle.vf_tree.specs.Contexts.{described, descriptor, one, reading, reading_flat, reading_one, reading_whole, shown, takes as takes_context, unit_there, whole}
 use Rattle.vf_tree.specs.Identities.{meant, standing}
 use Rattle.vf_tree.specs.FileTree.{DataUnit, FileTree, strings}
-use Rattle.vf_tree.specs.declared.errors.TreeError.{TreeError}
-use Rattle.vf_tree.specs.declared.errors.TreeError.TheVariants as tree_errors
-use Rattle.vf_files.specs.Diagnostics.{plain}
-use Rattle.vf_files.specs.Effects.{element_number}
-use Rattle.vf_files.specs.Rows.{tree_number}
+use Rattle.vf_tree.specs.TreeRefusal as refusals
+use Rattle.vf_tree.specs.TreeRefusal.{TreeRefusal}
+use Rattle.vf_files.specs.Effects.{element_diagnostic}
+use Rattle.vf_files.specs.Rows.{tree_diagnostic}
 use Rattle.vf_regime.specs.Sayable.{IsString, IsTold}
 
 abbrev pub AreStrings : List Element → Type 0
@@ -134,7 +133,7 @@ units_by doc Ftam3 is known values e = (all_strings doc known (ap takes_descript
 
 -- the faults of values, by their numbers
 abbrev pub IsFaultTold : DocError → Type 0
-IsFaultTold error = IsTold (plain (element_number error))
+IsFaultTold error = IsTold (element_diagnostic error)
 
 abbrev pub AreUnits : Result (List (List Element)) DocError → Type 0
 AreUnits (Ok units) = AllByRecursion AreStrings units
@@ -219,9 +218,9 @@ one_shown FA unit good = (descriptor_shown true, strings_shown unit good)
 one_shown UA unit good = strings_shown unit good
 one_shown US unit good = strings_shown unit good
 
-abbrev pub ShowsGood : Result (List Element × ℕ) TreeError → Type 0
+abbrev pub ShowsGood : Result (List Element × ℕ) TreeRefusal → Type 0
 ShowsGood (Ok given) = AllByRecursion IsShown given.0
-ShowsGood (Err error) = IsTold (plain (tree_number error))
+ShowsGood (Err error) = IsTold (tree_diagnostic error)
 
 got : (units : List DataUnit) (place : ℕ) → AllByRecursion AreStrings units → IfSome (slice_get units place) AreStrings
 got [] place good = tt
@@ -261,6 +260,6 @@ reads_by SequentialFlat units p id context good = reads_flat units (standing (le
 pub shown_good : (tree : FileTree) (p : ℕ) (id : FaduId) (context : Context) → AllByRecursion AreStrings tree.units → ShowsGood (shown tree p id context)
 shown_good tree p id context good = by (takes_context tree.constraint context)
   where
-    by : (b : Bool) → ShowsGood (if b then reading tree.constraint tree.units p id context else Err tree_errors.BadContext)
+    by : (b : Bool) → ShowsGood (if b then reading tree.constraint tree.units p id context else Err refusals.BadContext)
     by true = reads_by tree.constraint tree.units p id context good
     by false = refl

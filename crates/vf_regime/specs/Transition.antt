@@ -11,7 +11,6 @@ use Rattle.vf_elements.specs.declared.message.Said.{Said}
 use Rattle.vf_elements.specs.declared.message.Said.TheVariants as answers
 use Rattle.vf_pdu.specs.declared.pdu.Pdu.{Pdu}
 use Rattle.vf_pdu.specs.declared.pdu.Pdu.TheVariants.{InitializeRequest, InitializeResponse, TerminateRequest, TerminateResponse, SelectRequest, SelectResponse, DeselectRequest, DeselectResponse, CreateRequest, CreateResponse, OpenRequest, OpenResponse, CloseRequest, CloseResponse, ReadRequest, WriteRequest, DataEnd, TransferEndRequest, TransferEndResponse}
-use Rattle.vf_files.specs.Diagnostics.{plain}
 use Rattle.vf_files.specs.Effects.{read_ending, write_ending}
 use Rattle.vf_files.specs.Files.{after_changes, file_named}
 use Rattle.vf_files.specs.Rows.{Given, Nothing, Refused, Showed, created, opened, read_given, refusal_of, select_row, write_given}
@@ -121,8 +120,8 @@ abbrev pub stamp_of : Option Association → (moment : ℕ) → Stamp
 stamp_of association moment = record { moment = moment; identity = identity_in association }
 
 -- F-SELECT
-abbrev pub selected_by : Option ℕ → State → StandingParty → (moment : ℕ) → Message → Consequence
-selected_by (Some number) state party moment message = refuses party message (SelectResponse (Some (plain number)))
+abbrev pub selected_by : Option Diagnostic → State → StandingParty → (moment : ℕ) → Message → Consequence
+selected_by (Some diagnostic) state party moment message = refuses party message (SelectResponse (Some diagnostic))
 selected_by None state party moment message =
     concludes state party moment message (answers.Pdu (SelectResponse None) ∷ []) [] Nothing
 

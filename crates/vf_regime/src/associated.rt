@@ -12,7 +12,7 @@ use crate::step::one_said;
 use crate::{Change, Changes, File, Said, Selected, Stamp, Step, StepError, Tables};
 use std::alloc::Global;
 use vf_base::{Moment, Name, NoMemory};
-use vf_files::{Created, NewFile, create, plain, refused_select};
+use vf_files::{Created, NewFile, create, refused_select};
 use vf_pdu::Pdu;
 
 /// A party with an association and no selected file.
@@ -52,14 +52,14 @@ impl Associated {
         else {
             unreachable!()
         };
-        if let Some(number) = refused_select(
+        if let Some(diagnostic) = refused_select(
             &tables.files,
             &self.identity,
             &name,
             password.as_ref(),
             requested,
         ) {
-            return Err((self, StepError::Refused(plain(number))));
+            return Err((self, StepError::Refused(diagnostic)));
         }
         let Ok(said) = one_said(alloc, Said::Pdu(Pdu::SelectResponse { diagnostic: None })) else {
             return Err((self, StepError::NoMemory));

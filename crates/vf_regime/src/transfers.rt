@@ -5,14 +5,14 @@ ghost use Rattle.vf_pdu.specs.declared.pdu.Pdu.TheVariants as pdus;
 ghost use Rattle.vf_files.specs.Files.{file_named};
 ghost use Rattle.vf_files.specs.Readings.{given_of};
 ghost use Rattle.vf_files.specs.Rows.{refusal_of, write_row};
-ghost use Rattle.vf_regime.specs.Transfers.{position_after, refused_by};
+ghost use Rattle.vf_regime.specs.Transfers.{position_after};
 ghost use Rattle.vf_regime.specs.Transition.{read_said};
 ghost use Rattle.vf_transfer.specs.Checks.{RepresentsReceived};
 
 use crate::{Open, Said, Tables, Write};
 use std::alloc::Global;
 use vf_base::{Diagnostic, Element, FaduId, NoMemory};
-use vf_files::{Reading, plain, refused_write};
+use vf_files::{Reading, refused_write};
 use vf_pdu::Pdu;
 use vf_transfer::Receiving;
 
@@ -78,10 +78,10 @@ pub(crate) fn start(alloc: Global, tables: &Tables, opened: &Open, fadu: FaduId)
     ensures octets { result.octets ≡ 0 }
     ensures fadu { result.fadu ≡ fadu }
     ensures ended { result.ended ≡ None }
-    ensures refused { result.refused ≡ refused_by (write_row (file_named opened.now.selected.file tables.now.files) opened.now.selected.associated.units opened.now.mode fadu) }
+    ensures refused { result.refused ≡ write_row (file_named opened.now.selected.file tables.now.files) opened.now.selected.associated.units opened.now.mode fadu }
 {
     let selected = &opened.selected;
-    let number = refused_write(
+    let refused = refused_write(
         &tables.files,
         &selected.file,
         selected.associated.units,
@@ -92,17 +92,7 @@ pub(crate) fn start(alloc: Global, tables: &Tables, opened: &Open, fadu: FaduId)
         receiving: Receiving::start(alloc, 0, 1),
         octets: 0,
         fadu,
-        refused: refused_with(number),
+        refused,
         ended: None,
-    }
-}
-
-/// The diagnostic of a number.
-fn refused_with(number: Option<u16>) -> Option<Diagnostic>
-    ensures { result ≡ refused_by number }
-{
-    match number {
-        Some(number) => Some(plain(number)),
-        None => None,
     }
 }

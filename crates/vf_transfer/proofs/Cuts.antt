@@ -39,14 +39,14 @@ mark_there zero closed within = refl
 mark_there (suc number) closed within = let there = count_there number 0 closed within in omega (arith, there)
 
 -- cutting so many values leaves those before the check
-pub cut_there : (number : ℕ) (closed : List (List Element)) (behind : List Element) → take (length (joined (take number closed))) (joined closed ++ behind) ≡ joined (take number closed)
-cut_there zero closed behind = refl
-cut_there (suc number) [] behind = refl
-cut_there (suc number) (values ∷ closed) behind =
-    rw (length-append values (joined (take number closed)), append_assoc values (joined closed) behind, take-append-add values (joined closed ++ behind) (length (joined (take number closed))))
-    (ap (λ rest. values ++ rest) (cut_there number closed behind))
+pub cut_there : (number : ℕ) (closed : List (List Element)) (after : List Element) → take (length (joined (take number closed))) (joined closed ++ after) ≡ joined (take number closed)
+cut_there zero closed after = refl
+cut_there (suc number) [] after = refl
+cut_there (suc number) (values ∷ closed) after =
+    rw (length-append values (joined (take number closed)), append_assoc values (joined closed) after, take-append-add values (joined closed ++ after) (length (joined (take number closed))))
+    (ap (λ rest. values ++ rest) (cut_there number closed after))
 
--- a cut behind another cut is the shorter one
+-- a cut after another cut is the shorter one
 pub take_least : {X : Type 0} (n m : ℕ) (xs : List X) → take (min n m) xs ≡ take n (take m xs)
 take_least zero m xs = let none : min 0 m ≡ 0 = omega arith in rw none refl
 take_least (suc n) zero xs = let none : min (suc n) 0 ≡ 0 = omega arith in rw none refl

@@ -1,11 +1,11 @@
 -- What the ends keep, as entries join the transfer.
-use Rattle.std.proofs.Common.{◌≡◌, ℕ, ◌+◌, ◌-◌, ◌≤◌, false, ◌||◌, nat_lt, min, List, [], ◌∷◌, ◌++◌, length, take, Some, slice_get, refl, sym, ap, ◌∙◌, arith, add-one}
+use Rattle.std.proofs.Common.{◌≡◌, ℕ, ◌+◌, ◌-◌, ◌≤◌, false, ◌||◌, nat_lt, min, max, List, [], ◌∷◌, ◌++◌, length, take, Some, slice_get, refl, sym, ap, subst, ◌∙◌, arith, add-one}
 use Rattle.std.proofs.lemmas.List.{append_assoc, append-nil, length-take-le}
 use Rattle.std.proofs.lemmas.Bool.{lt-ltb}
 use Rattle.std.proofs.lemmas.Option.{get_or_from_slice_get, slice_get_within}
 use Rattle.std.proofs.Math.Seq.{take-suc}
 use Rattle.vf_base.specs.declared.element.Element.{Element}
-use Rattle.vf_transfer.specs.Transfer.{Entry, Value, Check, Restart, standing, survivors, joined, counts_from, front, last_check}
+use Rattle.vf_transfer.specs.Transfer.{Entry, Value, Check, Acknowledgement, Restart, IsKnown, standing, survivors, joined, counts_from, front, last_check}
 use Rattle.vf_transfer.specs.Checks.{Checkpoints, Receiver, Sender, RepresentChecks, RepresentsReceived, RepresentsSent, before_check, cut_to, is_unknown, mark, offered, advanced}
 use Rattle.vf_transfer.proofs.Cuts.{joined_append, length_counts, counts_append, take_counts, mark_there, cut_there, take_least}
 
@@ -13,20 +13,54 @@ pub checks_check : (checks : Checkpoints) (entries : List Entry) (values : ℕ) 
 checks_check checks entries values same count =
     let left = standing checks.start entries in
     record {
-      marked = rw (same.marked, count) (sym (counts_append 0 left.closed left.behind ∙ ap (λ n. counts_from 0 left.closed ++ n ∷ []) (omega arith)));
+      marked = rw (same.marked, count) (sym (counts_append 0 left.closed left.after ∙ ap (λ n. counts_from 0 left.closed ++ n ∷ []) (omega arith)));
       acknowledged = same.acknowledged;
+      known = same.known;
     }
+
+pub offers_last : (checks : Checkpoints) (entries : List Entry) → RepresentChecks checks entries → offered checks ≡ last_check checks.start entries
+offers_last checks entries same =
+    ap (λ n. checks.start + n) (ap (λ (marks : List ℕ). length marks) same.marked ∙ length_counts 0 (standing checks.start entries).closed)
+
+between : (check start last : ℕ) → (nat_lt check start || nat_lt last check) ≡ false → (start ≤ check) × (check ≤ last)
+between check start last known = (grind arith, grind arith)
+
+-- a check that isn't unknown is one of the transfer
+pub is_known : (checks : Checkpoints) (entries : List Entry) (check : ℕ) → RepresentChecks checks entries → is_unknown check checks ≡ false → IsKnown checks.start entries check
+is_known checks entries check same known =
+    let stands = between check checks.start (offered checks) known in
+    (stands.0, subst (λ last. check ≤ last) (offers_last checks entries same) stands.1)
+
+checks_acknowledgement : (checks : Checkpoints) (entries : List Entry) (check : ℕ) → is_unknown check checks ≡ false → RepresentChecks checks entries
+    → RepresentChecks (record checks { acknowledged = max check checks.acknowledged }) (Acknowledgement check ∷ entries)
+checks_acknowledgement checks entries check known same =
+    record {
+      marked = same.marked;
+      acknowledged = ap (λ n. max check n) same.acknowledged;
+      known = (is_known checks entries check same known, same.known);
+    }
+
+pub received_acknowledgement : (receiver : Receiver) (entries : List Entry) (check : ℕ) → is_unknown check receiver.checks ≡ false → RepresentsReceived receiver entries
+    → RepresentsReceived (record receiver { checks = record receiver.checks { acknowledged = max check receiver.checks.acknowledged } }) (Acknowledgement check ∷ entries)
+received_acknowledgement receiver entries check known same =
+    record { checks = checks_acknowledgement receiver.checks entries check known same.checks; values = same.values }
+
+pub sent_acknowledgement : (sender : Sender) (entries : List Entry) (check : ℕ) → is_unknown check sender.checks ≡ false → RepresentsSent sender entries
+    → RepresentsSent (record sender { checks = record sender.checks { acknowledged = max check sender.checks.acknowledged } }) (Acknowledgement check ∷ entries)
+sent_acknowledgement sender entries check known same =
+    record { checks = checks_acknowledgement sender.checks entries check known same.checks; values = same.values }
 
 pub survivors_check : (start : ℕ) (entries : List Entry) → survivors start (Check ∷ entries) ≡ survivors start entries
 survivors_check start entries =
     let left = standing start entries in
-    append-nil (joined (left.closed ++ left.behind ∷ [])) ∙ joined_append left.closed (left.behind ∷ []) ∙ ap (λ behind. joined left.closed ++ behind) (append-nil left.behind)
+    append-nil (joined (left.closed ++ left.after ∷ [])) ∙ joined_append left.closed (left.after ∷ []) ∙ ap (λ after. joined left.closed ++ after) (append-nil left.after)
 
-pub checks_restart : (checks : Checkpoints) (entries : List Entry) (check : ℕ) → RepresentChecks checks entries → RepresentChecks (cut_to check checks) (Restart check ∷ entries)
-checks_restart checks entries check same =
+pub checks_restart : (checks : Checkpoints) (entries : List Entry) (check : ℕ) → is_unknown check checks ≡ false → RepresentChecks checks entries → RepresentChecks (cut_to check checks) (Restart check ∷ entries)
+checks_restart checks entries check known same =
     record {
       marked = rw same.marked (take_counts (check - checks.start) 0 (standing checks.start entries).closed);
       acknowledged = ap (λ n. min check n) same.acknowledged;
+      known = (is_known checks entries check same known, same.known);
     }
 
 -- a check that is known is one of those that stand
@@ -39,7 +73,7 @@ survivors_restart checks entries check same known =
     let number = check - checks.start in
     let within : number ≤ length left.closed = rw (← length_counts 0 left.closed, ← same.marked) (known_within check checks.start (length checks.marks) known) in
     let count : before_check check checks ≡ length (joined (take number left.closed)) = ap (mark number) same.marked ∙ mark_there number left.closed within in
-    append-nil (joined (take number left.closed)) ∙ sym (ap (λ n. take n (joined left.closed ++ left.behind)) count ∙ cut_there number left.closed left.behind)
+    append-nil (joined (take number left.closed)) ∙ sym (ap (λ n. take n (joined left.closed ++ left.after)) count ∙ cut_there number left.closed left.after)
 
 pub front_is : (checks : Checkpoints) (entries : List Entry) → RepresentChecks checks entries → checks.acknowledged ≤ offered checks → before_check checks.acknowledged checks ≡ length (front checks.start entries)
 front_is checks entries same within =
@@ -58,7 +92,7 @@ received_check receiver entries same =
 pub received_restart : (receiver : Receiver) (entries : List Entry) (check values : ℕ) → is_unknown check receiver.checks ≡ false → values ≡ before_check check receiver.checks → RepresentsReceived receiver entries → RepresentsReceived (record { checks = cut_to check receiver.checks; values = take values receiver.values }) (Restart check ∷ entries)
 received_restart receiver entries check values known count same =
     record {
-      checks = checks_restart receiver.checks entries check same.checks;
+      checks = checks_restart receiver.checks entries check known same.checks;
       values = rw (count, same.values) (sym (survivors_restart receiver.checks entries check same.checks known));
     }
 
@@ -72,7 +106,7 @@ sent_check sender entries within same =
 pub sent_restart : (sender : Sender) (entries : List Entry) (check values : ℕ) → is_unknown check sender.checks ≡ false → values ≡ before_check check sender.checks → RepresentsSent sender entries → RepresentsSent (record { checks = cut_to check sender.checks; elements = sender.elements; sent = min values sender.sent }) (Restart check ∷ entries)
 sent_restart sender entries check values known count same =
     record {
-      checks = checks_restart sender.checks entries check same.checks;
+      checks = checks_restart sender.checks entries check known same.checks;
       values = take_least values sender.sent sender.elements ∙ rw (count, same.values) (sym (survivors_restart sender.checks entries check same.checks known));
     }
 
@@ -83,10 +117,6 @@ sends_next sender element entries next same =
     let more : take (sender.sent + 1) sender.elements ≡ take sender.sent sender.elements ++ element ∷ [] =
     rw (add-one sender.sent, take-suc sender.elements sender.sent element within, get_or_from_slice_get sender.elements sender.sent element element next) refl in
     rw (lt-ltb sender.sent (length sender.elements) within) (record {
-      checks = record { marked = same.checks.marked; acknowledged = same.checks.acknowledged };
-      values = more ∙ ap (λ values. values ++ element ∷ []) same.values ∙ append_assoc (joined left.closed) left.behind (element ∷ []);
+      checks = record { marked = same.checks.marked; acknowledged = same.checks.acknowledged; known = same.checks.known };
+      values = more ∙ ap (λ values. values ++ element ∷ []) same.values ∙ append_assoc (joined left.closed) left.after (element ∷ []);
     })
-
-pub offers_last : (checks : Checkpoints) (entries : List Entry) → RepresentChecks checks entries → offered checks ≡ last_check checks.start entries
-offers_last checks entries same =
-    ap (λ n. checks.start + n) (ap (λ (marks : List ℕ). length marks) same.marked ∙ length_counts 0 (standing checks.start entries).closed)

@@ -2,7 +2,7 @@
 use Rattle.std.specs.Prelude.{◌≡◌, ℕ, zero, suc, ◌+◌, ◌-◌, Bool, ◌||◌, nat_lt, nat_le, min, List, take, length, if◌then◌else◌}
 use Rattle.std.specs.List.{slice_index}
 use Rattle.vf_base.specs.declared.element.Element.{Element}
-use Rattle.vf_transfer.specs.Transfer.{Entry, survivors, marks, point}
+use Rattle.vf_transfer.specs.Transfer.{Entry, NamesKnownChecks, survivors, marks, point}
 
 -- The checks from a point on: how many may be open at once, for each one how many values stand before it, and the
 -- last that is acknowledged.
@@ -32,7 +32,7 @@ mark (suc number) marks = slice_index marks number
 abbrev pub before_check : ℕ → Checkpoints → ℕ
 before_check check checks = mark (check - checks.start) checks.marks
 
--- the checks behind a restart
+-- the checks after a restart
 abbrev pub cut_to : ℕ → Checkpoints → Checkpoints
 cut_to check checks =
     record checks { marks = take (check - checks.start) checks.marks; acknowledged = min check checks.acknowledged }
@@ -44,6 +44,7 @@ KeepLimits old new = (new.start ≡ old.start) × (new.window ≡ old.window)
 pub record RepresentChecks (checks : Checkpoints) (entries : List Entry) : Type 0 where
   pub marked : checks.marks ≡ marks checks.start entries
   pub acknowledged : checks.acknowledged ≡ point checks.start entries
+  pub known : NamesKnownChecks checks.start entries
 
 -- an end that receives: its checks, and the values that stand
 pub record Receiver : Type 0 where
@@ -54,7 +55,7 @@ pub record RepresentsReceived (receiver : Receiver) (entries : List Entry) : Typ
   pub checks : RepresentChecks receiver.checks entries
   pub values : receiver.values ≡ survivors receiver.checks.start entries
 
--- an end that sends: its checks, all values behind the point, and how many of them stand as sent
+-- an end that sends: its checks, all values after the point, and how many of them stand as sent
 pub record Sender : Type 0 where
   pub checks : Checkpoints
   pub elements : List Element

@@ -55,7 +55,7 @@ impl Checks {
         self.window <= self.offered() - self.acknowledged
     }
 
-    /// Offers a check behind so many values, and answers its number.
+    /// Offers a check after so many values, and answers its number.
     pub(crate) fn offer(&mut self, values: usize) -> Result<u32, NoMemory>
         requires { last_check self.old < 4294967295 }
         ensures ok { OnOk result (self.new ≡ record self.old { marks = self.old.marks ++ values ∷ [] }) }
@@ -86,7 +86,7 @@ impl Checks {
         Ok(())
     }
 
-    /// Takes the checks behind this one away, and answers how many values stand before it.
+    /// Takes the checks after this one away, and answers how many values stand before it.
     pub(crate) fn restart(&mut self, check: u32) -> Result<usize, Unknown>
         ensures known { is_err result ≡ unknown check self.old }
         ensures ok { OnOk result (self.new ≡ cut_to check self.old) }

@@ -8,9 +8,6 @@ mod receiving;
 mod sending;
 
 pub use errors::{TransferError, Unknown};
-pub use laws::{last_is_offered, next_joins};
+pub use laws::{last_is_offered, next_joins, point_stands, recovers};
 pub use receiving::Receiving;
 pub use sending::Sending;
-
-#[cfg(test)]
-mod tests;

@@ -25,7 +25,7 @@ impl Model for Receiving {
 }
 
 impl Receiving {
-    /// Begins at a point: 0, or the check at which the transfer was recovered. The next check is the one behind it.
+    /// Begins at a point: 0, or the check at which the transfer was recovered. The next check is the one after it.
     /// At most `window` checks may be open.
     pub fn start(alloc: Global, point: u32, window: u32) -> Receiving
         ensures value { result ≡ record { checks = record { start = point; window = window; marks = []; acknowledged = point }; values = [] } }
@@ -78,7 +78,7 @@ impl Receiving {
         Ok(())
     }
 
-    /// Takes away the values and the checks behind this one, and what was acknowledged of these. `Unknown` as in
+    /// Takes away the values and the checks after this one, and what was acknowledged of these. `Unknown` as in
     /// `acknowledge`.
     pub fn restart(&mut self, point: u32) -> Result<(), Unknown>
         ensures ok { OnOk result ((entries : List Entry) → RepresentsReceived self.old entries → RepresentsReceived self.new (Restart point ∷ entries)) }

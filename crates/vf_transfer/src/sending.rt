@@ -8,7 +8,7 @@ use std::alloc::Global;
 use std::marker::Model;
 use vf_base::{Element, NoMemory};
 
-/// The end of a transfer that sends these elements, those behind the point at which it begins.
+/// The end of a transfer that sends these elements, those after the point at which it begins.
 #[derive(Drop)]
 pub struct Sending {
     checks: Checks,
@@ -34,7 +34,7 @@ impl Sending {
     ghost use Rattle.std.specs.Borrow.{sem};
     ghost use Rattle.vf_transfer.specs.Lending.{Advances};
 
-    /// Begins at a point: 0, or the check at which the transfer was recovered. The next check is the one behind it.
+    /// Begins at a point: 0, or the check at which the transfer was recovered. The next check is the one after it.
     /// At most `window` checks may be open.
     pub fn start(
         alloc: Global,
@@ -98,7 +98,7 @@ impl Sending {
         Ok(())
     }
 
-    /// Goes back to this check: the values behind it are sent again. `Unknown` as in `acknowledge`.
+    /// Goes back to this check: the values after it are sent again. `Unknown` as in `acknowledge`.
     pub fn restart(&mut self, point: u32) -> Result<(), Unknown>
         ensures ok { OnOk result ((entries : List Entry) → RepresentsSent self.old entries → RepresentsSent self.new (Restart point ∷ entries)) }
         ensures back { OnOk result (offered self.new.checks ≡ point) }

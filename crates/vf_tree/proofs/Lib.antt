@@ -1,2 +1,4 @@
+pub mod Acts
+pub mod EqualUnits
 pub mod Lists
 pub mod Sizes

@@ -1,4 +1,4 @@
--- What is shown of the units from a place on: the unit there, and what is shown of the units behind it.
+-- What is shown of the units from a place on: the unit there, and what is shown of the units after it.
 use Rattle.std.proofs.Common.{◌≡◌, ℕ, ◌+◌, ◌<◌, true, List, ◌∷◌, ◌++◌, length, get_or, drop, refl, add-one, drop-cons}
 use Rattle.vf_tree.specs.Contexts.{descriptor, described}
 use Rattle.vf_tree.specs.FileTree.{DataUnit, strings}

@@ -31,7 +31,7 @@ extended_octets units more = omega (arith, sum_by-append octets_of (strings unit
 pub extended_parts : (units : List DataUnit) (more : DataUnit) → length units ≡ 1 → parts_in ((strings units ++ more) ∷ []) ≡ parts_in units + length more
 extended_parts units more single = omega (arith, length-append (strings units) more, parts_strings units)
 
--- a sequential flat file behind which units are put
+-- a sequential flat file after which units are put
 pub inserted_octets : (units more : List DataUnit) → octets_in (units ++ more) ≡ octets_in units + octets_in more
 inserted_octets units more = sum_by-append octets_of_unit units more
 

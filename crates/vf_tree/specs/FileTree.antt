@@ -6,6 +6,7 @@ use Rattle.vf_base.specs.declared.access.Constraint.{Constraint}
 use Rattle.vf_base.specs.declared.access.Constraint.TheVariants.{Unstructured, SequentialFlat}
 use Rattle.vf_base.specs.declared.element.Element.{Element}
 use Rattle.vf_base.specs.declared.element.Element.TheVariants.{Text, Binary}
+use Rattle.vf_tree.specs.declared.limits.TheConstants.{MOST_FILE_OCTETS, MOST_FILE_PARTS}
 
 -- a data unit: its strings, in order
 abbrev pub DataUnit : Type 0
@@ -56,7 +57,7 @@ parts_in units = sum_by parts_of_unit units
 
 -- the limits of a file (profile)
 abbrev pub IsWithinFile : List DataUnit → Type 0
-IsWithinFile units = (octets_in units ≤ 16777216) × (parts_in units ≤ 262144)
+IsWithinFile units = (octets_in units ≤ MOST_FILE_OCTETS) × (parts_in units ≤ MOST_FILE_PARTS)
 
 abbrev pub IsFile : FileTree → Type 0
 IsFile tree = HasShape tree × IsWithinFile tree.units

@@ -3,11 +3,11 @@
 
 mod errors;
 mod limits;
+mod same;
 mod tree;
 mod units;
 
 pub use errors::TreeError;
+pub use limits::{MOST_FILE_OCTETS, MOST_FILE_PARTS};
 pub use tree::Tree;
-
-#[cfg(test)]
-mod tests;
+pub use units::octets_of;

@@ -1,5 +1,5 @@
-ghost use Rattle.std.specs.Prelude.{◌≡◌, ◌+◌, ◌≤◌, IfOk, length};
-ghost use Rattle.vf_tree.specs.FileTree.{IsFile, new_file, octets_in, parts_in};
+ghost use Rattle.std.specs.Prelude.{◌≡◌, IfOk};
+ghost use Rattle.vf_tree.specs.FileTree.{IsFile, new_file, octets_in};
 
 mod actions;
 mod identities;
@@ -11,9 +11,9 @@ use std::marker::Model;
 use std::rc::Rc;
 use vf_base::{Constraint, DataUnit, NoMemory, Sequence};
 
-/// A file within its limits: 16,777,216 octets of strings, and 262,144 strings and units together.
+/// A file within its limits, `MOST_FILE_OCTETS` and `MOST_FILE_PARTS`.
 ///
-/// The units stand behind one pointer, which trees that are equal may share, and their strings are shared octets.
+/// The units are kept under one pointer, which trees that are equal may share, and their strings are shared octets.
 /// An action makes a new list of units, so a tree that shared the old one stays as it was.
 #[derive(Drop)]
 pub struct Tree {
@@ -97,12 +97,5 @@ impl Tree {
         ensures { result ≡ octets_in self.now.units }
     {
         self.octets
-    }
-
-    /// The strings and the units together, which are kept as a number.
-    pub fn parts(&self) -> u32
-        ensures { result ≡ parts_in self.now.units }
-    {
-        self.parts
     }
 }

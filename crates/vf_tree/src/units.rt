@@ -2,6 +2,7 @@ ghost use Rattle.std.specs.Prelude.{◌≡◌, ◌≤◌, ◌++◌, IfOk, OnOk, 
 ghost use Rattle.vf_tree.specs.Contexts.{described};
 ghost use Rattle.vf_tree.specs.FileTree.{octets_in, octets_of as octets_meant, octets_of_unit as unit_octets_meant, parts_in, strings};
 
+use crate::limits::{MOST_FILE_OCTETS, MOST_FILE_PARTS};
 use std::alloc::Global;
 use vf_base::{DataUnit, Element, NoMemory};
 
@@ -17,7 +18,7 @@ pub(crate) fn copied(alloc: Global, units: &[DataUnit]) -> Result<Vec<DataUnit>,
     Ok(made)
 }
 
-/// Puts the strings of a unit behind what is there; their octets are shared.
+/// Puts the strings of a unit after what is there; their octets are shared.
 pub(crate) fn show_unit(
     alloc: Global,
     unit: &[Element],
@@ -33,7 +34,7 @@ pub(crate) fn show_unit(
 }
 
 #[tactic(auto, using(crate::proofs::Lists::lists))]
-/// Puts the strings of all units behind what is there.
+/// Puts the strings of all units after what is there.
 pub(crate) fn show_strings(
     alloc: Global,
     units: &[DataUnit],
@@ -48,7 +49,7 @@ pub(crate) fn show_strings(
 }
 
 #[tactic(auto, using(crate::proofs::Lists::lists))]
-/// Puts each unit's descriptor and strings behind what is there.
+/// Puts each unit's descriptor and strings after what is there.
 pub(crate) fn show_described(
     alloc: Global,
     units: &[DataUnit],
@@ -67,7 +68,7 @@ pub(crate) fn show_described(
 }
 
 /// The octets of a string; none where the element is no string.
-pub(crate) fn octets_of(element: &Element) -> u64
+pub fn octets_of(element: &Element) -> u64
     ensures { result ≡ octets_meant element.now }
 {
     match element {
@@ -78,7 +79,7 @@ pub(crate) fn octets_of(element: &Element) -> u64
 
 /// The octets of a unit's strings.
 pub(crate) fn octets_of_unit(unit: &[Element]) -> u64
-    requires { unit_octets_meant unit.now ≤ 16777216 }
+    requires { unit_octets_meant unit.now ≤ MOST_FILE_OCTETS }
     ensures { result ≡ unit_octets_meant unit.now }
 {
     let mut octets = 0;
@@ -90,7 +91,7 @@ pub(crate) fn octets_of_unit(unit: &[Element]) -> u64
 
 /// The octets of all strings.
 pub(crate) fn octets_of_units(units: &[DataUnit]) -> u64
-    requires { octets_in units.now ≤ 16777216 }
+    requires { octets_in units.now ≤ MOST_FILE_OCTETS }
     ensures { result ≡ octets_in units.now }
 {
     let mut octets = 0;
@@ -102,7 +103,7 @@ pub(crate) fn octets_of_units(units: &[DataUnit]) -> u64
 
 /// The strings and the units together.
 pub(crate) fn parts_of_units(units: &[DataUnit]) -> u32
-    requires { parts_in units.now ≤ 262144 }
+    requires { parts_in units.now ≤ MOST_FILE_PARTS }
     ensures { result ≡ parts_in units.now }
 {
     let mut parts = 0;
@@ -115,9 +116,9 @@ pub(crate) fn parts_of_units(units: &[DataUnit]) -> u32
 #[tactic(auto, using(crate::proofs::Sizes::length_parts))]
 /// The number of units.
 pub(crate) fn count(units: &[DataUnit]) -> u32
-    requires { parts_in units.now ≤ 262144 }
+    requires { parts_in units.now ≤ MOST_FILE_PARTS }
     ensures number { result ≡ length units.now }
-    ensures within { result ≤ 262144 }
+    ensures within { result ≤ MOST_FILE_PARTS }
 {
     units.len() as u32
 }

@@ -1,6 +1,7 @@
 ghost use Rattle.std.specs.Prelude.{◌≡◌, ◌++◌, [], ◌∷◌, IfOk, OnOk, OnErr};
 ghost use Rattle.std.specs.Rc.{rc_value};
-ghost use Rattle.vf_tree.specs.Actions.{LeavesFile, Performs, erased, extended, inserted, replaced};
+ghost use Rattle.vf_tree.specs.Actions.{LeavesFile, Performs};
+ghost use Rattle.vf_tree.specs.Acts.{Erases, Extends, Inserts, Replaces, does};
 ghost use Rattle.vf_tree.specs.FileTree.{IsFile, strings};
 
 use super::Tree;
@@ -11,7 +12,7 @@ use std::rc::Rc;
 use vf_base::{Constraint, DataUnit, FaduId, NoMemory, Sequence};
 
 impl Tree {
-    /// Puts units behind the last one, and answers the new end. After an error the file is as before.
+    /// Puts units after the last one, and answers the new end. After an error the file is as before.
     ///
     /// `Outside` where the file is unstructured, `NotFound` where the identity isn't the end.
     pub fn insert(
@@ -20,8 +21,8 @@ impl Tree {
         id: FaduId,
         units: Vec<DataUnit>,
     ) -> Result<u32, TreeError>
-        requires { LeavesFile (inserted self.old id units.items) }
-        ensures { Performs (inserted self.old id units.items) self.old self.new result }
+        requires { LeavesFile (does self.old 0 (Inserts id units.items)) }
+        ensures { Performs (does self.old 0 (Inserts id units.items)) self.old self.new result }
     {
         if self.constraint == Constraint::Unstructured {
             return Err(TreeError::Outside);
@@ -31,7 +32,7 @@ impl Tree {
         }
         let octets = octets_of_units(&units);
         let parts = parts_of_units(&units);
-        put_behind(alloc, &mut self.units, units)?;
+        put_after(alloc, &mut self.units, units)?;
         self.octets += octets;
         self.parts += parts;
         Ok(count(self.units()) + 1)
@@ -42,8 +43,8 @@ impl Tree {
     ///
     /// `Outside` where the file is sequential flat, `NotFound` where the identity isn't begin or first.
     pub fn replace(&mut self, alloc: Global, id: FaduId, unit: DataUnit) -> Result<u32, TreeError>
-        requires { LeavesFile (replaced self.old id unit) }
-        ensures { Performs (replaced self.old id unit) self.old self.new result }
+        requires { LeavesFile (does self.old 0 (Replaces id unit)) }
+        ensures { Performs (does self.old 0 (Replaces id unit)) self.old self.new result }
     {
         if self.constraint == Constraint::SequentialFlat {
             return Err(TreeError::Outside);
@@ -59,13 +60,13 @@ impl Tree {
         Ok(0)
     }
 
-    /// Puts the strings of a unit behind those of an unstructured file, and answers position 0. After an error the
+    /// Puts the strings of a unit after those of an unstructured file, and answers position 0. After an error the
     /// file is as before.
     ///
     /// `Outside` where the file is sequential flat, `NotFound` where the identity isn't begin or first.
     pub fn extend(&mut self, alloc: Global, id: FaduId, unit: DataUnit) -> Result<u32, TreeError>
-        requires { LeavesFile (extended self.old id unit) }
-        ensures { Performs (extended self.old id unit) self.old self.new result }
+        requires { LeavesFile (does self.old 0 (Extends id unit)) }
+        ensures { Performs (does self.old 0 (Extends id unit)) self.old self.new result }
     {
         if self.constraint == Constraint::SequentialFlat {
             return Err(TreeError::Outside);
@@ -87,7 +88,7 @@ impl Tree {
     ///
     /// `NotFound` where the identity isn't begin, nor, in an unstructured file, first.
     pub fn erase(&mut self, alloc: Global, id: FaduId) -> Result<u32, TreeError>
-        ensures { Performs (erased self.old id) self.old self.new result }
+        ensures { Performs (does self.old 0 (Erases id)) self.old self.new result }
     {
         let first = self.constraint == Constraint::Unstructured && id == FaduId::First;
         if id != FaduId::Begin && !first {
@@ -114,9 +115,9 @@ impl Tree {
     }
 }
 
-/// Puts units behind the others: in their place where nobody else has these, else behind a copy of them, whose strings
+/// Puts units after the others: in their place where nobody else has these, else after a copy of them, whose strings
 /// share their octets. After an error they are as before.
-fn put_behind(
+fn put_after(
     alloc: Global,
     units: &mut Rc<Vec<DataUnit>>,
     mut more: Vec<DataUnit>,

@@ -1,16 +1,19 @@
 ghost use Rattle.std.specs.Prelude.{◌≡◌, ◌≤◌, length, IfOk, option_copied};
-ghost use Rattle.vf_tree.specs.Actions.{Meets};
-ghost use Rattle.vf_tree.specs.Contexts.{one as one_meant, reading_flat, reading_whole, shown as shown_meant, takes as takes_meant, unit_there, whole as whole_meant};
+ghost use Rattle.vf_tree.specs.Acts.{Reads, does, shown_of};
+ghost use Rattle.vf_tree.specs.Contexts.{one as one_meant, reading_flat, reading_whole, takes as takes_meant, unit_there, whole as whole_meant};
 ghost use Rattle.vf_tree.specs.FileTree.{parts_in};
 ghost use Rattle.vf_tree.specs.Identities.{standing};
+ghost use Rattle.vf_tree.specs.TreeRefusal.{Meets};
 
 use super::Tree;
 use super::identities::meant;
 use crate::TreeError;
+use crate::limits::MOST_FILE_PARTS;
 use crate::units::{count, show_described, show_strings, show_unit};
 use std::alloc::Global;
 use vf_base::{Constraint, Context, DataUnit, Element, FaduId, NoMemory};
 
+#[tactic(auto, using(crate::proofs::Acts::acts))]
 impl Tree {
     /// What a read of an identity shows in a context, from a position that was kept, and the position after it. The
     /// octets of the strings are shared.
@@ -24,7 +27,7 @@ impl Tree {
         id: FaduId,
         context: Context,
     ) -> Result<(Vec<Element>, u32), TreeError>
-        ensures { Meets (λ answer. (answer.0.items, answer.1)) (shown_meant self.now position id context) result }
+        ensures { Meets (λ answer. (answer.0.items, answer.1)) (shown_of (does self.now position (Reads id context))) result }
     {
         if !takes(self.constraint, context) {
             return Err(TreeError::BadContext);
@@ -68,7 +71,7 @@ fn read_flat(
     id: FaduId,
     context: Context,
 ) -> Result<(Vec<Element>, u32), TreeError>
-    requires { parts_in units.now ≤ 262144 }
+    requires { parts_in units.now ≤ MOST_FILE_PARTS }
     ensures { Meets (λ answer. (answer.0.items, answer.1)) (reading_flat units.now (standing (length units.now) kept) id context) result }
 {
     if id == FaduId::Begin {

@@ -1,5 +1,6 @@
 ghost use Rattle.std.specs.Prelude.{◌↔◌, IsTrue};
-ghost use Rattle.vf_tree.specs.Actions.{LeavesFile, extended, inserted, replaced};
+ghost use Rattle.vf_tree.specs.Actions.{LeavesFile};
+ghost use Rattle.vf_tree.specs.Acts.{Extends, Inserts, Replaces, does};
 
 use super::Tree;
 use crate::limits::{has_room, is_within};
@@ -9,7 +10,7 @@ use vf_base::{Constraint, DataUnit, FaduId};
 impl Tree {
     /// Whether an insert is refused or leaves the file within its limits.
     pub fn has_room_to_insert(&self, id: FaduId, units: &[DataUnit]) -> bool
-        ensures { IsTrue result ↔ LeavesFile (inserted self.now id units.now) }
+        ensures { IsTrue result ↔ LeavesFile (does self.now 0 (Inserts id units.now)) }
     {
         if self.constraint == Constraint::Unstructured || id != FaduId::End {
             return true;
@@ -19,7 +20,7 @@ impl Tree {
 
     /// Whether a replace is refused or leaves the file within its limits.
     pub fn has_room_to_replace(&self, id: FaduId, unit: &DataUnit) -> bool
-        ensures { IsTrue result ↔ LeavesFile (replaced self.now id unit.now) }
+        ensures { IsTrue result ↔ LeavesFile (does self.now 0 (Replaces id unit.now)) }
     {
         if self.constraint == Constraint::SequentialFlat {
             return true;
@@ -32,7 +33,7 @@ impl Tree {
 
     /// Whether an extend is refused or leaves the file within its limits.
     pub fn has_room_to_extend(&self, id: FaduId, unit: &DataUnit) -> bool
-        ensures { IsTrue result ↔ LeavesFile (extended self.now id unit.now) }
+        ensures { IsTrue result ↔ LeavesFile (does self.now 0 (Extends id unit.now)) }
     {
         if self.constraint == Constraint::SequentialFlat {
             return true;

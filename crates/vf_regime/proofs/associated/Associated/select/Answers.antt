@@ -1,16 +1,14 @@
-use Rattle.std.proofs.Common.{◌≡◌, Some, None, Err, [], ◌∷◌, ap, refl, sym, subst, ◌∙◌}
+use Rattle.std.proofs.Common.{◌≡◌, Some, None, [], ◌∷◌, ap, refl, ◌∙◌}
 use Rattle.vf_base.specs.declared.diagnostic.Diagnostic.{Diagnostic}
 use Rattle.vf_elements.specs.declared.message.Message.TheVariants as messages
 use Rattle.vf_elements.specs.declared.message.Said.TheVariants as answers
 use Rattle.vf_pdu.specs.declared.pdu.Pdu.{Pdu}
 use Rattle.vf_pdu.specs.declared.pdu.Pdu.TheVariants.{SelectRequest, SelectResponse}
-use Rattle.vf_files.specs.Diagnostics.{plain}
 use Rattle.vf_files.specs.Files.{file_named}
 use Rattle.vf_files.specs.Rows.{Nothing, select_row}
 use Rattle.vf_regime.specs.declared.selected.Selected.{Selected}
 use Rattle.vf_regime.specs.declared.step.Step.{Step}
-use Rattle.vf_regime.specs.declared.step.StepError.TheVariants as errors
-use Rattle.vf_regime.specs.Represents.{IsAssociated, IsSelected, IsStep, with_tables}
+use Rattle.vf_regime.specs.Represents.{IsAssociated, IsSelected, with_tables}
 use Rattle.vf_regime.specs.Transition.{performed}
 use Rattle.vf_regime.proofs.Performed.{select_performed}
 use Rattle.vf_regime.proofs.Steps.{good_step, refused_step}
@@ -25,14 +23,12 @@ returns-in-Some-clause-consequence c =
     let asked = c.in-SelectRequest in
     let request = SelectRequest asked.name asked.requested asked._controls asked.password in
     let tables = c.args.tables.now in
-    let number = c.in-Some.number in
-    let decides : select_row (file_named asked.name tables.files) c.args.self.identity asked.password asked.requested ≡ Some number = cc in
-    subst (λ (d : Diagnostic). IsStep {New = Selected} IsAssociated IsSelected tables c.args.self c.args.moment (messages.Pdu c.args.request) response (Err (c.args.self, errors.Refused d)))
-    (sym c.plain.ensures)
-    (refused_step IsAssociated IsSelected tables c.args.self c.args.moment (messages.Pdu c.args.request) (messages.Pdu request) response c.args.self (plain number)
+    let diagnostic = c.in-Some.diagnostic in
+    let decides : select_row (file_named asked.name tables.files) c.args.self.identity asked.password asked.requested ≡ Some diagnostic = cc in
+    refused_step IsAssociated IsSelected tables c.args.self c.args.moment (messages.Pdu c.args.request) (messages.Pdu request) response c.args.self diagnostic
     (λ state party represents.
     ap (λ r. performed (with_tables tables state) party c.args.moment (messages.Pdu r)) asked.is
-    ∙ select_performed tables state party c.args.moment c.args.self represents asked.name asked.requested asked._controls asked.password (Some number) decides))
+    ∙ select_performed tables state party c.args.moment c.args.self represents asked.name asked.requested asked._controls asked.password (Some diagnostic) decides)
 
 pub returns-clause-consequence : goal.returns-clause-consequence
 unfolding response

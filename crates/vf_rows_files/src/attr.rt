@@ -1,0 +1,210 @@
+use std::alloc::Global;
+use std::test::Fail;
+use vf_attr::{AccessError, AttributeChange, File, Stamp, change, may};
+use vf_base::{
+    Actions, BaseError, Constraint, Contents, Element, FaduId, Moment, Name, NoMemory, Octets, Oid,
+    Sequence, Term, Terms,
+};
+use vf_tree::Tree;
+
+/// A term: whom it speaks of, what it grants, and the password that it needs; a dash where it has none.
+type Row = (&'static str, u8, &'static str);
+
+/// Some lists of terms.
+fn list(which: u8) -> &'static [Row] {
+    match which {
+        0 => &[],
+        1 => &[("ann", 1, "pw")],
+        2 => &[("ann", 1, "pw"), ("-", 2, "-")],
+        3 => &[("ann", 1, "pw"), ("ann", 1, "pv"), ("bob", 2, "-")],
+        _ => &[("-", 1, "")],
+    }
+}
+
+/// The diagnostic of the answer, 0 where the actions are granted.
+fn answer(alloc: Global, which: u8, who: &str, given: &str, actions: u8) -> Result<u8, BaseError> {
+    let file = file(alloc, list(which))?;
+    let who = Name::of(alloc, who.as_bytes())?;
+    let given = password_of(alloc, given)?;
+    let answer = may(&file, &who, given.as_ref(), Actions { value: actions });
+    Ok(number_of(answer))
+}
+
+fn number_of(answer: Result<(), AccessError>) -> u8 {
+    match answer {
+        Ok(()) => 0,
+        Err(AccessError::NotPermitted) => 13,
+        Err(AccessError::Denied) => 14,
+        Err(AccessError::BadPassword) => 15,
+    }
+}
+
+/// Who may do what: the list of terms, the identity, the password that is given, the actions, and the diagnostic. An
+/// empty password is a password, to which an empty one alone is equal.
+#[test]
+fn terms_grant_actions(rt: HostRuntime) -> Result<(), Fail> {
+    let table = [
+        (1, "ann", "pw", 1, 0),
+        (1, "ann", "pv", 1, 15),
+        (1, "ann", "", 1, 15),
+        (1, "ann", "-", 1, 15),
+        (1, "bob", "pw", 1, 14),
+        (1, "ann", "pw", 32, 14),
+        (1, "ann", "pv", 33, 14),
+        (1, "bob", "-", 0, 0),
+        (1, "bob", "-", 128, 13),
+        (1, "ann", "pw", 129, 13),
+        (0, "bob", "-", 3, 0),
+        (0, "bob", "-", 127, 0),
+        (0, "bob", "-", 128, 13),
+        (2, "ann", "pw", 3, 0),
+        (2, "ann", "pv", 3, 15),
+        (2, "ann", "-", 2, 0),
+        (2, "bob", "-", 2, 0),
+        (2, "bob", "-", 3, 14),
+        (3, "ann", "pv", 1, 0),
+        (3, "ann", "pw", 1, 0),
+        (3, "ann", "pw", 3, 14),
+        (4, "ann", "", 1, 0),
+        (4, "ann", "pw", 1, 15),
+        (4, "ann", "-", 1, 15),
+    ];
+    for (which, who, given, actions, number) in table {
+        assert!(rt;
+            answer(rt.alloc(), which, who, given, actions)? == number,
+            "{actions}"
+        );
+    }
+    Ok(())
+}
+
+/// No attribute, or each of them; `others` is its own.
+fn wanted(alloc: Global, all: bool, others: u16) -> Result<AttributeChange, BaseError> {
+    if !all {
+        return Ok(AttributeChange {
+            name: None,
+            permitted: None,
+            terms: None,
+            others,
+        });
+    }
+    let name = Name::of(alloc, b"b")?;
+    Ok(AttributeChange {
+        name: Some(name),
+        permitted: Some(Actions { value: 1 }),
+        terms: Some(Sequence::new(alloc)),
+        others,
+    })
+}
+
+/// Whether bob's change at moment 7 is made, and the file then has this name, these permitted actions, so many terms,
+/// and his stamp where that is said.
+fn leaves(
+    alloc: Global,
+    change_wanted: &AttributeChange,
+    name: &[u8],
+    permitted: u8,
+    terms: usize,
+    stamped: bool,
+) -> Result<bool, BaseError> {
+    let mut file = file(alloc, list(1))?;
+    let bob = Name::of(alloc, b"bob")?;
+    let moment = Moment::of(7)?;
+    let made = change(alloc, &mut file, &bob, moment, change_wanted).is_ok();
+    let same = file.name.as_slice() == name
+        && file.permitted.value == permitted
+        && file.terms.len() == terms;
+    Ok(made == stamped && same && is_stamp(&file.changed, 7, b"bob") == stamped)
+}
+
+/// A change sets its own attributes and the stamp; without attributes the stamp alone; after a refusal nothing.
+#[test]
+fn changes_set_their_attributes(rt: HostRuntime) -> Result<(), Fail> {
+    let alloc = rt.alloc();
+    let nothing = wanted(alloc, false, 0)?;
+    assert!(rt; leaves(alloc, &nothing, b"a", 127, 1, true)?);
+    let refused = wanted(alloc, true, 1)?;
+    assert!(rt; leaves(alloc, &refused, b"a", 127, 1, false)?);
+    let whole = wanted(alloc, true, 0)?;
+    let copied = whole.copy(alloc)?;
+    assert!(rt; leaves(alloc, &copied, b"b", 1, 0, true)?);
+    Ok(())
+}
+
+/// A copy is equal, and an action on its tree leaves the file as it was.
+#[test]
+fn copies_share_their_tree(rt: HostRuntime) -> Result<(), Fail> {
+    let alloc = rt.alloc();
+    let file = file(alloc, &[("ann", 1, "pw"), ("-", 2, "-")])?;
+    let mut copy = file.copy(alloc)?;
+    assert!(rt; copy.name == file.name && copy.terms.len() == 2 && copy.version == 1);
+    assert!(rt;
+        copy.created.moment.seconds() == 5 && copy.created.identity == file.created.identity
+    );
+    let mut unit = Sequence::new(alloc);
+    let octets = Octets::of(alloc, b"abc")?;
+    unit.push(Element::Binary { octets })?;
+    assert!(rt; copy.tree.has_room_to_replace(FaduId::Begin, &unit));
+    assert_eq!(rt; copy.tree.replace(alloc, FaduId::Begin, unit), Ok(0));
+    assert!(rt; copy.tree.size() == 3 && file.tree.size() == 0);
+    Ok(())
+}
+
+fn is_stamp(stamp: &Option<Stamp>, seconds: u64, identity: &[u8]) -> bool {
+    match stamp {
+        Some(stamp) => {
+            stamp.moment.seconds() == seconds && stamp.identity.as_slice() == identity
+        }
+        None => false,
+    }
+}
+
+/// An empty file `a` on which all but deletion is permitted, made by `ann` at moment 5.
+fn file(alloc: Global, rows: &[Row]) -> Result<File, BaseError> {
+    Ok(File {
+        name: Name::of(alloc, b"a")?,
+        permitted: Actions { value: 127 },
+        contents: Contents {
+            kind: Oid::of(alloc, &[1, 0, 8571, 5, 3])?,
+            class: 25,
+            longest: 0,
+            significance: 0,
+        },
+        terms: terms(alloc, rows)?,
+        created: Stamp {
+            moment: Moment::of(5)?,
+            identity: Name::of(alloc, b"ann")?,
+        },
+        modified: None,
+        read: None,
+        changed: None,
+        version: 1,
+        tree: Tree::empty(alloc, Constraint::Unstructured)?,
+    })
+}
+
+fn terms(alloc: Global, rows: &[Row]) -> Result<Terms, BaseError> {
+    let mut terms = Sequence::new(alloc);
+    for (identity, actions, password) in rows {
+        let identity = if *identity == "-" {
+            None
+        } else {
+            Some(Name::of(alloc, identity.as_bytes())?)
+        };
+        let password = password_of(alloc, password)?;
+        terms.push(Term {
+            identity,
+            actions: Actions { value: *actions },
+            password,
+        })?;
+    }
+    Ok(terms)
+}
+
+fn password_of(alloc: Global, text: &str) -> Result<Option<Octets>, NoMemory> {
+    if text == "-" {
+        return Ok(None);
+    }
+    let octets = Octets::of(alloc, text.as_bytes())?;
+    Ok(Some(octets))
+}

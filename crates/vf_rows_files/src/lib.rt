@@ -1,0 +1,15 @@
+//! Tests of public calls of the file model: trees, document types, attributes, transfers, locks and tables of files.
+#![tactic(auto)]
+
+#[cfg(test)]
+mod attr;
+#[cfg(test)]
+mod doctype;
+#[cfg(test)]
+mod files;
+#[cfg(test)]
+mod locks;
+#[cfg(test)]
+mod transfer;
+#[cfg(test)]
+mod tree;
