@@ -16,7 +16,7 @@ and_true : (b : Bool) → IsTrue b → IsTrue (b && true)
 and_true true h = h
 and_true false h = h
 
--- the fields behind the name
+-- the fields after the name
 abbrev filled_row : Row
 filled_row = field 1 (one Boolean) (default (Truth true)) end
 
@@ -49,7 +49,7 @@ first_true : (a b : Bool) → IsTrue (a && b) → IsTrue a
 first_true true b h = refl
 first_true false b h = h
 
-writable : (tree : Tree) (element : Element) → Means tree element → IsWritable element
+pub writable : (tree : Tree) (element : Element) → Means tree element → IsWritable element
 writable tree (Descriptor None filled) m = tt
 writable tree (Descriptor (Some name) filled) m = first_true (is_name name) true m.in_range
 writable tree Enter m = tt

@@ -1,4 +1,5 @@
 pub mod ElementFaults
+pub mod ElementLaws
 pub mod ElementReading
 pub mod ElementValue
 pub mod Elements

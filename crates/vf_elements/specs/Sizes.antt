@@ -2,13 +2,14 @@
 use Rattle.std.specs.Prelude.{◌≤◌, List, length}
 use Rattle.vf_base.specs.declared.element.Element.{Element}
 use Rattle.vf_base.specs.declared.element.Element.TheVariants.{Text, Binary}
+use Rattle.vf_base.specs.declared.limits.TheConstants.{MOST_STRING_OCTETS}
 use Rattle.vf_ber.specs.Limits.{IsTooLarge}
 use Rattle.vf_elements.specs.ElementValue.{IsWritable, value}
 
--- a string of at most 65,536 octets, which is the longest that a file holds (profile)
+-- a string no longer than the longest that a file holds (profile)
 abbrev pub IsShort : Element → Type 0
-IsShort (Text class octets) = length octets ≤ 65536
-IsShort (Binary octets) = length octets ≤ 65536
+IsShort (Text class octets) = length octets ≤ MOST_STRING_OCTETS
+IsShort (Binary octets) = length octets ≤ MOST_STRING_OCTETS
 IsShort _ = Unit {0}
 
 -- the value of such an element is within the limits of values

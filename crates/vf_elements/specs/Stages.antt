@@ -1,7 +1,7 @@
 -- Which messages each stage takes from the initiator (ISO 8571-4, file service regimes; the stages are profile).
 use Rattle.std.specs.Prelude.{ℕ, Bool, true, false, nat_eq, List, [], ◌∷◌}
 use Rattle.std.specs.List.{list_any}
-use Rattle.vf_pdu.specs.PduSlots.{number_of}
+use Rattle.vf_pdu.specs.PduNumbers.{number_of}
 use Rattle.vf_elements.specs.declared.message.Message.{Message}
 use Rattle.vf_elements.specs.declared.message.Message.TheVariants as messages
 use Rattle.vf_elements.specs.declared.stage.Stage.{Stage}
@@ -88,21 +88,21 @@ restart = pdu 39
 abbrev pub aborts : List Kind
 aborts = pdu 4 ∷ pdu 5 ∷ []
 
--- what each stage takes; aborts are heard at each but idle
-abbrev pub taken : Stage → List Kind
-taken Idle = initialize ∷ []
-taken Associated = select ∷ create ∷ recover ∷ begin_group ∷ terminate ∷ aborts
-taken Selected = deselect ∷ delete ∷ read_attrib ∷ change_attrib ∷ open_file ∷ begin_group ∷ aborts
-taken Opened = close ∷ locate ∷ erase ∷ read ∷ write ∷ begin_group ∷ aborts
-taken Writing = element ∷ check ∷ data_end ∷ cancel ∷ restart ∷ aborts
-taken Written = transfer_end ∷ cancel ∷ restart ∷ aborts
-taken Reading = acknowledgement ∷ cancel ∷ restart ∷ aborts
-taken Shown = acknowledgement ∷ cancel ∷ restart ∷ transfer_end ∷ aborts
-taken Grouping =
+-- what each stage takes; aborts at each but idle
+abbrev pub listed : Stage → List Kind
+listed Idle = initialize ∷ []
+listed Associated = select ∷ create ∷ recover ∷ begin_group ∷ terminate ∷ aborts
+listed Selected = deselect ∷ delete ∷ read_attrib ∷ change_attrib ∷ open_file ∷ begin_group ∷ aborts
+listed Opened = close ∷ locate ∷ erase ∷ read ∷ write ∷ begin_group ∷ aborts
+listed Writing = element ∷ check ∷ data_end ∷ cancel ∷ restart ∷ aborts
+listed Written = transfer_end ∷ cancel ∷ restart ∷ aborts
+listed Reading = acknowledgement ∷ cancel ∷ restart ∷ aborts
+listed Shown = acknowledgement ∷ cancel ∷ restart ∷ transfer_end ∷ aborts
+listed Grouping =
     select ∷ deselect ∷ create ∷ delete ∷ read_attrib ∷ change_attrib ∷ open_file ∷ close ∷ end_group ∷ aborts
 
 abbrev pub lists : Stage → Kind → Bool
-lists stage kind = list_any (is_same kind) (taken stage)
+lists stage kind = list_any (is_same kind) (listed stage)
 
 -- A restart counts as its request, also where the session carries it. A break comes at each stage.
 abbrev pub takes : Stage → Message → Bool

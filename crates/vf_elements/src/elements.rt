@@ -15,7 +15,7 @@ ghost use Rattle.vf_pdu_fields.specs.Results.{Fails, Gives, Names};
 use std::alloc::Global;
 use vf_base::{Element, NoMemory, Octets};
 use vf_ber::{Tag, Value};
-use vf_pdu_fields::{PduError, boolean_or, end, text};
+use vf_pdu_fields::{PduError, boolean_or, end, optional};
 
 /// The data element that the value means (ISO 8571-2): a text (IA5 22, graphic 25, visible 26, general 27) or a binary
 /// (OCTET STRING) of universal class, in segments or not, or a descriptor, enter or exit of application class 0, 1, 2
@@ -158,7 +158,7 @@ fn descriptor_in(alloc: Global, parts: &[Value]) -> Result<Element, PduError>
     ensures kind { IfOk result (λ element. (name : Option (List ℕ)) × (filled : Bool) × (element ≡ Element.Descriptor name filled)) }
 {
     let mut at = 0;
-    let name = text(alloc, parts, &mut at, 0)?;
+    let name = optional(alloc, parts, &mut at, 0)?;
     let filled = boolean_or(parts, &mut at, 1, true)?;
     end(parts, at)?;
     Ok(Element::Descriptor { name, filled })

@@ -19,7 +19,7 @@ pub enum Stage {
     Writing,
     /// A write whose values have ended.
     Written,
-    /// A read whose values aren't all said.
+    /// A read whose values aren't all sent.
     Reading,
     /// A read whose values have ended.
     Shown,

@@ -3,9 +3,8 @@ ghost use Rattle.std.specs.Prelude.{◌≡◌, ◌<◌, ◌≤◌, [], IfOk};
 ghost use Rattle.vf_pdu_fields.specs.Meaning.{context, universal};
 ghost use Rattle.vf_ber.specs.Tree.{built, plain};
 ghost use Rattle.vf_ber.specs.Views.{tree_of};
-ghost use Rattle.vf_elements.specs.ElementValue.{IsWritable, ValueMeans, descriptor_parts, value as value_meant};
+ghost use Rattle.vf_elements.specs.ElementValue.{IsWritable, descriptor_parts, value as value_meant};
 ghost use Rattle.vf_elements.specs.Elements.{application};
-ghost use Rattle.vf_elements.specs.Sizes.{ElementIsWithin};
 
 use std::alloc::Global;
 use vf_base::{Element, Name, NoMemory, Octets};
@@ -72,14 +71,3 @@ fn field(alloc: Global, number: u16, octets: &[u8]) -> Result<Value, NoMemory>
     let octets = Octets::of(alloc, octets)?;
     Ok(Value::Plain { tag, octets })
 }
-
-/// The value of an element means it, so that what was written is read again.
-pub fn value_means()
-    ensures { ValueMeans }
-{}
-
-/// The value of an element whose string has at most 65,536 octets is within the limits that `vf_ber::write` has: depth
-/// 32 and 1,048,576 octets.
-pub fn value_is_within()
-    ensures { ElementIsWithin }
-{}

@@ -12,7 +12,8 @@ use Rattle.vf_pdu_fields.specs.Reading.{reading}
 use Rattle.vf_pdu_fields.specs.Results.{Names}
 use Rattle.vf_pdu.specs.PduResults.{Reads}
 use Rattle.vf_pdu.specs.PduRows.{row_of}
-use Rattle.vf_pdu.specs.PduSlots.{number_of, slots_of}
+use Rattle.vf_pdu.specs.PduNumbers.{number_of}
+use Rattle.vf_pdu.specs.PduSlots.{slots_of}
 use Rattle.vf_pdu_fields.specs.declared.errors.PduError.{PduError}
 use Rattle.vf_pdu_fields.specs.declared.errors.PduError.TheVariants as errors
 use Rattle.vf_pdu.specs.declared.pdu.Pdu.{Pdu}

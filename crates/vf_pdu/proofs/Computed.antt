@@ -15,7 +15,8 @@ use Rattle.vf_pdu.specs.Laws.{MeaningIsComputed}
 use Rattle.vf_pdu.specs.PduComputed.{meaning, pdu_from, pdu_of}
 use Rattle.vf_pdu.specs.PduMeaning.{Means}
 use Rattle.vf_pdu.specs.PduRows.{row_of}
-use Rattle.vf_pdu.specs.PduSlots.{number_of, slots_of}
+use Rattle.vf_pdu.specs.PduNumbers.{number_of}
+use Rattle.vf_pdu.specs.PduSlots.{slots_of}
 use Rattle.vf_pdu.specs.declared.pdu.Pdu.{Pdu}
 use Rattle.vf_pdu.proofs.Answering.{meaning_read}
 use Rattle.vf_pdu.proofs.OneMeaning.{known, shapes_of, slots_same, true_of}

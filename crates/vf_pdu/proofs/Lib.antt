@@ -1,5 +1,4 @@
 pub mod Answering
-pub mod Back
 pub mod Computed
 pub mod Found
 pub mod OneMeaning

@@ -1,69 +1,45 @@
 -- A value has one meaning at most, and then no fault.
-use Rattle.std.proofs.Common.{◌≡◌, ℕ, ◌≤◌, Bool, true, List, refl, ap, sym, ◌∙◌, rules, arith}
+use Rattle.std.proofs.Common.{◌≡◌, ℕ, ◌≤◌, Bool, true, false, List, refl, ap, sym, ◌∙◌, rules, arith}
 use Rattle.std.specs.Prelude.{Some, IsTrue, nat_le}
+use Rattle.std.proofs.lemmas.List.{get_or_past}
 use Rattle.vf_ber.specs.Tree.{Tree, built, root}
 use Rattle.vf_pdu_fields.specs.Content.{Slot, slots}
 use Rattle.vf_pdu.specs.PduFaults.{fault}
-use Rattle.vf_pdu.specs.Contained.{slot_list}
+use Rattle.vf_pdu_fields.specs.Contained.{slot_list}
 use Rattle.vf_pdu.specs.Laws.{MeaningIsOne, MeaningHasNoFault, MeaningIsInRange}
 use Rattle.vf_pdu_fields.specs.Meaning.{context, all_fit}
 use Rattle.vf_pdu.specs.PduMeaning.{Means}
 use Rattle.vf_pdu_fields.specs.Reading.{parts_of, shapes}
-use Rattle.vf_pdu.specs.PduRows.{row_of}
-use Rattle.vf_pdu.specs.PduSlots.{number_of, slots_of}
+use Rattle.vf_pdu.specs.PduEntry.{Entry}
+use Rattle.vf_pdu.specs.PduRows.{entries, entry_of, no_entry, row_of}
+use Rattle.vf_pdu.specs.PduNumbers.{number_of}
+use Rattle.vf_pdu.specs.PduSlots.{slots_of}
 use Rattle.vf_pdu.specs.declared.pdu.Pdu.{Pdu}
-use Rattle.vf_pdu.specs.declared.pdu.Pdu.TheVariants.{InitializeRequest, InitializeResponse, TerminateRequest, TerminateResponse, UserAbort, ProviderAbort, SelectRequest, SelectResponse, DeselectRequest, DeselectResponse, CreateRequest, CreateResponse, DeleteRequest, DeleteResponse, ReadAttribRequest, ReadAttribResponse, ChangeAttribRequest, ChangeAttribResponse, OpenRequest, OpenResponse, CloseRequest, CloseResponse, BeginGroupRequest, BeginGroupResponse, EndGroupRequest, EndGroupResponse, RecoverRequest, RecoverResponse, LocateRequest, LocateResponse, EraseRequest, EraseResponse, ReadRequest, WriteRequest, DataEnd, TransferEndRequest, TransferEndResponse, CancelRequest, CancelResponse, RestartRequest, RestartResponse}
+use Rattle.vf_pdu.specs.declared.pdu.Pdu.TheVariants.{TerminateRequest}
 use Rattle.vf_pdu.proofs.Answering.{fault_is}
 use Rattle.vf_pdu_fields.proofs.Complete.{holds_shapes}
 use Rattle.vf_pdu_fields.proofs.FirstFaults.{told}
 use Rattle.vf_pdu_fields.proofs.Nested.{shapes_read}
 use Rattle.vf_pdu_fields.proofs.Plain.{some_is}
-use Rattle.vf_pdu.proofs.Back.{slot_list-slots}
-use Rattle.vf_pdu.proofs.Same.{same_pdu}
+use Rattle.vf_pdu_fields.proofs.Back.{slot_list-slots}
+use Rattle.vf_pdu.proofs.Same.{pdu_back, same_pdu}
 use Rattle.vf_pdu.proofs.Tables.{row_is_table}
 
+-- a number above 40 makes the PDU of number 2
+beyond : (pdu : Pdu) → 41 ≤ number_of pdu → pdu ≡ TerminateRequest
+beyond pdu le =
+    let none : entry_of (number_of pdu) ≡ no_entry = get_or_past entries (number_of pdu) no_entry (omega arith) in
+    sym (pdu_back pdu) ∙ ap (λ (e : Entry). e.made (slots_of pdu)) none
+
+known_by : (pdu : Pdu) (b : Bool) → b ≡ nat_le (number_of pdu) 40 → b ≡ true
+known_by pdu true e = refl
+known_by pdu false e =
+    let above : 41 ≤ number_of pdu = grind (arith, e) in
+    let two : number_of pdu ≡ 2 = ap number_of (beyond pdu above) in
+    absurd (omega arith)
+
 pub known : (pdu : Pdu) → nat_le (number_of pdu) 40 ≡ true
-known (InitializeRequest units identity password window) = refl
-known (InitializeResponse diagnostic units window) = refl
-known TerminateRequest = refl
-known TerminateResponse = refl
-known (UserAbort number) = refl
-known (ProviderAbort number place) = refl
-known (SelectRequest name requested controls password) = refl
-known (SelectResponse diagnostic) = refl
-known DeselectRequest = refl
-known (DeselectResponse diagnostic) = refl
-known (CreateRequest over name contents permitted terms requested controls password) = refl
-known (CreateResponse diagnostic) = refl
-known DeleteRequest = refl
-known (DeleteResponse diagnostic) = refl
-known (ReadAttribRequest names) = refl
-known (ReadAttribResponse diagnostic attributes) = refl
-known (ChangeAttribRequest name permitted terms others) = refl
-known (ChangeAttribResponse diagnostic) = refl
-known (OpenRequest mode contents controls activity) = refl
-known (OpenResponse diagnostic contents) = refl
-known CloseRequest = refl
-known (CloseResponse diagnostic) = refl
-known (BeginGroupRequest threshold) = refl
-known BeginGroupResponse = refl
-known EndGroupRequest = refl
-known EndGroupResponse = refl
-known (RecoverRequest activity number point) = refl
-known (RecoverResponse diagnostic number point moving last) = refl
-known (LocateRequest fadu) = refl
-known (LocateResponse diagnostic position) = refl
-known (EraseRequest fadu) = refl
-known (EraseResponse diagnostic) = refl
-known (ReadRequest fadu context) = refl
-known (WriteRequest operation fadu) = refl
-known (DataEnd diagnostic) = refl
-known TransferEndRequest = refl
-known (TransferEndResponse diagnostic) = refl
-known (CancelRequest diagnostic) = refl
-known CancelResponse = refl
-known (RestartRequest point) = refl
-known (RestartResponse point) = refl
+known pdu = known_by pdu (nat_le (number_of pdu) 40) refl
 
 is_known : (pdu : Pdu) → number_of pdu ≤ 40
 is_known pdu = grind (arith, known pdu)

@@ -4,6 +4,7 @@ use Rattle.std.specs.Prelude.{◌&&◌, IsSome, Some, None, nat_le}
 use Rattle.std.proofs.lemmas.Bool.{leb-true, and_parts}
 use Rattle.vf_base.specs.declared.access.Context.{Context}
 use Rattle.vf_base.specs.declared.access.FaduId.{FaduId}
+use Rattle.vf_pdu_fields.specs.declared.limits.TheConstants.{MOST_PLACE}
 use Rattle.vf_pdu_fields.specs.Content.{Slot, Slots, nil, slot, slots}
 use Rattle.vf_pdu_fields.specs.Meaning.{all_fit}
 use Rattle.vf_pdu_fields.specs.Rows.{Form, Need, Row, end, field, required, or, fadu as fadu_form, int}
@@ -14,12 +15,12 @@ use Rattle.vf_pdu.specs.PduMeaning.{IsInRange}
 use Rattle.vf_pdu.specs.PduRows.{row_of}
 use Rattle.vf_pdu.specs.declared.pdu.Pdu.TheVariants.{EraseRequest, LocateRequest, ProviderAbort, ReadRequest, WriteRequest}
 
-pub place_is : (number place : ℕ) → IsInRange (ProviderAbort number place) → place ≤ 9007199254740992
+pub place_is : (number place : ℕ) → IsInRange (ProviderAbort number place) → place ≤ MOST_PLACE
 unfolding row_of
 place_is number place h =
-    let all = and_parts (nat_le 0 number && nat_le number 65535) (nat_le 0 place && nat_le place 9007199254740992 && true) h in
-    let fits = and_parts (nat_le 0 place && nat_le place 9007199254740992) true all.1 in
-    leb-true place 9007199254740992 (and_parts (nat_le 0 place) (nat_le place 9007199254740992) fits.0).1
+    let all = and_parts (nat_le 0 number && nat_le number 65535) (nat_le 0 place && nat_le place MOST_PLACE && true) h in
+    let fits = and_parts (nat_le 0 place && nat_le place MOST_PLACE) true all.1 in
+    leb-true place MOST_PLACE (and_parts (nat_le 0 place) (nat_le place MOST_PLACE) fits.0).1
 
 -- the first field is there where it may not be absent
 there_is : (number : ℕ) (form : Form) (need : Need) (row : Row) (first : Slot) (others : Slots) → ((s : Slots) → all_fit (field number form need row) (slot None s) ≡ false)

@@ -1,12 +1,14 @@
 -- PDUs of one number with the same fields are the same.
 use Rattle.std.proofs.Common.{◌≡◌, ℕ, refl, ap, sym, ◌∙◌}
 use Rattle.vf_pdu_fields.specs.Slots.{attribute_controls, content_controls}
-use Rattle.vf_pdu.specs.Contained.{attribute_controls_in, content_controls_in}
+use Rattle.vf_pdu_fields.specs.Contained.{attribute_controls_in, content_controls_in}
 use Rattle.vf_pdu.specs.PduComputed.{pdu_of}
-use Rattle.vf_pdu.specs.PduSlots.{number_of, slots_of}
+use Rattle.vf_pdu.specs.PduNumbers.{number_of}
+use Rattle.vf_pdu.specs.PduSlots.{slots_of}
 use Rattle.vf_pdu.specs.declared.pdu.Pdu.{Pdu}
 use Rattle.vf_pdu.specs.declared.pdu.Pdu.TheVariants.{InitializeRequest, InitializeResponse, TerminateRequest, TerminateResponse, UserAbort, ProviderAbort, SelectRequest, SelectResponse, DeselectRequest, DeselectResponse, CreateRequest, CreateResponse, DeleteRequest, DeleteResponse, ReadAttribRequest, ReadAttribResponse, ChangeAttribRequest, ChangeAttribResponse, OpenRequest, OpenResponse, CloseRequest, CloseResponse, BeginGroupRequest, BeginGroupResponse, EndGroupRequest, EndGroupResponse, RecoverRequest, RecoverResponse, LocateRequest, LocateResponse, EraseRequest, EraseResponse, ReadRequest, WriteRequest, DataEnd, TransferEndRequest, TransferEndResponse, CancelRequest, CancelResponse, RestartRequest, RestartResponse}
-use Rattle.vf_pdu.proofs.Back.{actions_back, attribute_controls_back, attributes_back, content_controls_back, contents_back, context_back, diagnostic_back, fadu_back, mapped, number_back, octets_back, operation_back, terms_back, terms_same}
+use Rattle.vf_pdu_fields.proofs.Back.{actions_back, attribute_controls_back, content_controls_back, context_back, fadu_back, mapped, number_back, octets_back, operation_back}
+use Rattle.vf_pdu_parameters.proofs.BackParameters.{attributes_back, contents_back, diagnostic_back, terms_back, terms_same}
 
 pub pdu_back : (pdu : Pdu) → pdu_of (number_of pdu) (slots_of pdu) ≡ pdu
 pdu_back (InitializeRequest units identity password window) = rw (octets_back identity, octets_back password) refl

@@ -9,7 +9,8 @@ use Rattle.vf_pdu_fields.proofs.Written.{all_appended}
 use Rattle.vf_pdu.specs.Laws.{WrittenIsReadAgain}
 use Rattle.vf_pdu.specs.PduMeaning.{Means}
 use Rattle.vf_pdu.specs.PduRows.{row_of}
-use Rattle.vf_pdu.specs.PduSlots.{number_of, slots_of}
+use Rattle.vf_pdu.specs.PduNumbers.{number_of}
+use Rattle.vf_pdu.specs.PduSlots.{slots_of}
 use Rattle.vf_pdu.specs.PduValue.{ValueMeans, parts_put, value}
 use Rattle.vf_pdu.specs.declared.pdu.Pdu.{Pdu}
 use Rattle.vf_pdu.proofs.OneMeaning.{has_no_fault, is_one, true_of}
@@ -23,7 +24,7 @@ value_is pdu h = record {
   in_range = h;
 }
 
--- the fields that are put one behind another are those of the value
+-- the fields that are put one after another are those of the value
 pub put_is : (pdu : Pdu) (made : Trees) → made ≡ parts_put pdu → made ≡ fields (row_of (number_of pdu)) (slots (slots_of pdu))
 put_is pdu made e = all_appended (row_of (number_of pdu)) (slots_of pdu) made e
 

@@ -4,7 +4,8 @@ use Rattle.vf_ber.specs.Tree.{Tree, built, Trees}
 use Rattle.vf_pdu_fields.specs.Content.{slots}
 use Rattle.vf_pdu_fields.specs.Meaning.{Holds, all_fit, context}
 use Rattle.vf_pdu.specs.PduRows.{row_of}
-use Rattle.vf_pdu.specs.PduSlots.{number_of, slots_of}
+use Rattle.vf_pdu.specs.PduNumbers.{number_of}
+use Rattle.vf_pdu.specs.PduSlots.{slots_of}
 use Rattle.vf_pdu.specs.declared.pdu.Pdu.{Pdu}
 
 -- each field of the PDU is in the range of its row

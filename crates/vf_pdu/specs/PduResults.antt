@@ -5,7 +5,8 @@ use Rattle.vf_pdu_fields.specs.Reading.{reading}
 use Rattle.vf_pdu_fields.specs.Results.{Fails}
 use Rattle.vf_pdu_fields.specs.Rows.{Row}
 use Rattle.vf_pdu_fields.specs.declared.errors.PduError.{PduError}
-use Rattle.vf_pdu.specs.PduSlots.{number_of, slots_of}
+use Rattle.vf_pdu.specs.PduNumbers.{number_of}
+use Rattle.vf_pdu.specs.PduSlots.{slots_of}
 use Rattle.vf_pdu.specs.declared.pdu.Pdu.{Pdu}
 
 -- a PDU of this number, whose fields are read by this row

@@ -5,13 +5,14 @@ use Rattle.vf_pdu_fields.specs.Meaning.{context}
 use Rattle.vf_pdu_fields.specs.Writing.{appended, fields}
 use Rattle.vf_pdu.specs.PduMeaning.{IsInRange, Means}
 use Rattle.vf_pdu.specs.PduRows.{row_of}
-use Rattle.vf_pdu.specs.PduSlots.{number_of, slots_of}
+use Rattle.vf_pdu.specs.PduNumbers.{number_of}
+use Rattle.vf_pdu.specs.PduSlots.{slots_of}
 use Rattle.vf_pdu.specs.declared.pdu.Pdu.{Pdu}
 
 abbrev pub value : Pdu → Tree
 value pdu = built (context (number_of pdu)) (fields (row_of (number_of pdu)) (slots (slots_of pdu)))
 
--- its fields, each put behind those before it
+-- its fields, each put after those before it
 abbrev pub parts_put : Pdu → Trees
 parts_put pdu = appended none (row_of (number_of pdu)) (slots_of pdu)
 

@@ -1,6 +1,6 @@
 //! Laws of meanings and faults, each the contract of a function that does nothing.
 ghost use Rattle.vf_pdu.specs.Laws.{FormsHaveOneContent, MeaningHasNoFault, MeaningIsComputed, MeaningIsInRange, MeaningIsOne, WrittenIsReadAgain};
-ghost use Rattle.vf_pdu.specs.PduSizes.{PduIsWithin};
+ghost use Rattle.vf_pdu.specs.PduSizes.{PduIsShort, PduIsWithin};
 ghost use Rattle.vf_pdu.specs.PduValue.{ValueMeans};
 
 /// A value that means a PDU has no fault.
@@ -41,4 +41,9 @@ pub fn written_is_read_again()
 /// The value of a PDU is within the limits that `vf_ber::write` has: depth 32 and 1,048,576 octets.
 pub fn value_is_within()
     ensures { PduIsWithin }
+{}
+
+/// The value of a PDU has at most the octets that the row of its number gives.
+pub fn value_is_short()
+    ensures { PduIsShort }
 {}

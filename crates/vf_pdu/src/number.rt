@@ -1,5 +1,5 @@
 ghost use Rattle.std.specs.Prelude.{◌≡◌};
-ghost use Rattle.vf_pdu.specs.PduSlots.{number_of};
+ghost use Rattle.vf_pdu.specs.PduNumbers.{number_of};
 
 use crate::Pdu;
 

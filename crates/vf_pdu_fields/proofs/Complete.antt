@@ -6,7 +6,7 @@ use Rattle.std.proofs.lemmas.Bool.{and_parts}
 use Rattle.vf_ber.specs.Tree.{Tag, Tree, built, Trees, none, more, root}
 use Rattle.vf_pdu_fields.specs.Content.{Content, Fields, Listed, Slots, nil, present, Items, item, Slot, slot}
 use Rattle.vf_pdu_fields.specs.Meaning.{context, Lacks, Each, Has, Holds}
-use Rattle.vf_pdu_fields.specs.Reading.{is_field, front, behind, sequence_parts, each_shape, lacking, slot_at, ended, shape, shapes}
+use Rattle.vf_pdu_fields.specs.Reading.{is_field, part_here, parts_after, sequence_parts, each_shape, lacking, slot_at, ended, shape, shapes}
 use Rattle.vf_pdu_fields.specs.Rows.{Need, required, optional, default, Form, one, sequence, list, Row, end, field}
 use Rattle.vf_pdu_fields.proofs.Steps.{step}
 use Rattle.vf_pdu_fields.proofs.Tables.{is_form, is_usual, is_table}
@@ -32,22 +32,22 @@ pub same_field : (number : ℕ) → is_field number (context number) ≡ true
 same_field number = grind arith
 
 -- a field below those of a row isn't the first part
-pub later : (row : Row) (least : ℕ) (parts : Trees) (s : Slots) (number : ℕ) → is_table least row ≡ true → number < least → Holds row parts s → front number parts ≡ None
-unfolding front
-later end least parts s number t lt h = let P : Trees → Type 0 = λ x. front number x ≡ None in subst P (sym h.0) refl
+pub later : (row : Row) (least : ℕ) (parts : Trees) (s : Slots) (number : ℕ) → is_table least row ≡ true → number < least → Holds row parts s → part_here number parts ≡ None
+unfolding part_here
+later end least parts s number t lt h = let P : Trees → Type 0 = λ x. part_here number x ≡ None in subst P (sym h.0) refl
 later (field n form need row) least parts s number t lt h =
     let q = tests least n form need row t in
     let above : number < n = grind (arith, q.low, lt) in
     elim h [
       | inl a ↦
           let Q : Tag → Type 0 = λ x. cond (is_field number x) (Some a.0) None ≡ None in
-          let P : Trees → Type 0 = λ x. front number x ≡ None in
+          let P : Trees → Type 0 = λ x. part_here number x ≡ None in
           subst P (sym a.4) (subst Q (sym a.6) (ap (λ b. cond b (Some a.0) None) (not_field n number above)))
       | inr a ↦ later row (n + 1) parts a.1 number q.rest (omega (arith, above)) a.4
     ]
 
-behind_none : (number : ℕ) (parts : Trees) → front number parts ≡ None → behind number parts ≡ parts
-unfolding front behind
+behind_none : (number : ℕ) (parts : Trees) → part_here number parts ≡ None → parts_after number parts ≡ parts
+unfolding part_here parts_after
 behind_none number none e = refl
 behind_none number (more part parts) e = behind_by number part parts (is_field number (root part)) refl e
   where
@@ -70,22 +70,22 @@ each_shapes inner row complete (more part parts) all h =
     ap (option_and_then (λ (first : Slots). option_map (item first) (each_shape inner parts))) a
     ∙ ap (option_map (item h.1)) (each_shapes inner row complete parts h.2 h.6) ∙ ap (λ (x : Items). Some x) (sym h.4)
 
--- a field that is there, and those behind it
+-- a field that is there, and those after it
 there : (number : ℕ) (form : Form) (need : Need) (row : Row) (parts : Trees) (s : Slots) (part : Tree) (others : Trees) (content : Content) (rest : Slots)
     → parts ≡ more part others → s ≡ present content rest → root part ≡ context number → shape form part ≡ Some content → shapes row others ≡ Some rest
     → shapes (field number form need row) parts ≡ Some s
-unfolding front behind slot_at
+unfolding part_here parts_after slot_at
 there number form need row parts s part others content rest p e r c o =
     let is : is_field number (root part) ≡ true = ap (is_field number) r ∙ same_field number in
-    let F : Trees → Type 0 = λ x. front number x ≡ Some part in
-    let f : front number parts ≡ Some part = subst F (sym p) (ap (λ b. cond b (Some part) None) is) in
-    let B : Trees → Type 0 = λ x. others ≡ behind number x in
-    let b : others ≡ behind number parts = subst B (sym p) (sym (ap (λ b. cond b others (more part others)) is)) in
+    let F : Trees → Type 0 = λ x. part_here number x ≡ Some part in
+    let f : part_here number parts ≡ Some part = subst F (sym p) (ap (λ b. cond b (Some part) None) is) in
+    let B : Trees → Type 0 = λ x. others ≡ parts_after number x in
+    let b : others ≡ parts_after number parts = subst B (sym p) (sym (ap (λ b. cond b others (more part others)) is)) in
     step number form need row parts others (Some content) rest (ap (slot_at (shape form) (lacking need)) f ∙ ap (option_map (λ (x : Content). Some x)) c) b o
     ∙ ap (λ (x : Slots). Some x) (sym e)
 
 absent_field : (number : ℕ) (form : Form) (need : Need) (row : Row) (parts : Trees) (s : Slots) (first : Slot) (rest : Slots)
-    → s ≡ slot first rest → Lacks need first → front number parts ≡ None → shapes row parts ≡ Some rest → shapes (field number form need row) parts ≡ Some s
+    → s ≡ slot first rest → Lacks need first → part_here number parts ≡ None → shapes row parts ≡ Some rest → shapes (field number form need row) parts ≡ Some s
 unfolding slot_at
 absent_field number form need row parts s first rest e l f o =
     step number form need row parts parts first rest (ap (slot_at (shape form) (lacking need)) f ∙ is_lacking need first l) (sym (behind_none number parts f)) o

@@ -6,7 +6,7 @@ use Rattle.vf_pdu_fields.specs.Content.{Content, Slot}
 use Rattle.vf_pdu_fields.specs.Fault.{Fault, Range, Missing}
 use Rattle.vf_pdu_fields.specs.Faults.{or_else, has_part, is_required, missing, fault_in}
 use Rattle.vf_pdu_fields.specs.Meaning.{context, fits}
-use Rattle.vf_pdu_fields.specs.Reading.{is_field, front, behind, shape, ◌>>=◌, checked, field_at, next_place, absence, end_at, found, completed, reading}
+use Rattle.vf_pdu_fields.specs.Reading.{is_field, part_here, parts_after, shape, ◌>>=◌, checked, field_at, next_place, absence, end_at, found, completed, reading}
 use Rattle.vf_pdu_fields.specs.Rows.{Need, required, optional, default, Form, Row, end, field}
 use Rattle.vf_pdu_fields.proofs.Complete.{tests, not_field}
 use Rattle.vf_pdu_fields.proofs.FirstFaults.{told, told_map, found_told}
@@ -18,19 +18,19 @@ use Rattle.vf_pdu_fields.proofs.Tables.{is_table}
 abbrev SameFrom : ℕ → Trees → Trees → Type 0
 SameFrom least all parts = (number : ℕ) → least ≤ number → has_part number all ≡ has_part number parts
 
--- what reading a field and those behind it gives
+-- what reading a field and those after it gives
 record Step (place number : ℕ) (form : Form) (need : Need) (row : Row) (parts : Trees) (raw : List Slot) : Type 0 where
   first : Slot
   others : List Slot
-  at_first : field_at place number form (absence need) (front number parts) ≡ Ok first
-  at_others : found row (next_place place (front number parts)) (behind number parts) ≡ Ok others
+  at_first : field_at place number form (absence need) (part_here number parts) ≡ Ok first
+  at_others : found row (next_place place (part_here number parts)) (parts_after number parts) ≡ Ok others
   both : first ∷ others ≡ raw
 
 stepped : (place number : ℕ) (form : Form) (need : Need) (row : Row) (parts : Trees) (raw : List Slot) → found (field number form need row) place parts ≡ Ok raw → Step place number form need row parts raw
 stepped place number form need row parts raw e =
-    let a = bind_ok (field_at place number form (absence need) (front number parts))
-    (λ first. found row (next_place place (front number parts)) (behind number parts) >>= λ rest. Ok (first ∷ rest)) raw e in
-    let b = bind_ok (found row (next_place place (front number parts)) (behind number parts)) (λ (rest : List Slot). let r : Result (List Slot) Fault = Ok (a.0 ∷ rest) in r) raw a.2 in
+    let a = bind_ok (field_at place number form (absence need) (part_here number parts))
+    (λ first. found row (next_place place (part_here number parts)) (parts_after number parts) >>= λ rest. Ok (first ∷ rest)) raw e in
+    let b = bind_ok (found row (next_place place (part_here number parts)) (parts_after number parts)) (λ (rest : List Slot). let r : Result (List Slot) Fault = Ok (a.0 ∷ rest) in r) raw a.2 in
     record { first = a.0; others = b.0; at_first = a.1; at_others = b.1; both = ok_is (a.0 ∷ b.0) raw b.2 }
 
 below_by : (n number : ℕ) (part : Tree) (parts : Trees) (b : Bool) → b ≡ is_field n (root part) → number < n → has_part number (cond b parts (more part parts)) ≡ false → has_part number (more part parts) ≡ false
@@ -39,8 +39,8 @@ below_by n number part parts true s lt h =
     let other : is_field number (root part) ≡ false = ap (is_field number) (context_is n (root part) (sym s)) ∙ not_field n number lt in
     ap (λ b. b || has_part number parts) other ∙ h
 
-below_field : (n number : ℕ) (parts : Trees) → number < n → has_part number (behind n parts) ≡ false → has_part number parts ≡ false
-unfolding behind
+below_field : (n number : ℕ) (parts : Trees) → number < n → has_part number (parts_after n parts) ≡ false → has_part number parts ≡ false
+unfolding parts_after
 below_field n number none lt h = refl
 below_field n number (more part parts) lt h = below_by n number part parts (is_field n (root part)) refl lt h
 
@@ -53,13 +53,13 @@ none_below (field n form need row) least place parts raw number t lt e =
     let q = tests least n form need row t in
     let s = stepped place n form need row parts raw e in
     let above : number < n = grind (arith, q.low, lt) in
-    below_field n number parts above (none_below row (n + 1) (next_place place (front n parts)) (behind n parts) s.others number q.rest (omega (arith, above)) s.at_others)
+    below_field n number parts above (none_below row (n + 1) (next_place place (part_here n parts)) (parts_after n parts) s.others number q.rest (omega (arith, above)) s.at_others)
 
 other_field : (number n : ℕ) → number + 1 ≤ n → is_field n (context number) ≡ false
 other_field number n le = grind (arith, le)
 
-same_next : (all parts : Trees) (least number : ℕ) → nat_le least number ≡ true → SameFrom least all parts → SameFrom (number + 1) all (behind number parts)
-unfolding behind
+same_next : (all parts : Trees) (least number : ℕ) → nat_le least number ≡ true → SameFrom least all parts → SameFrom (number + 1) all (parts_after number parts)
+unfolding parts_after
 same_next all none least number low same n le = same n (grind (arith, low, le))
 same_next all (more part parts) least number low same n le = same_by all part parts least number low same n le (is_field number (root part)) refl
   where
@@ -90,11 +90,11 @@ by_part place number form need row part parts first false s e gone = inl (gone r
 there_or_not : (place number : ℕ) (form : Form) (need : Need) (row : Row) (parts : Trees) (raw : List Slot) → is_table (number + 1) row ≡ true
     → (s : Step place number form need row parts raw)
     → ((has_part number parts ≡ false) × (s.first ≡ absence need)) ⊎ ((has_part number parts ≡ true) × ((content : Content) × (s.first ≡ Some content)))
-unfolding field_at front behind
+unfolding field_at part_here parts_after
 there_or_not place number form need row none raw t s = inl (refl, sym (ok_is (absence need) s.first s.at_first))
 there_or_not place number form need row (more part parts) raw t s =
     by_part place number form need row part parts s.first (is_field number (root part)) refl s.at_first
-    (λ e. none_below row (number + 1) (next_place place (front number (more part parts))) (behind number (more part parts)) s.others number t (omega arith) s.at_others)
+    (λ e. none_below row (number + 1) (next_place place (part_here number (more part parts))) (parts_after number (more part parts)) s.others number t (omega arith) s.at_others)
 
 -- a field that needn't be there
 not_needed : (number : ℕ) (need : Need) (first : Slot) (row : Row) (rest : List Slot) (form : Form) → is_required need ≡ false
@@ -139,7 +139,7 @@ missing_told (field number form need row) least place all parts raw t same e =
     let C : List Slot → Type 0 = λ x. missing (field number form need row) all ≡ told (completed (field number form need row) x) in
     subst C s.both
     (missing_by number form need row all parts s.first s.others (same number (grind (arith, q.low))) (there_or_not place number form need row parts raw q.rest s)
-    (missing_told row (number + 1) (next_place place (front number parts)) all (behind number parts) s.others q.rest (same_next all parts least number q.low same) s.at_others))
+    (missing_told row (number + 1) (next_place place (part_here number parts)) all (parts_after number parts) s.others q.rest (same_next all parts least number q.low same) s.at_others))
 
 told_by : (r : Result (List Slot) Fault) (k : List Slot → Result (List Slot) Fault) (absent : Option Fault) → ((raw : List Slot) → r ≡ Ok raw → absent ≡ told (k raw))
     → or_else (told r) absent ≡ told (r >>= k)

@@ -6,7 +6,7 @@ use Rattle.vf_pdu_fields.specs.Content.{Content, Slot}
 use Rattle.vf_pdu_fields.specs.Fault.{Fault, Field, Range}
 use Rattle.vf_pdu_fields.specs.Faults.{or_else, form_of, judged, part_fault, first_fault}
 use Rattle.vf_pdu_fields.specs.Meaning.{context, fits}
-use Rattle.vf_pdu_fields.specs.Reading.{is_field, front, behind, shape, ◌>>=◌, checked, field_at, next_place, absence, end_at, found}
+use Rattle.vf_pdu_fields.specs.Reading.{is_field, part_here, parts_after, shape, ◌>>=◌, checked, field_at, next_place, absence, end_at, found}
 use Rattle.vf_pdu_fields.specs.Rows.{Need, Form, Row, end, field}
 use Rattle.vf_pdu_fields.proofs.Complete.{Tests, tests}
 use Rattle.vf_pdu_fields.proofs.Plain.{context_is}
@@ -82,7 +82,7 @@ skip whole row place least number form need part parts q agree other =
     let lt : (root part).number < number + 1 = grind (arith, h) in
     agree (root part).number le ∙ ap (λ b. cond b (Some form) (form_of row (root part).number)) ne ∙ form_below row (number + 1) (root part).number q.rest lt)
 
--- a field that is there: its fault, or that of those behind it
+-- a field that is there: its fault, or that of those after it
 part_is_told : (place number : ℕ) (form : Form) (o : Option Content) (k : Slot → Result (List Slot) Fault) (behind_it : Option Fault)
     → ((content : Content) → behind_it ≡ told (k (Some content)))
     → or_else (judged place number form o) behind_it ≡ told (checked place number form o >>= k)
@@ -131,7 +131,7 @@ field_told whole row place least number form need part parts false b q agree aft
 
 pub found_told : (whole row : Row) (place least : ℕ) (parts : Trees) → is_table least row ≡ true → Agree whole row least
     → first_fault whole place least parts ≡ told (found row place parts)
-unfolding field_at next_place front behind
+unfolding field_at next_place part_here parts_after
 found_told whole end place least parts t agree = end_told whole place least parts agree
 found_told whole (field number form need row) place least none t agree =
     let q = tests least number form need row t in

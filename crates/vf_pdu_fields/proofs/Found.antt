@@ -6,7 +6,7 @@ use Rattle.vf_ber.specs.Tree.{Tree, Trees, none, more, root}
 use Rattle.vf_pdu_fields.specs.Content.{Content, Slot, slots}
 use Rattle.vf_pdu_fields.specs.Fault.{Fault, Range}
 use Rattle.vf_pdu_fields.specs.Meaning.{context, Holds, fits, all_fit}
-use Rattle.vf_pdu_fields.specs.Reading.{is_field, front, behind, shape, ◌>>=◌, checked, field_at, next_place, absence, end_at, found, filled, completed, reading}
+use Rattle.vf_pdu_fields.specs.Reading.{is_field, part_here, parts_after, shape, ◌>>=◌, checked, field_at, next_place, absence, end_at, found, filled, completed, reading}
 use Rattle.vf_pdu_fields.specs.Rows.{Need, required, optional, default, Form, Row, end, field}
 use Rattle.vf_pdu_fields.proofs.Plain.{context_is}
 use Rattle.vf_pdu_fields.proofs.Shapes.{shape_has}
@@ -78,9 +78,9 @@ first_kept place number form need row part parts first kept others false b u e f
     absent_kept number form need row (more part parts) kept others u (absent_first need kept first number e f) k
 
 field_kept : (place number : ℕ) (form : Form) (need : Need) (row : Row) (parts : Trees) (first kept : Slot) (others : List Slot)
-    → is_usual form need ≡ true → field_at place number form (absence need) (front number parts) ≡ Ok first → filled number need first ≡ Ok kept
-    → Kept row (behind number parts) others → Kept (field number form need row) parts (kept ∷ others)
-unfolding field_at front behind
+    → is_usual form need ≡ true → field_at place number form (absence need) (part_here number parts) ≡ Ok first → filled number need first ≡ Ok kept
+    → Kept row (parts_after number parts) others → Kept (field number form need row) parts (kept ∷ others)
+unfolding field_at part_here parts_after
 field_kept place number form need row none first kept others u e f k =
     absent_kept number form need row none kept others u (absent_first need kept first number e f) k
 field_kept place number form need row (more part parts) first kept others u e f k =
@@ -98,15 +98,15 @@ found_kept (field number form need row) least place parts raw read t e c =
     let t1 = and_parts (nat_le least number) (is_form form && (is_usual form need && is_table (number + 1) row)) t in
     let t2 = and_parts (is_form form) (is_usual form need && is_table (number + 1) row) t1.1 in
     let t3 = and_parts (is_usual form need) (is_table (number + 1) row) t2.1 in
-    let a = bind_ok (field_at place number form (absence need) (front number parts))
-    (λ first. found row (next_place place (front number parts)) (behind number parts) >>= λ rest. Ok (first ∷ rest)) raw e in
-    let b = bind_ok (found row (next_place place (front number parts)) (behind number parts)) (λ (rest : List Slot). let r : Result (List Slot) Fault = Ok (a.0 ∷ rest) in r) raw a.2 in
+    let a = bind_ok (field_at place number form (absence need) (part_here number parts))
+    (λ first. found row (next_place place (part_here number parts)) (parts_after number parts) >>= λ rest. Ok (first ∷ rest)) raw e in
+    let b = bind_ok (found row (next_place place (part_here number parts)) (parts_after number parts)) (λ (rest : List Slot). let r : Result (List Slot) Fault = Ok (a.0 ∷ rest) in r) raw a.2 in
     let C : List Slot → Type 0 = λ x. completed (field number form need row) x ≡ Ok read in
     let d = bind_ok (filled number need a.0) (λ kept. completed row b.0 >>= λ others. Ok (kept ∷ others)) read (subst C (sym (ok_is (a.0 ∷ b.0) raw b.2)) c) in
     let f = bind_ok (completed row b.0) (λ (others : List Slot). let r : Result (List Slot) Fault = Ok (d.0 ∷ others) in r) read d.2 in
     let P : List Slot → Type 0 = λ x. Kept (field number form need row) parts x in
     subst P (ok_is (d.0 ∷ f.0) read f.2)
-    (field_kept place number form need row parts a.0 d.0 f.0 t3.0 a.1 d.1 (found_kept row (number + 1) (next_place place (front number parts)) (behind number parts) b.0 f.0 t3.1 b.1 f.1))
+    (field_kept place number form need row parts a.0 d.0 f.0 t3.0 a.1 d.1 (found_kept row (number + 1) (next_place place (part_here number parts)) (parts_after number parts) b.0 f.0 t3.1 b.1 f.1))
 
 -- what is read is kept
 pub reading_kept : (row : Row) (parts : Trees) (read : List Slot) → is_table 0 row ≡ true → reading row parts ≡ Ok read → Kept row parts read

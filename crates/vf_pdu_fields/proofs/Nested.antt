@@ -7,7 +7,7 @@ use Rattle.vf_ber.specs.Tree.{Tree, Trees, none, more}
 use Rattle.vf_pdu_fields.specs.Content.{Content, Fields, Slots, Slot, slot, slots}
 use Rattle.vf_pdu_fields.specs.Fault.{Fault, Field, Range}
 use Rattle.vf_pdu_fields.specs.Meaning.{fits, all_fit}
-use Rattle.vf_pdu_fields.specs.Reading.{front, behind, parts_of, lacking, slot_at, ended, shape, shapes, ◌>>=◌, checked, unread, field_at, next_place, absence, end_at, found, filled, completed, reading}
+use Rattle.vf_pdu_fields.specs.Reading.{part_here, parts_after, parts_of, lacking, slot_at, ended, shape, shapes, ◌>>=◌, checked, unread, field_at, next_place, absence, end_at, found, filled, completed, reading}
 use Rattle.vf_pdu_fields.specs.Rows.{Need, required, optional, default, Form, sequence, Row, end, field}
 use Rattle.vf_pdu_fields.specs.Results.{Fails}
 use Rattle.vf_pdu_fields.specs.declared.errors.PduError.{PduError}
@@ -70,11 +70,11 @@ end_given place none s e = ([], [], refl, refl)
 end_given place (more part parts) s e = absurd cc
 
 next_given : (place number : ℕ) (form : Form) (need : Need) (row : Row) (parts : Trees) (first : Slot)
-    → Reads place number form need (front number parts) first → Given row (next_place place (front number parts)) (behind number parts) → Given (field number form need row) place parts
+    → Reads place number form need (part_here number parts) first → Given row (next_place place (part_here number parts)) (parts_after number parts) → Given (field number form need row) place parts
 next_given place number form need row parts first r g = (
   first ∷ g.0,
   first ∷ g.1,
-  ap (λ (o : Result Slot Fault). o >>= λ first. found row (next_place place (front number parts)) (behind number parts) >>= λ rest. let y : Result (List Slot) Fault = Ok (first ∷ rest) in y) r.0
+  ap (λ (o : Result Slot Fault). o >>= λ first. found row (next_place place (part_here number parts)) (parts_after number parts) >>= λ rest. let y : Result (List Slot) Fault = Ok (first ∷ rest) in y) r.0
       ∙ ap (λ (o : Result (List Slot) Fault). o >>= λ rest. let y : Result (List Slot) Fault = Ok (first ∷ rest) in y) g.2,
   ap (λ (o : Result Slot Fault). o >>= λ kept. completed row g.0 >>= λ others. let y : Result (List Slot) Fault = Ok (kept ∷ others) in y) r.1
       ∙ ap (λ (o : Result (List Slot) Fault). o >>= λ others. let y : Result (List Slot) Fault = Ok (first ∷ others) in y) g.3,
@@ -83,12 +83,12 @@ next_given place number form need row parts first r g = (
 shapes_given : (row : Row) (place : ℕ) (parts : Trees) (s : Slots) → shapes row parts ≡ Some s → all_fit row s ≡ true → Given row place parts
 shapes_given end place parts s e r = end_given place parts s e
 shapes_given (field number form need row) place parts s e r =
-    let b = bind_some (λ (first : Slot). option_map (slot first) (shapes row (behind number parts))) (slot_at (shape form) (lacking need) (front number parts)) s e in
-    let m = map_some (slot b.0) (shapes row (behind number parts)) s b.2 in
+    let b = bind_some (λ (first : Slot). option_map (slot first) (shapes row (parts_after number parts))) (slot_at (shape form) (lacking need) (part_here number parts)) s e in
+    let m = map_some (slot b.0) (shapes row (parts_after number parts)) s b.2 in
     let F : Slots → Type 0 = λ x. all_fit (field number form need row) x ≡ true in
     let f = fits_here number form need row b.0 m.0 (subst F (sym m.2) r) in
-    next_given place number form need row parts b.0 (field_reads place number form need (front number parts) b.0 b.1 f.0)
-    (shapes_given row (next_place place (front number parts)) (behind number parts) m.0 m.1 f.1)
+    next_given place number form need row parts b.0 (field_reads place number form need (part_here number parts) b.0 b.1 f.0)
+    (shapes_given row (next_place place (part_here number parts)) (parts_after number parts) m.0 m.1 f.1)
 
 pub shapes_read : (row : Row) (parts : Trees) (s : Slots) → shapes row parts ≡ Some s → all_fit row s ≡ true → (read : List Slot) × (reading row parts ≡ Ok read)
 shapes_read row parts s e r =

@@ -24,6 +24,10 @@ long_fits : (n : ℤ) → is_long n ≡ true → FitsSigned w64 n
 long_fits (pos n) e = let lt : n < 9223372036854775808 = ltb-true n 9223372036854775808 e in omega (arith, ints)
 long_fits (negsuc n) e = let lt : n < 9223372036854775808 = ltb-true n 9223372036854775808 e in omega (arith, ints)
 
+pub fits_long : (n : ℤ) → FitsSigned w64 n → is_long n ≡ true
+fits_long (pos n) f = lt-ltb n 9223372036854775808 (omega (arith, ints, f))
+fits_long (negsuc n) f = lt-ltb n 9223372036854775808 (omega (arith, ints, f))
+
 from_to_long : (low high : ℕ) (n : ℤ) → high < 9223372036854775808 → is_from_to low high n ≡ true → is_long n ≡ true
 from_to_long low high (pos n) short e =
     let le : n ≤ high = leb-true n high (and_parts (nat_le low n) (nat_le n high) e).1 in

@@ -5,7 +5,7 @@ use Rattle.std.specs.Option.{option_and_then, option_map}
 use Rattle.vf_ber.specs.Tree.{Tree, plain, built, Trees, none, more, root}
 use Rattle.vf_pdu_fields.specs.Content.{Content, Fields, Listed, Slots, nil, Items, nothing, item, Slot, slot}
 use Rattle.vf_pdu_fields.specs.Meaning.{Lacks, Each, Has, Holds}
-use Rattle.vf_pdu_fields.specs.Reading.{is_field, front, behind, sequence_parts, each_shape, lacking, slot_at, ended, shape, shapes}
+use Rattle.vf_pdu_fields.specs.Reading.{is_field, part_here, parts_after, sequence_parts, each_shape, lacking, slot_at, ended, shape, shapes}
 use Rattle.vf_pdu_fields.specs.Rows.{Need, required, optional, default, Form, one, sequence, list, Row, end, field}
 use Rattle.vf_pdu_fields.proofs.Plain.{some_is, bind_some, map_some, context_is, sequence_is}
 
@@ -15,7 +15,7 @@ lacks_is required first e = absurd cc
 lacks_is optional first e = sym (some_is None first e)
 lacks_is (default content) first e = sym (some_is (Some content) first e)
 
--- one field, and those behind it
+-- one field, and those after it
 step_by : (number : ℕ) (form : Form) (need : Need) (row : Row) (part : Tree) (parts : Trees) (first : Slot) (others : Slots) (b : Bool)
     → b ≡ is_field number (root part)
     → slot_at (shape form) (lacking need) (cond b (Some part) None) ≡ Some first
@@ -28,10 +28,10 @@ step_by number form need row part parts first others true s e has holds =
 step_by number form need row part parts first others false s e has holds = inr (first, others, refl, lacks_is need first e, holds)
 
 step_holds : (number : ℕ) (form : Form) (need : Need) (row : Row) (parts : Trees) (first : Slot) (others : Slots)
-    → slot_at (shape form) (lacking need) (front number parts) ≡ Some first
+    → slot_at (shape form) (lacking need) (part_here number parts) ≡ Some first
     → ((part : Tree) (content : Content) → shape form part ≡ Some content → Has form part content)
-    → Holds row (behind number parts) others → Holds (field number form need row) parts (slot first others)
-unfolding front behind slot_at
+    → Holds row (parts_after number parts) others → Holds (field number form need row) parts (slot first others)
+unfolding part_here parts_after slot_at
 step_holds number form need row none first others e has holds = inr (first, others, refl, lacks_is need first e, holds)
 step_holds number form need row (more part parts) first others e has holds =
     step_by number form need row part parts first others (is_field number (root part)) refl e (has part) holds
@@ -65,7 +65,7 @@ mutual
   pub shapes_hold : (row : Row) (parts : Trees) (found : Slots) → shapes row parts ≡ Some found → Holds row parts found
   shapes_hold end parts found e = end_holds parts found e
   shapes_hold (field number form need row) parts found e =
-      let b = bind_some (λ (first : Slot). option_map (slot first) (shapes row (behind number parts))) (slot_at (shape form) (lacking need) (front number parts)) found e in
-      let m = map_some (slot b.0) (shapes row (behind number parts)) found b.2 in
+      let b = bind_some (λ (first : Slot). option_map (slot first) (shapes row (parts_after number parts))) (slot_at (shape form) (lacking need) (part_here number parts)) found e in
+      let m = map_some (slot b.0) (shapes row (parts_after number parts)) found b.2 in
       let P : Slots → Type 0 = λ s. Holds (field number form need row) parts s in
-      subst P m.2 (step_holds number form need row parts b.0 m.0 b.1 (shape_has form) (shapes_hold row (behind number parts) m.0 m.1))
+      subst P m.2 (step_holds number form need row parts b.0 m.0 b.1 (shape_has form) (shapes_hold row (parts_after number parts) m.0 m.1))

@@ -15,6 +15,7 @@ use Rattle.vf_pdu_fields.specs.Content.{Content, Number, Truth, Octets, Arcs, Fi
 use Rattle.vf_pdu_fields.specs.Forms.{has_date_form, is_control, is_date, is_digit, is_moment, within}
 use Rattle.vf_pdu_fields.specs.Meaning.{context, universal, count, each_within, fits, all_fit}
 use Rattle.vf_pdu_fields.specs.Rows.{Simple, Integer, Boolean, Text, String, Controls, Oid, Date, required, optional, default, Form, one, sequence, list, Row, end, field}
+use Rattle.vf_pdu_fields.specs.Sizes.{most, most_in, most_of}
 use Rattle.vf_pdu_fields.specs.Writing.{contents_octets, fields, is_default, spelled, spelled_items}
 
 pub record Fits (tree : Tree) (octets levels : ℕ) : Type 0 where
@@ -52,27 +53,7 @@ oid-short (first ∷ []) = omega arith
 oid-short (first ∷ second ∷ arcs) =
     omega (arith, length-append (arc_octets (40 * first + second)) (flat_map arc_octets arcs), arc-short (40 * first + second), arcs-short arcs)
 
--- ---- bounds by the row
-
-abbrev most_of : Simple → ℕ
-most_of (Integer range) = 8
-most_of Boolean = 1
-most_of Text = 255
-most_of String = 255
-most_of (Controls count) = count
-most_of Oid = 80
-most_of Date = 15
-
-abbrev mutual
-  -- the most octets of a value of this form, with seven for the tag and the length
-  pub most : Form → ℕ
-  most (one simple) = most_of simple + 7
-  most (sequence row) = most_in row + 7
-  most (list row) = 256 * (most_in row + 7) + 7
-
-  pub most_in : Row → ℕ
-  most_in end = 0
-  most_in (field number form need row) = most form + most_in row
+-- ---- how deep, by the row
 
 abbrev mutual
   pub levels : Form → ℕ

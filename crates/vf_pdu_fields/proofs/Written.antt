@@ -1,4 +1,4 @@
--- Fields that are put one behind another are the fields of their row.
+-- Fields that are put one after another are the fields of their row.
 use Rattle.std.proofs.Common.{◌≡◌, Bool, true, false, cond, List, [], ◌∷◌, ◌++◌, map, refl, ap, sym, ◌∙◌}
 use Rattle.std.specs.Prelude.{Some, None}
 use Rattle.vf_ber.specs.Tree.{Tree, built, Trees, none, more, joined}
@@ -15,11 +15,11 @@ pub joined_joined : (a b c : Trees) → joined (joined a b) c ≡ joined a (join
 joined_joined none b c = refl
 joined_joined (more part a) b c = ap (more part) (joined_joined a b c)
 
--- one field, written or left out, and those behind it
-one_more : (row : Row) (rest : List Slot) (parts : Trees) (part : Tree) (b : Bool) → ((front : Trees) → appended front row rest ≡ joined front (fields row (slots rest)))
+-- one field, written or left out, and those after it
+one_more : (row : Row) (rest : List Slot) (parts : Trees) (part : Tree) (b : Bool) → ((earlier : Trees) → appended earlier row rest ≡ joined earlier (fields row (slots rest)))
     → appended (parts ▸ cond b None (Some part)) row rest ≡ joined parts (cond b (fields row (slots rest)) (more part (fields row (slots rest))))
-one_more row rest parts part true behind = behind parts
-one_more row rest parts part false behind = behind (joined parts (more part none)) ∙ joined_joined parts (more part none) (fields row (slots rest))
+one_more row rest parts part true after = after parts
+one_more row rest parts part false after = after (joined parts (more part none)) ∙ joined_joined parts (more part none) (fields row (slots rest))
 
 pub appended_is : (row : Row) (all : List Slot) (parts : Trees) → appended parts row all ≡ joined parts (fields row (slots all))
 appended_is end all parts = sym (joined_none parts)
@@ -28,7 +28,7 @@ appended_is (field number form need row) (None ∷ rest) parts = appended_is row
 appended_is (field number form need row) (Some content ∷ rest) parts =
     one_more row rest parts (spelled (context number) form content) (is_default need content) (appended_is row rest)
 
--- behind none
+-- after none
 pub all_appended : (row : Row) (all : List Slot) (made : Trees) → made ≡ appended none row all → made ≡ fields row (slots all)
 all_appended row all made e = e ∙ appended_is row all none
 

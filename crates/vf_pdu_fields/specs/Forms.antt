@@ -7,6 +7,7 @@ use Rattle.vf_base.specs.Name.{is_name}
 use Rattle.vf_base.specs.Oid.{is_oid}
 use Rattle.vf_ber.specs.Primitive.{integer_of, boolean_of, octets_of, oid_of}
 use Rattle.vf_ber.specs.Tree.{Tree}
+use Rattle.vf_pdu_fields.specs.declared.limits.TheConstants.{MOST_TEXT_OCTETS, MOST_UNIT}
 use Rattle.vf_pdu_fields.specs.Content.{Content, Number, Truth, Octets, Arcs}
 use Rattle.vf_pdu_fields.specs.Rows.{Range, Any, FromTo, Fadu, Simple, Integer, Boolean, Text, String, Controls, Oid, Date}
 
@@ -31,7 +32,7 @@ shape_of Oid tree = option_map Arcs (oid_of tree)
 shape_of Date tree = option_and_then dated (octets_of tree)
 
 abbrev pub is_unit : ℤ → Bool
-is_unit (pos n) = nat_le n 4294967295
+is_unit (pos n) = nat_le n MOST_UNIT
 is_unit (negsuc n) = nat_lt n 6
 
 abbrev pub is_from_to : ℕ → ℕ → ℤ → Bool
@@ -82,7 +83,7 @@ abbrev pub within : Simple → Content → Bool
 within (Integer range) (Number n) = in_range range n
 within Boolean (Truth b) = true
 within Text (Octets name) = is_name name
-within String (Octets given) = nat_le (length given) 255
+within String (Octets given) = nat_le (length given) MOST_TEXT_OCTETS
 within (Controls count) (Octets each) = nat_eq (length each) count && list_all is_control each
 within Oid (Arcs arcs) = is_oid arcs
 within Date (Octets moment) = is_date moment

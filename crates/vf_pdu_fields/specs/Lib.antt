@@ -1,10 +1,13 @@
+pub mod Contained
 pub mod Content
 pub mod Fault
 pub mod Faults
 pub mod Forms
+pub mod InRange
 pub mod Meaning
 pub mod Reading
 pub mod Results
 pub mod Rows
+pub mod Sizes
 pub mod Slots
 pub mod Writing

@@ -3,6 +3,7 @@ use Rattle.std.specs.Prelude.{◌≡◌, ℕ, ◌+◌, Bool, true, false, ◌&&�
 use Rattle.vf_ber.specs.Tree.{Tag, Tree, built, Trees, none, more, root}
 use Rattle.vf_pdu_fields.specs.Content.{Content, Fields, Listed, Slots, nil, present, absent, Items, nothing, item, Slot, slot, slots}
 use Rattle.vf_pdu_fields.specs.Forms.{shape_of, within}
+use Rattle.vf_pdu_fields.specs.declared.limits.TheConstants.{MOST_ITEMS}
 use Rattle.vf_pdu_fields.specs.Rows.{Need, required, optional, default, Form, one, sequence, list, Row, end, field}
 
 abbrev pub context : ℕ → Tag
@@ -50,14 +51,14 @@ abbrev pub each_within : (Slots → Bool) → Items → Bool
 each_within test nothing = true
 each_within test (item first rest) = test first && each_within test rest
 
--- The contents are of the form and in range: that of each simple value, and 256 items at most. Each field is there or
+-- The contents are of the form and in range: that of each simple value, and so many items at most. Each field is there or
 -- may be absent.
 abbrev mutual
   pub fits : Form → Content → Bool
   fits (one simple) content = within simple content
   fits (sequence row) (Fields inside) = all_fit row inside
   fits (sequence row) _ = false
-  fits (list row) (Listed inside) = nat_le (count inside) 256 && each_within (all_fit row) inside
+  fits (list row) (Listed inside) = nat_le (count inside) MOST_ITEMS && each_within (all_fit row) inside
   fits (list row) _ = false
 
   pub all_fit : Row → Slots → Bool

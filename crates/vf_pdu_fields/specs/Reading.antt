@@ -15,14 +15,14 @@ abbrev pub is_field : ℕ → Tag → Bool
 is_field number tag = nat_eq tag.class 2 && nat_eq tag.number number
 
 -- the first part, where it is this field
-unfoldable pub front : ℕ → Trees → Option Tree
-front number none = None
-front number (more part parts) = if is_field number (root part) then Some part else None
+unfoldable pub part_here : ℕ → Trees → Option Tree
+part_here number none = None
+part_here number (more part parts) = if is_field number (root part) then Some part else None
 
--- the parts behind this field, where it is the first
-unfoldable pub behind : ℕ → Trees → Trees
-behind number none = none
-behind number (more part parts) = if is_field number (root part) then parts else more part parts
+-- the parts after this field, where it is the first
+unfoldable pub parts_after : ℕ → Trees → Trees
+parts_after number none = none
+parts_after number (more part parts) = if is_field number (root part) then parts else more part parts
 
 abbrev pub parts_of : Tree → Option Trees
 parts_of (plain tag octets) = None
@@ -62,8 +62,8 @@ abbrev mutual
   pub shapes : Row → Trees → Option Slots
   shapes end parts = ended parts
   shapes (field number form need row) parts =
-      option_and_then (λ first. option_map (slot first) (shapes row (behind number parts)))
-      (slot_at (shape form) (lacking need) (front number parts))
+      option_and_then (λ first. option_map (slot first) (shapes row (parts_after number parts)))
+      (slot_at (shape form) (lacking need) (part_here number parts))
 
 infixl 10 ◌>>=◌
 abbrev pub ◌>>=◌ : {A B : Type 0} → Result A Fault → (A → Result B Fault) → Result B Fault
@@ -99,8 +99,8 @@ end_at place (more part parts) = Err (Field place)
 abbrev pub found : Row → ℕ → Trees → Result (List Slot) Fault
 found end place parts = end_at place parts
 found (field number form need row) place parts =
-    field_at place number form (absence need) (front number parts) >>= λ first.
-    found row (next_place place (front number parts)) (behind number parts) >>= λ rest. Ok (first ∷ rest)
+    field_at place number form (absence need) (part_here number parts) >>= λ first.
+    found row (next_place place (part_here number parts)) (parts_after number parts) >>= λ rest. Ok (first ∷ rest)
 
 -- a required field is there
 abbrev pub needed : ℕ → Slot → Result Slot Fault

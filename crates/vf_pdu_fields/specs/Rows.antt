@@ -1,6 +1,7 @@
 -- How the fields of PDUs, of data elements and of what is inside them are written as rows of a table (profile).
 use Rattle.std.specs.Prelude.{ℕ, pos, List, [], ◌∷◌}
 use Rattle.vf_pdu_fields.specs.Content.{Content, Number}
+use Rattle.vf_pdu_fields.specs.declared.limits.TheConstants.{MOST_ACTIVITY, MOST_POINT}
 
 -- what a number is from and to
 pub data Range : Type 0 where
@@ -69,7 +70,7 @@ abbrev pub fadu : Form
 fadu = one (Integer Fadu)
 
 abbrev pub activity : Form
-activity = int 1 2147483647
+activity = int 1 MOST_ACTIVITY
 
 abbrev pub point : Form
-point = int 0 1000000
+point = int 0 MOST_POINT

@@ -51,7 +51,7 @@ abbrev mutual
   fields (field number form need row) (present content slots) =
       if is_default need content then fields row slots else more (spelled (context number) form content) (fields row slots)
 
--- The same from the first field on, each put behind those before it.
+-- The same from the first field on, each put after those before it.
 
 abbrev pub part_of : ℕ → Form → Need → Slot → Option Tree
 part_of number form need slot =

@@ -4,22 +4,25 @@
 
 mod controls;
 mod errors;
+mod field;
 mod fields;
+mod limits;
 mod numbers;
 mod operation;
 mod parts;
+mod ranges;
 mod simple;
 mod writing;
 
 pub use controls::{AttributeControls, ContentControls};
 pub use errors::PduError;
-pub use fields::{
-    any_integer, attribute_controls, boolean_or, content_controls, fadu, fadu_or_begin, natural,
-    natural_or, string, text,
-};
+pub use field::Field;
+pub use fields::{boolean_or, fadu, fadu_or_begin, natural, natural_or, optional};
+pub use limits::{MOST_ACTIVITY, MOST_ITEMS, MOST_PLACE, MOST_POINT, MOST_TEXT_OCTETS, MOST_UNIT};
 pub use numbers::{actions_of, context_of, natural_in, operation_of, small};
 pub use operation::WriteOperation;
 pub use parts::{close, end, take};
+pub use ranges::{is_fadu, is_within, maybe_in_range, maybe_within};
 pub use writing::{
     context, put_attribute_controls, put_boolean_or, put_content_controls, put_context_or_ua,
     put_fadu, put_fadu_or_begin, put_integer, put_integer_or, put_maybe_actions, put_maybe_integer,

@@ -1,5 +1,5 @@
-//! Writing fields, each behind those before it: one that is absent or has its default is left out.
-ghost use Rattle.std.specs.Prelude.{◌≡◌, ◌≤◌, None, Some, OnOk, IsSome};
+//! Writing fields, each after those before it: one that is absent or has its default is left out.
+ghost use Rattle.std.specs.Prelude.{◌≡◌, ◌≤◌, None, Some, OnErr, OnOk, IsSome};
 ghost use Rattle.std.specs.Option.{option_map};
 ghost use Rattle.vf_ber.specs.Views.{tag_of};
 ghost use Rattle.vf_pdu_fields.specs.Content.{Number, Octets as OctetsContent, Truth};
@@ -25,7 +25,8 @@ pub fn context(number: u16) -> Tag
 /// An integer in the fewest octets.
 pub fn put_integer(alloc: Global, parts: &mut Values, number: u16, n: i64) -> Result<(), NoMemory>
     requires { number ≤ 16383 }
-    ensures { OnOk result (parts.new ≡ parts.old ▸ part_of number (one (Integer Any)) required (Some (Number n))) }
+    ensures ok { OnOk result (parts.new ≡ parts.old ▸ part_of number (one (Integer Any)) required (Some (Number n))) }
+    ensures err { OnErr result (parts.new ≡ parts.old) }
 {
     let field = Value::of_integer(alloc, context(number), n)?;
     parts.push(field)?;
@@ -41,7 +42,8 @@ pub fn put_integer_or(
     n: i64,
 ) -> Result<(), NoMemory>
     requires { number ≤ 16383 }
-    ensures { OnOk result (parts.new ≡ parts.old ▸ part_of number (one (Integer Any)) (default (Number usual)) (Some (Number n))) }
+    ensures ok { OnOk result (parts.new ≡ parts.old ▸ part_of number (one (Integer Any)) (default (Number usual)) (Some (Number n))) }
+    ensures err { OnErr result (parts.new ≡ parts.old) }
 {
     if n == usual {
         return Ok(());
@@ -58,7 +60,8 @@ pub fn put_maybe_integer(
     n: Option<i64>,
 ) -> Result<(), NoMemory>
     requires { number ≤ 16383 }
-    ensures { OnOk result (parts.new ≡ parts.old ▸ part_of number (one (Integer Any)) optional (maybe_integer n)) }
+    ensures ok { OnOk result (parts.new ≡ parts.old ▸ part_of number (one (Integer Any)) optional (maybe_integer n)) }
+    ensures err { OnErr result (parts.new ≡ parts.old) }
 {
     let Some(n) = n else {
         return Ok(());
@@ -75,7 +78,8 @@ pub fn put_maybe_natural(
     n: Option<u32>,
 ) -> Result<(), NoMemory>
     requires { number ≤ 16383 }
-    ensures { OnOk result (parts.new ≡ parts.old ▸ part_of number (one (Integer Any)) optional (maybe_num n)) }
+    ensures ok { OnOk result (parts.new ≡ parts.old ▸ part_of number (one (Integer Any)) optional (maybe_num n)) }
+    ensures err { OnErr result (parts.new ≡ parts.old) }
 {
     let Some(n) = n else {
         return Ok(());
@@ -92,7 +96,8 @@ pub fn put_maybe_actions(
     actions: Option<Actions>,
 ) -> Result<(), NoMemory>
     requires { number ≤ 16383 }
-    ensures { OnOk result (parts.new ≡ parts.old ▸ part_of number (one (Integer Any)) optional (maybe_actions actions)) }
+    ensures ok { OnOk result (parts.new ≡ parts.old ▸ part_of number (one (Integer Any)) optional (maybe_actions actions)) }
+    ensures err { OnErr result (parts.new ≡ parts.old) }
 {
     let Some(actions) = actions else {
         return Ok(());
@@ -110,7 +115,8 @@ pub fn put_boolean_or(
     truth: bool,
 ) -> Result<(), NoMemory>
     requires { number ≤ 16383 }
-    ensures { OnOk result (parts.new ≡ parts.old ▸ part_of number (one Boolean) (default (Truth usual)) (Some (Truth truth))) }
+    ensures ok { OnOk result (parts.new ≡ parts.old ▸ part_of number (one Boolean) (default (Truth usual)) (Some (Truth truth))) }
+    ensures err { OnErr result (parts.new ≡ parts.old) }
 {
     if truth == usual {
         return Ok(());
@@ -123,7 +129,8 @@ pub fn put_boolean_or(
 /// A name.
 pub fn put_text(alloc: Global, parts: &mut Values, number: u16, name: &Name) -> Result<(), NoMemory>
     requires { number ≤ 16383 }
-    ensures { OnOk result (parts.new ≡ parts.old ▸ part_of number (one Text) required (Some (OctetsContent name.now))) }
+    ensures ok { OnOk result (parts.new ≡ parts.old ▸ part_of number (one Text) required (Some (OctetsContent name.now))) }
+    ensures err { OnErr result (parts.new ≡ parts.old) }
 {
     let field = Value::of_octets(alloc, context(number), name.as_slice())?;
     parts.push(field)?;
@@ -138,7 +145,8 @@ pub fn put_maybe_text(
     name: &Option<Name>,
 ) -> Result<(), NoMemory>
     requires { number ≤ 16383 }
-    ensures { OnOk result (parts.new ≡ parts.old ▸ part_of number (one Text) optional (maybe_octets name.now)) }
+    ensures ok { OnOk result (parts.new ≡ parts.old ▸ part_of number (one Text) optional (maybe_octets name.now)) }
+    ensures err { OnErr result (parts.new ≡ parts.old) }
 {
     let Some(name) = name else {
         return Ok(());
@@ -155,7 +163,8 @@ pub fn put_string(
     octets: &Octets,
 ) -> Result<(), NoMemory>
     requires { number ≤ 16383 }
-    ensures { OnOk result (parts.new ≡ parts.old ▸ part_of number (one StringField) required (Some (OctetsContent octets.now))) }
+    ensures ok { OnOk result (parts.new ≡ parts.old ▸ part_of number (one StringField) required (Some (OctetsContent octets.now))) }
+    ensures err { OnErr result (parts.new ≡ parts.old) }
 {
     let octets = octets.copy(alloc)?;
     parts.push(Value::Plain {
@@ -173,7 +182,8 @@ pub fn put_maybe_string(
     octets: &Option<Octets>,
 ) -> Result<(), NoMemory>
     requires { number ≤ 16383 }
-    ensures { OnOk result (parts.new ≡ parts.old ▸ part_of number (one StringField) optional (maybe_octets octets.now)) }
+    ensures ok { OnOk result (parts.new ≡ parts.old ▸ part_of number (one StringField) optional (maybe_octets octets.now)) }
+    ensures err { OnErr result (parts.new ≡ parts.old) }
 {
     let Some(octets) = octets else {
         return Ok(());
@@ -190,7 +200,8 @@ pub fn put_attribute_controls(
     controls: Option<AttributeControls>,
 ) -> Result<(), NoMemory>
     requires { number ≤ 16383 }
-    ensures { OnOk result (parts.new ≡ parts.old ▸ part_of number (one (Controls 3)) optional (option_map attribute_controls controls)) }
+    ensures ok { OnOk result (parts.new ≡ parts.old ▸ part_of number (one (Controls 3)) optional (option_map attribute_controls controls)) }
+    ensures err { OnErr result (parts.new ≡ parts.old) }
 {
     let Some(controls) = controls else {
         return Ok(());
@@ -213,7 +224,8 @@ pub fn put_content_controls(
     controls: Option<ContentControls>,
 ) -> Result<(), NoMemory>
     requires { number ≤ 16383 }
-    ensures { OnOk result (parts.new ≡ parts.old ▸ part_of number (one (Controls 5)) optional (option_map content_controls controls)) }
+    ensures ok { OnOk result (parts.new ≡ parts.old ▸ part_of number (one (Controls 5)) optional (option_map content_controls controls)) }
+    ensures err { OnErr result (parts.new ≡ parts.old) }
 {
     let Some(controls) = controls else {
         return Ok(());
@@ -239,7 +251,8 @@ pub fn put_fadu(
 ) -> Result<(), NoMemory>
     requires tag { number ≤ 16383 }
     requires unit { IsSome (fadu_slot fadu) }
-    ensures { OnOk result (parts.new ≡ parts.old ▸ part_of number fadu_form required (fadu_slot fadu)) }
+    ensures ok { OnOk result (parts.new ≡ parts.old ▸ part_of number fadu_form required (fadu_slot fadu)) }
+    ensures err { OnErr result (parts.new ≡ parts.old) }
 {
     put_integer(alloc, parts, number, fadu_number(fadu))?;
     Ok(())
@@ -254,7 +267,8 @@ pub fn put_fadu_or_begin(
 ) -> Result<(), NoMemory>
     requires tag { number ≤ 16383 }
     requires unit { IsSome (fadu_slot fadu) }
-    ensures { OnOk result (parts.new ≡ parts.old ▸ part_of number fadu_form (or 0) (fadu_slot fadu)) }
+    ensures ok { OnOk result (parts.new ≡ parts.old ▸ part_of number fadu_form (or 0) (fadu_slot fadu)) }
+    ensures err { OnErr result (parts.new ≡ parts.old) }
 {
     put_integer_or(alloc, parts, number, 0, fadu_number(fadu))?;
     Ok(())
@@ -268,7 +282,8 @@ pub fn put_context_or_ua(
     context: Context,
 ) -> Result<(), NoMemory>
     requires { number ≤ 16383 }
-    ensures { OnOk result (parts.new ≡ parts.old ▸ part_of number (one (Integer Any)) (or 2) (context_slot context)) }
+    ensures ok { OnOk result (parts.new ≡ parts.old ▸ part_of number (one (Integer Any)) (or 2) (context_slot context)) }
+    ensures err { OnErr result (parts.new ≡ parts.old) }
 {
     put_integer_or(alloc, parts, number, 2, context_number(context))?;
     Ok(())
@@ -282,7 +297,8 @@ pub fn put_operation(
     operation: WriteOperation,
 ) -> Result<(), NoMemory>
     requires { number ≤ 16383 }
-    ensures { OnOk result (parts.new ≡ parts.old ▸ part_of number (one (Integer Any)) required (operation_slot operation)) }
+    ensures ok { OnOk result (parts.new ≡ parts.old ▸ part_of number (one (Integer Any)) required (operation_slot operation)) }
+    ensures err { OnErr result (parts.new ≡ parts.old) }
 {
     put_integer(alloc, parts, number, operation_number(operation))?;
     Ok(())

@@ -21,7 +21,7 @@ pub record IsDay (date : Civil) : Type 0 where
   pub some_day : 1 ≤ date.day
   pub last_day : date.day ≤ month_length date.year date.month
 
--- day 0 and 2,932,896 days behind it are days of the calendar
+-- day 0 and 2,932,896 days after it are days of the calendar
 pub day_found : (days : ℕ) → days < 2932897 → IsDay (civil_date days)
 unfolding civil_date
 day_found days lt =

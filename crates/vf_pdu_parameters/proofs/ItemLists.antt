@@ -8,16 +8,17 @@ use Rattle.vf_ber.specs.declared.value.Value.{Value}
 use Rattle.vf_ber.specs.Tree.{Tree, Trees}
 use Rattle.vf_ber.specs.Views.{tree_of, trees_in}
 use Rattle.vf_pdu_fields.specs.Content.{Listed, Slots, Items, nothing, item, items_of}
+use Rattle.vf_pdu_fields.specs.declared.limits.TheConstants.{MOST_ITEMS}
 use Rattle.vf_pdu_fields.specs.Meaning.{each_within, count, all_fit, fits}
 use Rattle.vf_pdu_fields.specs.Reading.{each_shape, parts_of, sequence_parts, shape, shapes}
 use Rattle.vf_pdu_fields.specs.Rows.{Row, list}
 
--- items, and others behind them
+-- items, and others after them
 abbrev pub onto : List Slots → Items → Items
 onto [] rest = rest
 onto (first ∷ others) rest = item first (onto others rest)
 
-onto-push : (front : List Slots) (last : Slots) (rest : Items) → onto (front ++ last ∷ []) rest ≡ onto front (item last rest)
+onto-push : (earlier : List Slots) (last : Slots) (rest : Items) → onto (earlier ++ last ∷ []) rest ≡ onto earlier (item last rest)
 onto-push [] last rest = refl
 onto-push (first ∷ others) last rest = ap (item first) (onto-push others last rest)
 
@@ -26,12 +27,12 @@ onto-nothing [] = refl
 onto-nothing (first ∷ others) = ap (item first) (onto-nothing others)
 
 -- one more item was read
-pub pushed : {X : Type 0} (view : X → Slots) (front items : List X) (last : X) (o : Option Items) → items ≡ front ++ last ∷ []
-    → option_map (onto (map view front)) (option_map (item (view last)) o) ≡ option_map (onto (map view items)) o
-pushed view front items last None e = refl
-pushed view front items last (Some rest) e =
+pub pushed : {X : Type 0} (view : X → Slots) (earlier items : List X) (last : X) (o : Option Items) → items ≡ earlier ++ last ∷ []
+    → option_map (onto (map view earlier)) (option_map (item (view last)) o) ≡ option_map (onto (map view items)) o
+pushed view earlier items last None e = refl
+pushed view earlier items last (Some rest) e =
     ap (λ (x : Items). Some x)
-    (sym (onto-push (map view front) (view last) rest) ∙ ap (λ xs. onto xs rest) (sym (map-append view front (last ∷ [])) ∙ ap (map view) (sym e)))
+    (sym (onto-push (map view earlier) (view last) rest) ∙ ap (λ xs. onto xs rest) (sym (map-append view earlier (last ∷ [])) ∙ ap (map view) (sym e)))
 
 -- all were read
 pub all_read : {X : Type 0} (view : X → Slots) (items : List X) (inner : Trees → Option Slots) (parts : List Value) (place : ℕ) → length parts ≤ place
@@ -66,21 +67,28 @@ count-map : {X : Type 0} (view : X → Slots) (xs : List X) → count (items_of 
 count-map view [] = refl
 count-map view (x ∷ xs) = omega (arith, count-map view xs)
 
-pub too_many : {X : Type 0} (view : X → Slots) (xs : List X) (b : Bool) → 256 < length xs → (nat_le (count (items_of (map view xs))) 256 && b) ≡ false
+pub too_many : {X : Type 0} (view : X → Slots) (xs : List X) (b : Bool) → MOST_ITEMS < length xs → (nat_le (count (items_of (map view xs))) MOST_ITEMS && b) ≡ false
 too_many view xs b lt =
-    let no : nat_le (count (items_of (map view xs))) 256 ≡ false = grind (arith, count-map view xs, lt) in
+    let no : nat_le (count (items_of (map view xs))) MOST_ITEMS ≡ false = grind (arith, count-map view xs, lt) in
     ap (λ c. c && b) no
 
+-- few items are in range where each is
+pub few_fit : {X : Type 0} (view : X → Slots) (row : Row) (xs : List X) → length xs ≤ MOST_ITEMS
+    → fits (list row) (Listed (items_of (map view xs))) ≡ each_within (all_fit row) (items_of (map view xs))
+few_fit view row xs le =
+    let few : nat_le (count (items_of (map view xs))) MOST_ITEMS ≡ true = grind (arith, count-map view xs, le) in
+    ap (λ c. c && each_within (all_fit row) (items_of (map view xs))) few
+
 -- few items, of which each is in range or not
-pub in_list : {X M : Type 0} (vx : X → Slots) (vm : M → Slots) (row : Row) (xs : List X) (found : Option (List M)) → length xs ≤ 256
+pub in_list : {X M : Type 0} (vx : X → Slots) (vm : M → Slots) (row : Row) (xs : List X) (found : Option (List M)) → length xs ≤ MOST_ITEMS
     → MatchOption found (each_within (all_fit row) (items_of (map vx xs)) ≡ false) (λ made. (map vm made ≡ map vx xs) × (each_within (all_fit row) (items_of (map vx xs)) ≡ true))
     → MatchOption found (fits (list row) (Listed (items_of (map vx xs))) ≡ false)
     (λ made. (Listed (items_of (map vm made)) ≡ Listed (items_of (map vx xs))) × (fits (list row) (Listed (items_of (map vx xs))) ≡ true))
 in_list vx vm row xs None le h =
-    let few : nat_le (count (items_of (map vx xs))) 256 ≡ true = grind (arith, count-map vx xs, le) in
+    let few : nat_le (count (items_of (map vx xs))) MOST_ITEMS ≡ true = grind (arith, count-map vx xs, le) in
     ap (λ c. c && each_within (all_fit row) (items_of (map vx xs))) few ∙ h
 in_list vx vm row xs (Some made) le h =
-    let few : nat_le (count (items_of (map vx xs))) 256 ≡ true = grind (arith, count-map vx xs, le) in
+    let few : nat_le (count (items_of (map vx xs))) MOST_ITEMS ≡ true = grind (arith, count-map vx xs, le) in
     (ap (λ (l : List Slots). Listed (items_of l)) h.0, ap (λ c. c && each_within (all_fit row) (items_of (map vx xs))) few ∙ h.1)
 
 pub if_ok : {T E : Type 0} (P Q : T → Type 0) → ((x : T) → P x → Q x) → (r : Result T E) → IfOk r P → IfOk r Q

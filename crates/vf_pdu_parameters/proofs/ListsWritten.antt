@@ -9,16 +9,16 @@ use Rattle.vf_pdu_fields.specs.Rows.{Row}
 use Rattle.vf_pdu_fields.specs.Writing.{◌▸◌, fields, is_usual, spelled_items}
 use Rattle.vf_pdu_fields.proofs.Written.{items_push}
 
--- one more item behind the front of a list
-pub item_put : {X : Type 0} (row : Row) (view : X → Slots) (items : List X) (place : ℕ) (last : X) (front made inside : Trees) → last ≡ get_or items place last → place < length items
-    → made ≡ joined front (more (built (universal 16) inside) none) → front ≡ spelled_items (fields row) (items_of (map view (take place items))) → inside ≡ fields row (view last)
+-- one more item after a prefix of a list
+pub item_put : {X : Type 0} (row : Row) (view : X → Slots) (items : List X) (place : ℕ) (last : X) (earlier made inside : Trees) → last ≡ get_or items place last → place < length items
+    → made ≡ joined earlier (more (built (universal 16) inside) none) → earlier ≡ spelled_items (fields row) (items_of (map view (take place items))) → inside ≡ fields row (view last)
     → made ≡ spelled_items (fields row) (items_of (map view (take (place + 1) items)))
-item_put {X = X} row view items place last front made inside e lt m f i =
+item_put {X = X} row view items place last earlier made inside e lt m f i =
     let all : List X → Trees = λ l. spelled_items (fields row) (items_of (map view l)) in
     m ∙ ap (λ (t : Trees). joined t (more (built (universal 16) inside) none)) f ∙ ap (λ (t : Trees). joined (all (take place items)) (more (built (universal 16) t) none)) i
     ∙ sym (ap all (take_more items place last lt ∙ ap (λ (x : X). take place items ++ x ∷ []) (sym e)) ∙ items_push (fields row) view (take place items) last)
 
--- a list that is put behind the parts
+-- a list that is put after the parts
 pub list_put : {X : Type 0} (row : Row) (view : X → Slots) (items given : List X) (number : ℕ) (parts made inside : Trees) → made ≡ parts ▸ Some (built (context number) inside)
     → inside ≡ spelled_items (fields row) (items_of (map view given)) → given ≡ items
     → made ≡ parts ▸ Some (built (context number) (spelled_items (fields row) (items_of (map view items))))

@@ -54,7 +54,7 @@ month_in (suc turns) year month days lt =
     month_by turns year month days (nat_lt days (month_length year month)) refl
     (λ over. month_in turns year (month + 1) (days - month_length year month) (omega (arith, over)))
 
--- the day behind so many years is in the year behind them
+-- the day after so many years is in the year after them
 pub year_at : (n turns year rest : ℕ) → n < turns → rest < year_length (year + n) → year_of turns year (years n year + rest) ≡ (year + n, rest)
 unfolding year_of
 year_at n zero year rest lt inside = absurd (omega arith)

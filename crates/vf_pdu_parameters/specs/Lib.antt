@@ -1,3 +1,5 @@
+pub use Rattle.vf_pdu_fields.specs.InRange
+pub use Rattle.vf_pdu_fields.specs.Contained
 pub use Rattle.vf_pdu_fields.specs.Content
 pub use Rattle.vf_pdu_fields.specs.Fault
 pub use Rattle.vf_pdu_fields.specs.Faults
@@ -6,9 +8,11 @@ pub use Rattle.vf_pdu_fields.specs.Meaning
 pub use Rattle.vf_pdu_fields.specs.Reading
 pub use Rattle.vf_pdu_fields.specs.Results
 pub use Rattle.vf_pdu_fields.specs.Rows
+pub use Rattle.vf_pdu_fields.specs.Sizes
 pub use Rattle.vf_pdu_fields.specs.Slots
 pub use Rattle.vf_pdu_fields.specs.Writing
 pub mod AttributeTails
+pub mod ContainedParameters
 pub mod FormViews
 pub mod Laws
 pub mod ParameterSlots

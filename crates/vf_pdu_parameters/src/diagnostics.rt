@@ -1,17 +1,17 @@
 //! Diagnostics of responses.
-ghost use Rattle.std.specs.Prelude.{◌≡◌, ◌<◌, ◌^◌, [], ◌∷◌, None, Some, length};
+ghost use Rattle.std.specs.Prelude.{◌≡◌, [], ◌∷◌, Some};
 ghost use Rattle.std.specs.Option.{option_map};
 ghost use Rattle.vf_ber.specs.Views.{tree_of};
 ghost use Rattle.vf_pdu_fields.specs.Content.{Fields, Number, slots};
-ghost use Rattle.vf_pdu_fields.specs.Reading.{behind, checked, field_at, front, next_place, rest, shape};
-ghost use Rattle.vf_pdu_fields.specs.Results.{Gives};
+ghost use Rattle.vf_pdu_fields.specs.Reading.{shape};
 ghost use Rattle.vf_pdu_parameters.specs.Parameters.{diagnostic as diagnostic_field};
-ghost use Rattle.vf_pdu_parameters.specs.ParameterSlots.{diagnostic_content, maybe_diagnostic};
 
 use crate::inner::{integer, integer_or, parts_of};
-use vf_base::Diagnostic;
+use crate::parameters::Parameter;
+use std::alloc::Global;
+use vf_base::{Diagnostic, NoMemory};
 use vf_ber::Value;
-use vf_pdu_fields::{PduError, close, natural_in, take};
+use vf_pdu_fields::{Field, PduError, close, is_within, natural_in};
 
 /// What has the form of a diagnostic.
 #[derive(Clone, Copy)]
@@ -37,40 +37,40 @@ fn diagnostic_form(part: &Value) -> Option<DiagnosticForm>
     })
 }
 
-fn diagnostic_of(part: &Value, place: u32, field: u16) -> Result<Diagnostic, PduError>
-    ensures { Gives (λ d. Some (diagnostic_content d)) result (checked place field diagnostic_field (shape diagnostic_field (tree_of part.now))) }
-{
-    let Some(form) = diagnostic_form(part) else {
-        return Err(PduError::Field { place });
-    };
-    match natural_in(form.number, 1, 65535) {
-        Some(number) => Ok(Diagnostic {
-            number: number as u16,
-            first: form.first,
-            second: form.second,
-        }),
-        None => Err(PduError::Range { field }),
-    }
-}
+impl Parameter for Diagnostic {
+    ghost use Rattle.vf_pdu_parameters.specs.Parameters.{diagnostic};
+    ghost use Rattle.vf_pdu_parameters.specs.ParameterSlots.{diagnostic_content};
 
-/// A diagnostic, where it is there.
-#[tactic(auto, unfolding(vf_pdu_fields::specs::Reading::field_at))]
-pub fn diagnostic(
-    parts: &[Value],
-    at: &mut u32,
-    number: u16,
-) -> Result<Option<Diagnostic>, PduError>
-    requires { length parts.now < 2 ^ 32 }
-    ensures value { Gives maybe_diagnostic result (field_at at.old number diagnostic_field None (front number (rest parts.now at.old))) }
-    ensures place { at.new ≡ next_place at.old (front number (rest parts.now at.old)) }
-    ensures others { rest parts.now at.new ≡ behind number (rest parts.now at.old) }
-{
-    let place = *at;
-    let Some(part) = take(parts, at, number) else {
-        return Ok(None);
-    };
-    match diagnostic_of(part, place, number) {
-        Ok(found) => Ok(Some(found)),
-        Err(error) => Err(error),
+    ghost form = { diagnostic };
+
+    ghost content = { diagnostic_content };
+
+    fn of_part(
+        _alloc: Global,
+        part: &Value,
+        place: u32,
+        field: u16,
+    ) -> Result<Diagnostic, PduError> {
+        let Some(form) = diagnostic_form(part) else {
+            return Err(PduError::Field { place });
+        };
+        match natural_in(form.number, 1, 65535) {
+            Some(number) => Ok(Diagnostic {
+                number: number as u16,
+                first: form.first,
+                second: form.second,
+            }),
+            None => Err(PduError::Range { field }),
+        }
+    }
+
+    fn has_form(_alloc: Global, part: &Value) -> Result<bool, NoMemory> {
+        Ok(diagnostic_form(part).is_some())
+    }
+
+    fn is_in_range(&self) -> bool {
+        is_within(u64::from(self.number), 1, 65_535)
+            && self.first.is_in_range()
+            && self.second.is_in_range()
     }
 }

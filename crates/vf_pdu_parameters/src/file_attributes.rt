@@ -84,7 +84,7 @@ impl Attributes {
     {
         let name = copy_option(alloc, &self.name)?;
         let contents = copy_contents(alloc, &self.contents)?;
-        let terms = copy_grants(alloc, &self.terms)?;
+        let terms = copy_list(alloc, &self.terms)?;
         let created = copy_option(alloc, &self.created)?;
         let modified = copy_option(alloc, &self.modified)?;
         let read = copy_option(alloc, &self.read)?;
@@ -100,6 +100,13 @@ impl Attributes {
             changed,
             size: self.size,
         })
+    }
+}
+
+impl Duplicate for Attributes {
+    fn duplicate(&self, alloc: Global) -> Result<Attributes, NoMemory> {
+        let made = self.copy(alloc)?;
+        Ok(made)
     }
 }
 
@@ -119,12 +126,16 @@ pub fn copy_contents(
     }
 }
 
-fn copy_grants(alloc: Global, grants: &Option<Grants>) -> Result<Option<Grants>, NoMemory>
-    ensures { IfOk result (λ made. made ≡ grants.now) }
+/// An equal list, where there is one; octets are shared.
+pub fn copy_list<T: Duplicate>(
+    alloc: Global,
+    list: &Option<Sequence<T>>,
+) -> Result<Option<Sequence<T>>, NoMemory>
+    ensures { IfOk result (λ made. made ≡ list.now) }
 {
-    match grants {
-        Some(grants) => {
-            let made = grants.copy(alloc)?;
+    match list {
+        Some(list) => {
+            let made = list.copy(alloc)?;
             Ok(Some(made))
         }
         None => Ok(None),

@@ -5,14 +5,16 @@ ghost use Rattle.std.specs.Option.{option_copied, option_map};
 ghost use Rattle.vf_base.specs.Name.{is_name};
 ghost use Rattle.vf_ber.specs.Views.{tree_of};
 ghost use Rattle.vf_pdu_fields.specs.Content.{Arcs, Number, Octets as OctetsContent};
-ghost use Rattle.vf_pdu_fields.specs.Reading.{behind, front, next_place, parts_of as parts_in, rest, sequence_parts, shape, slot_at};
+ghost use Rattle.vf_pdu_fields.specs.Meaning.{fits};
+ghost use Rattle.vf_pdu_fields.specs.Reading.{parts_after, part_here, next_place, parts_of as parts_in, rest, sequence_parts, shape, slot_at};
 ghost use Rattle.vf_pdu_fields.specs.Rows.{Any, Integer, Oid as OidField, Text, one};
+ghost use Rattle.vf_pdu_fields.specs.declared.limits.TheConstants.{MOST_TEXT_OCTETS};
 ghost use Rattle.vf_pdu_fields.specs.Slots.{maybe_integer, maybe_octets};
 
 use std::alloc::Global;
 use vf_base::{BaseError, Name, NoMemory, Octets, Oid};
 use vf_ber::{Value, Values};
-use vf_pdu_fields::take;
+use vf_pdu_fields::{MOST_TEXT_OCTETS, take};
 
 pub(crate) fn parts_of(value: &Value) -> Option<&Values>
     ensures { option_copied result ≡ parts_in (tree_of value.now) }
@@ -27,9 +29,9 @@ pub(crate) fn parts_of(value: &Value) -> Option<&Values>
 #[tactic(auto, unfolding(vf_pdu_fields::specs::Reading::slot_at))]
 pub(crate) fn integer(parts: &[Value], at: &mut u32, number: u16) -> Option<i64>
     requires { length parts.now < 2 ^ 32 }
-    ensures value { option_map (λ n. Some (Number n)) result ≡ slot_at (shape (one (Integer Any))) None (front number (rest parts.now at.old)) }
-    ensures place { at.new ≡ next_place at.old (front number (rest parts.now at.old)) }
-    ensures others { rest parts.now at.new ≡ behind number (rest parts.now at.old) }
+    ensures value { option_map (λ n. Some (Number n)) result ≡ slot_at (shape (one (Integer Any))) None (part_here number (rest parts.now at.old)) }
+    ensures place { at.new ≡ next_place at.old (part_here number (rest parts.now at.old)) }
+    ensures others { rest parts.now at.new ≡ parts_after number (rest parts.now at.old) }
 {
     let part = take(parts, at, number)?;
     vf_ber::integer(part)
@@ -39,9 +41,9 @@ pub(crate) fn integer(parts: &[Value], at: &mut u32, number: u16) -> Option<i64>
 #[tactic(auto, unfolding(vf_pdu_fields::specs::Reading::slot_at))]
 pub(crate) fn integer_or(parts: &[Value], at: &mut u32, number: u16, default: i64) -> Option<i64>
     requires { length parts.now < 2 ^ 32 }
-    ensures value { option_map (λ n. Some (Number n)) result ≡ slot_at (shape (one (Integer Any))) (Some (Some (Number default))) (front number (rest parts.now at.old)) }
-    ensures place { at.new ≡ next_place at.old (front number (rest parts.now at.old)) }
-    ensures others { rest parts.now at.new ≡ behind number (rest parts.now at.old) }
+    ensures value { option_map (λ n. Some (Number n)) result ≡ slot_at (shape (one (Integer Any))) (Some (Some (Number default))) (part_here number (rest parts.now at.old)) }
+    ensures place { at.new ≡ next_place at.old (part_here number (rest parts.now at.old)) }
+    ensures others { rest parts.now at.new ≡ parts_after number (rest parts.now at.old) }
 {
     let Some(part) = take(parts, at, number) else {
         return Some(default);
@@ -53,9 +55,9 @@ pub(crate) fn integer_or(parts: &[Value], at: &mut u32, number: u16, default: i6
 #[tactic(auto, unfolding(vf_pdu_fields::specs::Reading::slot_at))]
 pub(crate) fn maybe_integer_in(parts: &[Value], at: &mut u32, number: u16) -> Option<Option<i64>>
     requires { length parts.now < 2 ^ 32 }
-    ensures value { option_map maybe_integer result ≡ slot_at (shape (one (Integer Any))) (Some None) (front number (rest parts.now at.old)) }
-    ensures place { at.new ≡ next_place at.old (front number (rest parts.now at.old)) }
-    ensures others { rest parts.now at.new ≡ behind number (rest parts.now at.old) }
+    ensures value { option_map maybe_integer result ≡ slot_at (shape (one (Integer Any))) (Some None) (part_here number (rest parts.now at.old)) }
+    ensures place { at.new ≡ next_place at.old (part_here number (rest parts.now at.old)) }
+    ensures others { rest parts.now at.new ≡ parts_after number (rest parts.now at.old) }
 {
     let Some(part) = take(parts, at, number) else {
         return Some(None);
@@ -73,9 +75,9 @@ pub(crate) fn maybe_octets_in(
     number: u16,
 ) -> Result<Option<Option<Octets>>, NoMemory>
     requires { length parts.now < 2 ^ 32 }
-    ensures value { IfOk result (λ found. option_map maybe_octets found ≡ slot_at (shape (one Text)) (Some None) (front number (rest parts.now at.old))) }
-    ensures place { at.new ≡ next_place at.old (front number (rest parts.now at.old)) }
-    ensures others { rest parts.now at.new ≡ behind number (rest parts.now at.old) }
+    ensures value { IfOk result (λ found. option_map maybe_octets found ≡ slot_at (shape (one Text)) (Some None) (part_here number (rest parts.now at.old))) }
+    ensures place { at.new ≡ next_place at.old (part_here number (rest parts.now at.old)) }
+    ensures others { rest parts.now at.new ≡ parts_after number (rest parts.now at.old) }
 {
     let Some(part) = take(parts, at, number) else {
         return Ok(Some(None));
@@ -96,9 +98,9 @@ pub(crate) fn octets(
     number: u16,
 ) -> Result<Option<Octets>, NoMemory>
     requires { length parts.now < 2 ^ 32 }
-    ensures value { IfOk result (λ found. option_map (λ given. Some (OctetsContent given)) found ≡ slot_at (shape (one Text)) None (front number (rest parts.now at.old))) }
-    ensures place { at.new ≡ next_place at.old (front number (rest parts.now at.old)) }
-    ensures others { rest parts.now at.new ≡ behind number (rest parts.now at.old) }
+    ensures value { IfOk result (λ found. option_map (λ given. Some (OctetsContent given)) found ≡ slot_at (shape (one Text)) None (part_here number (rest parts.now at.old))) }
+    ensures place { at.new ≡ next_place at.old (part_here number (rest parts.now at.old)) }
+    ensures others { rest parts.now at.new ≡ parts_after number (rest parts.now at.old) }
 {
     let Some(part) = take(parts, at, number) else {
         return Ok(None);
@@ -115,9 +117,9 @@ pub(crate) fn oid(
     number: u16,
 ) -> Result<Option<Oid>, NoMemory>
     requires { length parts.now < 2 ^ 32 }
-    ensures value { IfOk result (λ found. option_map (λ arcs. Some (Arcs arcs)) found ≡ slot_at (shape (one OidField)) None (front number (rest parts.now at.old))) }
-    ensures place { at.new ≡ next_place at.old (front number (rest parts.now at.old)) }
-    ensures others { rest parts.now at.new ≡ behind number (rest parts.now at.old) }
+    ensures value { IfOk result (λ found. option_map (λ arcs. Some (Arcs arcs)) found ≡ slot_at (shape (one OidField)) None (part_here number (rest parts.now at.old))) }
+    ensures place { at.new ≡ next_place at.old (part_here number (rest parts.now at.old)) }
+    ensures others { rest parts.now at.new ≡ parts_after number (rest parts.now at.old) }
 {
     let Some(part) = take(parts, at, number) else {
         return Ok(None);
@@ -156,10 +158,9 @@ pub(crate) fn maybe_name(
     let Some(octets) = octets else {
         return Ok(Some(None));
     };
-    match Name::of(alloc, octets.as_slice()) {
-        Ok(name) => Ok(Some(Some(name))),
-        Err(BaseError::BadName) => Ok(None),
-        Err(_) => Err(NoMemory),
+    match name_in(alloc, octets)? {
+        Some(name) => Ok(Some(Some(name))),
+        None => Ok(None),
     }
 }
 
@@ -168,14 +169,21 @@ pub(crate) fn maybe_short(
     alloc: Global,
     octets: &Option<Octets>,
 ) -> Result<Option<Option<Octets>>, NoMemory>
-    ensures { IfOk result (λ found. MatchOption found (IsSomeAnd octets.now (λ o. nat_le (length o) 255 ≡ false)) (λ same. (same ≡ octets.now) × IfSome octets.now (λ o. nat_le (length o) 255 ≡ true))) }
+    ensures { IfOk result (λ found. MatchOption found (IsSomeAnd octets.now (λ o. nat_le (length o) MOST_TEXT_OCTETS ≡ false)) (λ same. (same ≡ octets.now) × IfSome octets.now (λ o. nat_le (length o) MOST_TEXT_OCTETS ≡ true))) }
 {
     let Some(octets) = octets else {
         return Ok(Some(None));
     };
-    if octets.len() > 255 {
+    if octets.len() > MOST_TEXT_OCTETS {
         return Ok(None);
     }
     let same = octets.copy(alloc)?;
     Ok(Some(Some(same)))
+}
+
+/// Whether the arcs are within the limits, which those of each object identifier are.
+pub(crate) fn is_oid(oid: &Oid) -> bool
+    ensures { result ≡ fits (one OidField) (Arcs oid.now) }
+{
+    !oid.arcs().is_empty()
 }

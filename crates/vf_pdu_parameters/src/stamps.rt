@@ -5,23 +5,23 @@ ghost use Rattle.vf_ber.specs.Views.{tree_of};
 ghost use Rattle.vf_pdu_fields.specs.Content.{Octets as OctetsContent};
 ghost use Rattle.vf_pdu_parameters.specs.FormViews.{stamp_view};
 ghost use Rattle.vf_pdu_fields.specs.Meaning.{fits};
-ghost use Rattle.vf_pdu_fields.specs.Reading.{behind, checked, field_at, front, next_place, rest, shape, slot_at};
-ghost use Rattle.vf_pdu_fields.specs.Results.{Gives};
+ghost use Rattle.vf_pdu_fields.specs.Reading.{parts_after, part_here, next_place, rest, shape, slot_at};
 ghost use Rattle.vf_pdu_fields.specs.Rows.{Date, one};
 ghost use Rattle.vf_pdu_parameters.specs.Parameters.{stamp as stamp_field};
-ghost use Rattle.vf_pdu_parameters.specs.ParameterSlots.{maybe_stamp, stamp_content};
+ghost use Rattle.vf_pdu_parameters.specs.ParameterSlots.{stamp_content};
 
 use crate::Stamp;
 use crate::date::{has_date_form, is_date};
 use crate::inner::{name_in, octets, parts_of};
+use crate::parameters::Parameter;
 use std::alloc::Global;
 use vf_base::{NoMemory, Octets};
 use vf_ber::Value;
-use vf_pdu_fields::{PduError, close, take};
+use vf_pdu_fields::{Field, PduError, close, take};
 
 /// What has the form of a stamp.
 #[derive(Drop)]
-pub(crate) struct StampForm {
+struct StampForm {
     date: Octets,
     identity: Octets,
 }
@@ -35,9 +35,9 @@ fn date(
     number: u16,
 ) -> Result<Option<Octets>, NoMemory>
     requires { length parts.now < 2 ^ 32 }
-    ensures value { IfOk result (λ found. option_map (λ given. Some (OctetsContent given)) found ≡ slot_at (shape (one Date)) None (front number (rest parts.now at.old))) }
-    ensures place { at.new ≡ next_place at.old (front number (rest parts.now at.old)) }
-    ensures others { rest parts.now at.new ≡ behind number (rest parts.now at.old) }
+    ensures value { IfOk result (λ found. option_map (λ given. Some (OctetsContent given)) found ≡ slot_at (shape (one Date)) None (part_here number (rest parts.now at.old))) }
+    ensures place { at.new ≡ next_place at.old (part_here number (rest parts.now at.old)) }
+    ensures others { rest parts.now at.new ≡ parts_after number (rest parts.now at.old) }
 {
     let Some(part) = take(parts, at, number) else {
         return Ok(None);
@@ -71,29 +71,6 @@ fn stamp_form(alloc: Global, part: &Value) -> Result<Option<StampForm>, NoMemory
     Ok(Some(StampForm { date, identity }))
 }
 
-/// What has the form of a stamp, where it is there.
-#[tactic(auto, unfolding(vf_pdu_fields::specs::Reading::slot_at))]
-pub(crate) fn maybe_stamp_form(
-    alloc: Global,
-    parts: &[Value],
-    at: &mut u32,
-    number: u16,
-) -> Result<Option<Option<StampForm>>, NoMemory>
-    requires { length parts.now < 2 ^ 32 }
-    ensures value { IfOk result (λ found. option_map (λ form. option_map stamp_view form) found ≡ slot_at (shape stamp_field) (Some None) (front number (rest parts.now at.old))) }
-    ensures place { at.new ≡ next_place at.old (front number (rest parts.now at.old)) }
-    ensures others { rest parts.now at.new ≡ behind number (rest parts.now at.old) }
-{
-    let Some(part) = take(parts, at, number) else {
-        return Ok(Some(None));
-    };
-    match stamp_form(alloc, part) {
-        Ok(Some(form)) => Ok(Some(Some(form))),
-        Ok(None) => Ok(None),
-        Err(error) => Err(error),
-    }
-}
-
 fn stamp_in(alloc: Global, form: StampForm) -> Result<Option<Stamp>, NoMemory>
     ensures { IfOk result (λ found. MatchOption found (fits stamp_field (stamp_view form) ≡ false) (λ made. (stamp_content made ≡ stamp_view form) × (fits stamp_field (stamp_view form) ≡ true))) }
 {
@@ -109,41 +86,34 @@ fn stamp_in(alloc: Global, form: StampForm) -> Result<Option<Stamp>, NoMemory>
     }))
 }
 
-fn stamp_of(alloc: Global, part: &Value, place: u32, field: u16) -> Result<Stamp, PduError>
-    ensures { Gives (λ made. Some (stamp_content made)) result (checked place field stamp_field (shape stamp_field (tree_of part.now))) }
-{
-    let Ok(found) = stamp_form(alloc, part) else {
-        return Err(PduError::NoMemory);
-    };
-    let Some(form) = found else {
-        return Err(PduError::Field { place });
-    };
-    match stamp_in(alloc, form) {
-        Ok(Some(made)) => Ok(made),
-        Ok(None) => Err(PduError::Range { field }),
-        Err(_) => Err(PduError::NoMemory),
-    }
-}
+impl Parameter for Stamp {
+    ghost use Rattle.vf_pdu_parameters.specs.Parameters.{stamp};
+    ghost use Rattle.vf_pdu_parameters.specs.ParameterSlots.{stamp_content};
 
-/// The field, where it is there.
-#[tactic(auto, unfolding(vf_pdu_fields::specs::Reading::field_at))]
-pub(crate) fn stamp(
-    alloc: Global,
-    parts: &[Value],
-    at: &mut u32,
-    number: u16,
-) -> Result<Option<Stamp>, PduError>
-    requires { length parts.now < 2 ^ 32 }
-    ensures value { Gives maybe_stamp result (field_at at.old number stamp_field None (front number (rest parts.now at.old))) }
-    ensures place { at.new ≡ next_place at.old (front number (rest parts.now at.old)) }
-    ensures others { rest parts.now at.new ≡ behind number (rest parts.now at.old) }
-{
-    let place = *at;
-    let Some(part) = take(parts, at, number) else {
-        return Ok(None);
-    };
-    match stamp_of(alloc, part, place, number) {
-        Ok(found) => Ok(Some(found)),
-        Err(error) => Err(error),
+    ghost form = { stamp };
+
+    ghost content = { stamp_content };
+
+    fn of_part(alloc: Global, part: &Value, place: u32, field: u16) -> Result<Stamp, PduError> {
+        let Ok(found) = stamp_form(alloc, part) else {
+            return Err(PduError::NoMemory);
+        };
+        let Some(form) = found else {
+            return Err(PduError::Field { place });
+        };
+        match stamp_in(alloc, form) {
+            Ok(Some(made)) => Ok(made),
+            Ok(None) => Err(PduError::Range { field }),
+            Err(_) => Err(PduError::NoMemory),
+        }
+    }
+
+    fn has_form(alloc: Global, part: &Value) -> Result<bool, NoMemory> {
+        let found = stamp_form(alloc, part)?;
+        Ok(found.is_some())
+    }
+
+    fn is_in_range(&self) -> bool {
+        is_date(self.date.as_slice()) && self.identity.is_in_range()
     }
 }

@@ -1,5 +1,5 @@
-//! Writing diagnostics and contents types, each behind the parts before it.
-ghost use Rattle.std.specs.Prelude.{◌≡◌, ◌≤◌, Some, IfOk, OnOk};
+//! Writing diagnostics and contents types, each after the parts before it.
+ghost use Rattle.std.specs.Prelude.{◌≡◌, ◌≤◌, Some, IfOk, OnErr, OnOk};
 ghost use Rattle.vf_ber.specs.Tree.{built};
 ghost use Rattle.vf_pdu_fields.specs.Content.{Arcs, slots};
 ghost use Rattle.vf_pdu_fields.specs.Meaning.{context as context_tag};
@@ -15,7 +15,8 @@ use vf_pdu_fields::{context, put_integer, put_integer_or};
 
 pub(crate) fn put_sequence(parts: &mut Values, number: u16, inside: Values) -> Result<(), NoMemory>
     requires { number ≤ 16383 }
-    ensures { OnOk result (parts.new ≡ parts.old ▸ Some (built (context_tag number) inside)) }
+    ensures ok { OnOk result (parts.new ≡ parts.old ▸ Some (built (context_tag number) inside)) }
+    ensures err { OnErr result (parts.new ≡ parts.old) }
 {
     parts.push(Value::Built {
         tag: context(number),
@@ -26,7 +27,8 @@ pub(crate) fn put_sequence(parts: &mut Values, number: u16, inside: Values) -> R
 
 fn put_oid(alloc: Global, parts: &mut Values, number: u16, oid: &Oid) -> Result<(), NoMemory>
     requires { number ≤ 16383 }
-    ensures { OnOk result (parts.new ≡ parts.old ▸ part_of number (one OidField) required (Some (Arcs oid.now))) }
+    ensures ok { OnOk result (parts.new ≡ parts.old ▸ part_of number (one OidField) required (Some (Arcs oid.now))) }
+    ensures err { OnErr result (parts.new ≡ parts.old) }
 {
     let field = Value::of_oid(alloc, context(number), oid)?;
     parts.push(field)?;
@@ -51,7 +53,8 @@ pub fn put_diagnostic(
     diagnostic: &Option<Diagnostic>,
 ) -> Result<(), NoMemory>
     requires { number ≤ 16383 }
-    ensures { OnOk result (parts.new ≡ parts.old ▸ part_of number diagnostic_form optional (maybe_diagnostic diagnostic.now)) }
+    ensures ok { OnOk result (parts.new ≡ parts.old ▸ part_of number diagnostic_form optional (maybe_diagnostic diagnostic.now)) }
+    ensures err { OnErr result (parts.new ≡ parts.old) }
 {
     let Some(diagnostic) = diagnostic else {
         return Ok(());
@@ -80,7 +83,8 @@ pub fn put_contents(
     contents: &Contents,
 ) -> Result<(), NoMemory>
     requires { number ≤ 16383 }
-    ensures { OnOk result (parts.new ≡ parts.old ▸ part_of number contents_form required (Some (contents_content contents.now))) }
+    ensures ok { OnOk result (parts.new ≡ parts.old ▸ part_of number contents_form required (Some (contents_content contents.now))) }
+    ensures err { OnErr result (parts.new ≡ parts.old) }
 {
     let inside = contents_parts(alloc, contents)?;
     put_sequence(parts, number, inside)?;
@@ -95,7 +99,8 @@ pub fn put_maybe_contents(
     contents: &Option<Contents>,
 ) -> Result<(), NoMemory>
     requires { number ≤ 16383 }
-    ensures { OnOk result (parts.new ≡ parts.old ▸ part_of number contents_form optional (maybe_contents contents.now)) }
+    ensures ok { OnOk result (parts.new ≡ parts.old ▸ part_of number contents_form optional (maybe_contents contents.now)) }
+    ensures err { OnErr result (parts.new ≡ parts.old) }
 {
     let Some(contents) = contents else {
         return Ok(());

@@ -1,13 +1,13 @@
 //! Writing attributes of files.
-ghost use Rattle.std.specs.Prelude.{◌≡◌, ◌≤◌, IfOk, OnOk};
+ghost use Rattle.std.specs.Prelude.{◌≡◌, ◌≤◌, IfOk, OnErr, OnOk};
 ghost use Rattle.vf_pdu_fields.specs.Content.{slots};
 ghost use Rattle.vf_pdu_fields.specs.Rows.{optional};
 ghost use Rattle.vf_pdu_fields.specs.Writing.{◌▸◌, fields, part_of};
 ghost use Rattle.vf_pdu_parameters.specs.ParameterSlots.{attribute_slots, maybe_attributes, maybe_stamp, stamp_slots};
 ghost use Rattle.vf_pdu_parameters.specs.Parameters.{attribute_fields, attributes as attributes_form, stamp as stamp_form, stamp_fields};
 
+use crate::lists::put_maybe_list;
 use crate::writing::{put_maybe_contents, put_sequence};
-use crate::writing_lists::put_maybe_grants;
 use crate::{Attributes, Stamp};
 use std::alloc::Global;
 use vf_base::NoMemory;
@@ -31,7 +31,8 @@ fn put_maybe_stamp(
     stamp: &Option<Stamp>,
 ) -> Result<(), NoMemory>
     requires { number ≤ 16383 }
-    ensures { OnOk result (parts.new ≡ parts.old ▸ part_of number stamp_form optional (maybe_stamp stamp.now)) }
+    ensures ok { OnOk result (parts.new ≡ parts.old ▸ part_of number stamp_form optional (maybe_stamp stamp.now)) }
+    ensures err { OnErr result (parts.new ≡ parts.old) }
 {
     let Some(stamp) = stamp else {
         return Ok(());
@@ -48,7 +49,7 @@ fn attribute_parts(alloc: Global, attributes: &Attributes) -> Result<Values, NoM
     put_maybe_text(alloc, &mut parts, 0, &attributes.name)?;
     put_maybe_integer(alloc, &mut parts, 1, attributes.permitted)?;
     put_maybe_contents(alloc, &mut parts, 2, &attributes.contents)?;
-    put_maybe_grants(alloc, &mut parts, 3, &attributes.terms)?;
+    put_maybe_list(alloc, &mut parts, 3, &attributes.terms)?;
     put_maybe_stamp(alloc, &mut parts, 4, &attributes.created)?;
     put_maybe_stamp(alloc, &mut parts, 5, &attributes.modified)?;
     put_maybe_stamp(alloc, &mut parts, 6, &attributes.read)?;
@@ -65,7 +66,8 @@ pub fn put_maybe_attributes(
     attributes: &Option<Attributes>,
 ) -> Result<(), NoMemory>
     requires { number ≤ 16383 }
-    ensures { OnOk result (parts.new ≡ parts.old ▸ part_of number attributes_form optional (maybe_attributes attributes.now)) }
+    ensures ok { OnOk result (parts.new ≡ parts.old ▸ part_of number attributes_form optional (maybe_attributes attributes.now)) }
+    ensures err { OnErr result (parts.new ≡ parts.old) }
 {
     let Some(attributes) = attributes else {
         return Ok(());

@@ -12,8 +12,12 @@ mod ber_scan;
 #[cfg(test)]
 mod ber_writing;
 #[cfg(test)]
+mod elements;
+#[cfg(test)]
 mod nested;
 #[cfg(test)]
 mod outside;
+#[cfg(test)]
+mod pdus;
 #[cfg(test)]
 mod plain_values;

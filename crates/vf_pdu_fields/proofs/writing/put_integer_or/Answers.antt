@@ -9,8 +9,8 @@ use Rattle.vf_pdu_fields.specs.Rows.{Any, Integer, one}
 use Rattle.vf_pdu_fields.specs.Writing.{◌▸◌, spelled}
 use Rattle.vf_pdu_fields.proofs.writing.put_integer_or.Goals as goal
 
-pub returns : goal.returns
-returns c =
+pub returns-clause-ok : goal.returns-clause-ok
+returns-clause-ok c =
     let other : int_eq c.args.n c.args.usual ≡ false =
     false_from_ne_true (int_eq c.args.n c.args.usual) (λ e. c.if-n-usual.false (ap (of_z w64) ((Decides-int_eq c.args.n c.args.usual).0 e))) in
     let part = spelled (context c.args.number) (one (Integer Any)) (Number c.args.n) in

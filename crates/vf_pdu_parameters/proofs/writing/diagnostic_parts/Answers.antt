@@ -21,9 +21,9 @@ returns c =
     let d = c.args.diagnostic.now in
     let first : c.put_integer.new.parts ≡ none ▸ part_of 0 (int 1 65535) required (num d.number) = search rules in
     let second : c.put_integer_or.new.parts ≡ c.put_integer.new.parts ▸ part_of 1 (one (Integer Any)) (or 0) (Some (Number d.first)) =
-    stored_or c.put_integer.new.parts c.put_integer_or.new.parts 1 _ d.first (stored d.first (search rules)) c.in_ok-put_integer_or.ensures in
+    stored_or c.put_integer.new.parts c.put_integer_or.new.parts 1 _ d.first (stored d.first (search rules)) c.in_ok-put_integer_or.ensures.ok in
     let third : c.put_integer_or-2.new.parts ≡ c.put_integer_or.new.parts ▸ part_of 2 (one (Integer Any)) (or 0) (Some (Number d.second)) =
-    stored_or c.put_integer_or.new.parts c.put_integer_or-2.new.parts 2 _ d.second (stored d.second (search rules)) c.in_ok-put_integer_or-2.ensures in
+    stored_or c.put_integer_or.new.parts c.put_integer_or-2.new.parts 2 _ d.second (stored d.second (search rules)) c.in_ok-put_integer_or-2.ensures.ok in
     all_appended diagnostic_fields (diagnostic_slots d) c.put_integer_or-2.new.parts
     (third ∙ ap (λ (parts : Trees). parts ▸ part_of 2 (one (Integer Any)) (or 0) (Some (Number d.second))) second
     ∙ ap (λ (parts : Trees). parts ▸ part_of 1 (one (Integer Any)) (or 0) (Some (Number d.first)) ▸ part_of 2 (one (Integer Any)) (or 0) (Some (Number d.second))) first)
