@@ -10,9 +10,7 @@ ghost use Rattle.vf_ber_scan.specs.Progress.{Wanting};
 use crate::frames::{Frame, Frames};
 use crate::place::{Next, Place};
 use vf_ber::MOST_DEPTH;
-use vf_ber::fitting::{
-    Around, Asked, Room, is_first, is_length, is_reached, is_second, less,
-};
+use vf_ber::fitting::{Around, Asked, Room, is_first, is_length, is_reached, is_second, less};
 
 /// Takes the first octet of the rest, or as many as there are of the contents at hand, and says how many these are.
 pub fn behind(place: Place, frames: &mut Frames, rest: &[u8]) -> (usize, Next)
@@ -42,7 +40,10 @@ fn behind_octet(place: Place, frames: &mut Frames, octet: u8) -> Next
         Place::Start => behind_start(frames, octet),
         Place::Second { constructed } => behind_second(frames, constructed, octet),
         Place::Third { constructed } => behind_third(frames, constructed, octet),
-        Place::Length { constructed, prefix } => behind_length(frames, constructed, prefix, octet),
+        Place::Length {
+            constructed,
+            prefix,
+        } => behind_length(frames, constructed, prefix, octet),
         Place::Digits {
             constructed,
             prefix,
