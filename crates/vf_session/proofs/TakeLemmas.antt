@@ -38,7 +38,7 @@ meets kept trace spdu told kept' told' Nothing readable r e a = (a.0, let P : Ke
 meets kept trace spdu told kept' told' (Tells unit) readable r e a = (
   a.0,
   let P : Kept → Type 0 = λ k. Represents k (with_received kept.side unit trace) in
-  subst P (sym a.1) (represents-received kept trace spdu unit readable e r),
+      subst P (sym a.1) (represents-received kept trace spdu unit readable e r),
 )
 meets kept trace spdu told kept' told' (Faulty fault) readable r e a = a
 

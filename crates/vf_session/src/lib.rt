@@ -3,8 +3,8 @@
 
 mod advance;
 mod errors;
-mod meaning;
 mod laws;
+mod meaning;
 mod parameters;
 mod phase;
 mod resync;

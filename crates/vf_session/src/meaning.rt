@@ -88,7 +88,12 @@ fn crossing_received(own: PendingResync, theirs: PendingResync, octets: Octets) 
     }
 }
 
-fn answer_received(resync: PendingResync, number: u32, token: Option<TokenSide>, octets: Octets) -> SpduMeaning
+fn answer_received(
+    resync: PendingResync,
+    number: u32,
+    token: Option<TokenSide>,
+    octets: Octets,
+) -> SpduMeaning
     ensures { result ≡ answer resync number token octets }
 {
     if answers(resync.kind, resync.serial, number) {

@@ -96,7 +96,8 @@ impl SessionSay {
             | SessionSay::Resync { data, .. }
             | SessionSay::Resynced { data, .. }
             | SessionSay::Abort { data } => data.len(),
-            SessionSay::Check { .. } | SessionSay::Acknowledge { .. } | SessionSay::Token { .. } => 0,
+            SessionSay::Check { .. } | SessionSay::Acknowledge { .. } | SessionSay::Token { .. } =>
+                0,
         }
     }
 }

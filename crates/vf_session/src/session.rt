@@ -14,7 +14,7 @@ ghost use Rattle.vf_session.specs.Receiving.{receives as told_by};
 ghost use Rattle.vf_session.specs.declared.units.SessionSay.{SessionSay};
 
 use crate::advance::{advanced, is_resync};
-use crate::meaning::{SpduMeaning, receives, is_side, other};
+use crate::meaning::{SpduMeaning, is_side, other, receives};
 use crate::sending::{fits, is_allowed};
 use crate::spdus::put_spdus;
 use crate::state::SessionState;

@@ -7,7 +7,7 @@ ghost use Rattle.vf_session_spdu.specs.Spelling.{IsWritten, spelling, spelled, s
 
 use crate::Spdu;
 use crate::kinds::{code_of, is_dt};
-use crate::numbers::{six_digits, leading_zeros};
+use crate::numbers::{leading_zeros, six_digits};
 use crate::table::{Row, opens, rows};
 use std::alloc::Global;
 use vf_base::NoMemory;

@@ -382,8 +382,8 @@ module _ (side : Side) (before : List (List ℕ)) (stream tpdu more : List ℕ) 
   tpdu-reads (Err fault) e h others =
       let bad : is_ok (checked (connection_of side before) tpdu) ≡ false = ap (λ (r : Result Kind TpktError). is_ok r) h in
       sym (
-        ap (λ (b : Bool). reading_on side before stream (cond b (tpdu ∷ right_after side (before ++ tpdu ∷ []) (tpdus more)) [])) bad
-        ∙ none-right side before stream (whole tpdu more) (Some fault) e (ap error_of h)
+      ap (λ (b : Bool). reading_on side before stream (cond b (tpdu ∷ right_after side (before ++ tpdu ∷ []) (tpdus more)) [])) bad
+      ∙ none-right side before stream (whole tpdu more) (Some fault) e (ap error_of h)
       )
   tpdu-reads (Ok kind) e h others =
       ap (λ (q : Progress). preceded (units_of (connection_of side before) kind tpdu) (answer_of kind tpdu) (receiving q more)) (after-is side before tpdu kind h)

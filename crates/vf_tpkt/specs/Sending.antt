@@ -1,4 +1,4 @@
--- What one end says of a TSDU: DT TPDUs, each in its packet (ISO 8073, 13.7; RFC 1006, 6).
+-- What one end sends of a TSDU: DT TPDUs, each in its packet (ISO 8073, 13.7; RFC 1006, 6).
 use Rattle.std.specs.Prelude.{◌≡◌, ◌+◌, ◌≤◌, [], IsTrue, ℕ, zero, suc, Bool, true, false, nat_le, List, ◌∷◌, ◌++◌, length, take, drop, Option, None, Some, ◌&&◌, if◌then◌else◌}
 use Rattle.vf_base.specs.declared.limits.TheConstants.{MOST_VALUE_OCTETS}
 use Rattle.vf_tpkt.specs.declared.error.TpktError.{TpktError}

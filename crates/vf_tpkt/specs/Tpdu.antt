@@ -100,7 +100,7 @@ packet tpdu =
     let size = length tpdu + 4 in
     3 ∷ 0 ∷ (size / 256) ∷ (size % 256) ∷ tpdu
 
--- The CR that the calling end says: references 0 and 1, class 0, no parameter.
+-- The CR that the calling end sends: references 0 and 1, class 0, no parameter.
 abbrev pub request : List ℕ
 request = 6 ∷ 224 ∷ 0 ∷ 0 ∷ 0 ∷ 1 ∷ 0 ∷ []
 

@@ -11,12 +11,12 @@ pub fn pieces_tell_all()
     ensures { (kept : Kept) (a b : List ℕ) → onward kept (a ++ b) ≡ preceded (onward kept a).units (onward kept a).answers (onward (onward kept a).kept b) }
 {}
 
-/// What one end says of a TSDU the other end, where the connection stands, receives as this TSDU and nothing else.
+/// What one end sends of a TSDU the other end, where the connection stands, receives as this TSDU and nothing else.
 pub fn sent_is_received()
     ensures { (p : Progress) (most : ℕ) (tsdu more : List ℕ) → ReceivesSent p most tsdu more }
 {}
 
-/// The called end answers the CR that the calling end says by a CC, at which both stand, with DT of the greatest size.
+/// The called end answers the CR that the calling end sends by a CC, at which both stand, with DT of the greatest size.
 pub fn ends_connect()
     ensures called { ConnectsCalled }
     ensures calling { ConnectsCalling }

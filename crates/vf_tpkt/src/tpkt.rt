@@ -16,7 +16,7 @@ use std::alloc::Global;
 use std::marker::Model;
 use vf_base::{MOST_VALUE_OCTETS, NoMemory};
 
-/// The CR that the calling end says, in its packet: references 0 and 1, class 0, no parameter.
+/// The CR that the calling end sends, in its packet: references 0 and 1, class 0, no parameter.
 const REQUEST: [u8; 11] = [3, 0, 0, 11, 6, 0xE0, 0, 0, 0, 1, 0];
 
 /// One end of a transport connection of class 0 over TCP (RFC 1006, ISO 8073).
@@ -39,7 +39,7 @@ impl Model for Tpkt {
 }
 
 impl Tpkt {
-    /// The calling end, which says its CR.
+    /// The calling end, which sends its CR.
     #[tactic(auto, unfolding(crate::specs::Stream::tpdus_in))]
     pub fn calling(alloc: Global, out: &mut Vec<u8>) -> Result<Tpkt, NoMemory>
         ensures tpkt { IfOk result (λ tpkt. HasReceived tpkt Side.Calling []) }
