@@ -1,3 +1,4 @@
 pub mod Deltas
 pub mod Keyed
+pub mod Led
 pub mod Rooms

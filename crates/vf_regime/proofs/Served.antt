@@ -48,6 +48,7 @@ use Rattle.vf_files.proofs.Deltas.{delta-with_file, found_itself}
 use Rattle.vf_files.specs.Effects.{after_read, after_write, fitting, is_within_file, octets_row, only_unit, performed as write_performed, put_tree, put_unless, read_changes, read_ending, replacing, tree_after, version_row, write_ending}
 use Rattle.vf_files.specs.Files.{after_changes, file_named, with_attributes_of, with_file}
 use Rattle.vf_files.specs.Rows.{Given, Nothing, Refused, Showed, absent_row, access_row, action_row, count_row, created, created_unless, given_unless, includes, made, made_unless, modes, opened, opened_unless, read_given, read_of, refusal_of, replace_row, select_row, showing, tree_diagnostic, typed, unit_row, write_given, write_in, write_row}
+use Rattle.vf_files.specs.declared.changes.Change.{Change}
 use Rattle.vf_files.specs.declared.changes.Change.TheVariants.{PutFile}
 use Rattle.vf_files.specs.declared.creation.Created.{Created}
 use Rattle.vf_files.specs.declared.creation.Created.TheVariants as creations

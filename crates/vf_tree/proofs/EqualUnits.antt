@@ -39,6 +39,41 @@ pub units_refl : (units : List DataUnit) → are_same_units units units ≡ true
 unfolding are_same_units
 units_refl units = pointwise_refl is_same_unit (pointwise_refl is_same_element element_refl) units
 
+name_true : (name other : Option (List ℕ)) → is_same_name name other ≡ true → name ≡ other
+name_true None None e = refl
+name_true None (Some other) e = absurd cc
+name_true (Some name) None e = absurd cc
+name_true (Some name) (Some other) e = ap (λ (octets : List ℕ). Some octets) ((bytes_eq-Decides name other).0 e)
+
+flag_true : (flag other : Bool) → (if flag then other else not other) ≡ true → flag ≡ other
+flag_true true other e = sym e
+flag_true false true e = absurd cc
+flag_true false false e = refl
+
+element_true : (element other : Element) → is_same_element element other ≡ true → element ≡ other
+element_true (Descriptor name filled) (Descriptor other full) e =
+    let parts = and_parts (if filled then full else not full) (is_same_name name other) e in
+    λ i. Descriptor (name_true name other parts.1 i) (flag_true filled full parts.0 i)
+element_true Enter Enter e = refl
+element_true Exit Exit e = refl
+element_true (Text class octets) (Text other others) e =
+    let parts = and_parts (nat_eq class other) (pointwise nat_eq octets others) e in
+    λ i. Text (eqb-true class other parts.0 i) ((bytes_eq-Decides octets others).0 parts.1 i)
+element_true (Binary octets) (Binary others) e = ap (λ (octets : List ℕ). Binary octets) ((bytes_eq-Decides octets others).0 e)
+element_true _ _ e = absurd cc
+
+pointwise_true : {A : Type 0} (same : A → A → Bool) → ((a b : A) → same a b ≡ true → a ≡ b) → (xs ys : List A) → pointwise same xs ys ≡ true → xs ≡ ys
+pointwise_true same each [] [] e = refl
+pointwise_true same each [] (y ∷ ys) e = absurd cc
+pointwise_true same each (x ∷ xs) [] e = absurd cc
+pointwise_true same each (x ∷ xs) (y ∷ ys) e =
+    let parts = and_parts (same x y) (pointwise same xs ys) e in
+    λ i. each x y parts.0 i ∷ pointwise_true same each xs ys parts.1 i
+
+pub units_true : (units others : List DataUnit) → are_same_units units others ≡ true → units ≡ others
+unfolding are_same_units
+units_true units others e = pointwise_true is_same_unit (pointwise_true is_same_element element_true) units others e
+
 -- the test from a place on: the items there, and the test from the next place on
 pub pointwise-drop : {A : Type 0} (same : A → A → Bool) (xs ys : List A) (i : ℕ) (d e : A) → i < length xs → i < length ys
     → pointwise same (drop i xs) (drop i ys) ≡ (same (get_or xs i d) (get_or ys i e) && pointwise same (drop (i + 1) xs) (drop (i + 1) ys))
