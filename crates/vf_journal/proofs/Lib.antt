@@ -3,7 +3,6 @@ mod Numbers
 mod Parts
 mod Areas
 mod Images
-mod Plans
 mod Planned
 mod Counts
 mod Appending

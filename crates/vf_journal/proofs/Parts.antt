@@ -55,7 +55,7 @@ module _ (old : List ℕ) (at : ℕ) (octets : List ℕ) (low : at ≤ length ol
   pub torn_whole : Torn at (length octets) old (overwritten old at octets)
   torn_whole = record {
     before = overwritten_front;
-    behind = overwritten_back;
+    past = overwritten_back;
     no_shorter = omega (arith, length-overwritten);
     no_longer = omega (arith, length-overwritten);
   }

@@ -3,7 +3,7 @@ use Rattle.std.proofs.Common.{◌≡◌, ℕ, ◌+◌, ◌≤◌, Bool, true, fa
 use Rattle.std.proofs.lemmas.Bool.{leb-true}
 use Rattle.vf_journal.specs.declared.placing.Placing.{Placing}
 use Rattle.vf_journal.specs.Records.{longest}
-use Rattle.vf_journal.specs.Standing.{Standing, is_due, is_possible, new_start, placing}
+use Rattle.vf_journal.specs.JournalState.{JournalState, is_due, is_possible, new_start, placing}
 
 -- a choice that answers a place was made for it
 chosen : (due possible : Bool) (at start end other : ℕ)
@@ -17,7 +17,7 @@ fits : (short fitting : Bool) → (short && fitting) ≡ true → fitting ≡ tr
 fits true fitting is = is
 fits false fitting is = cc
 
-pub planned_within : (journal : Standing) (count snapshot start : ℕ) → (placing journal count snapshot).switch ≡ Some start → (start ≡ new_start journal (snapshot + 6)) × (start + (snapshot + 6) ≤ journal.limit)
+pub planned_within : (journal : JournalState) (count snapshot start : ℕ) → (placing journal count snapshot).switch ≡ Some start → (start ≡ new_start journal (snapshot + 6)) × (start + (snapshot + 6) ≤ journal.limit)
 planned_within journal count snapshot start is =
     let at = new_start journal (snapshot + 6) in
     let found = chosen (is_due journal count) (is_possible journal snapshot) at start (at + (snapshot + 6) + count + 5) (journal.area.end + count + 5) is in

@@ -6,7 +6,7 @@ use Rattle.vf_journal.specs.declared.area.Area.{Area}
 use Rattle.vf_journal.specs.Records.{first_record, octets_of, records_in}
 use Rattle.std.specs.Prelude.{option_map}
 use Rattle.vf_journal.specs.Reading.{BeginsWith, StandsFrom, Takes, with_records}
-use Rattle.vf_journal.specs.Standing.{IsPlaced, area_of, with_record}
+use Rattle.vf_journal.specs.JournalState.{IsPlaced, area_of, with_record}
 use Rattle.vf_journal.proofs.Counts.{octets_push, placed_more}
 use Rattle.vf_journal.proofs.Gates.{first_rest, reads_none, reads_some}
 

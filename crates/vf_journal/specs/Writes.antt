@@ -4,21 +4,21 @@ use Rattle.vf_disk.specs.Disk.{overwritten}
 use Rattle.vf_journal.specs.Layout.{anchor_place, place_octets, selector_of, selector_place}
 
 -- an image that a step makes of one of the images before
-abbrev pub Behind : (List ℕ → List ℕ → Type 0) → (List ℕ → Type 0) → List ℕ → Type 0
-Behind step before image = (from : List ℕ) × before from × step from image
+abbrev pub MadeBy : (List ℕ → List ℕ → Type 0) → (List ℕ → Type 0) → List ℕ → Type 0
+MadeBy step before image = (from : List ℕ) × before from × step from image
 
 -- a read gives an image with a property, whether the call at hand went well or not
 abbrev pub Shows : Option (List ℕ) → (List ℕ → Type 0) → Type 0
 Shows shown P = (image : List ℕ) × (shown ≡ Some image) × P image
 
--- behind an append of an entry at the end of the selected area: the entry, and 1 at the gate in front of it
+-- after an append of an entry at the end of the selected area: the entry, and 1 at the gate before it
 abbrev pub appended : List ℕ → ℕ → List ℕ → List ℕ
 appended image end entry = overwritten (overwritten image end entry) (end - 1) (1 ∷ [])
 
--- behind a prepare of an area at a place: the area, and its place in the anchor
+-- after a prepare of an area at a place: the area, and its place in the anchor
 abbrev pub prepared : List ℕ → ℕ → List ℕ → Bool → List ℕ
 prepared image start area second = overwritten (overwritten image start area) (anchor_place second) (place_octets start)
 
--- behind a switch: 0 or 1 at the selector
+-- after a switch: 0 or 1 at the selector
 abbrev pub switched : List ℕ → Bool → List ℕ
 switched image second = overwritten image selector_place (selector_of second ∷ [])

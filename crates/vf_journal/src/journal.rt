@@ -1,7 +1,7 @@
 ghost use Rattle.std.specs.Prelude.{◌≡◌, ◌+◌, ◌-◌, ◌<◌, ◌≤◌, ◌⊎◌, [], ◌∷◌, ◌++◌, ℕ, List, None, Some, IsSome, OnOk, OnErr, IfOk, IfSome, length, is_err, max, not};
 ghost use Rattle.vf_disk.specs.Disk.{LeavesOnly, LeavesShown, greatest_length};
 ghost use Rattle.vf_journal.specs.Answers.{AppendAnswers, AppendCalls, FaultAlone, IsUntouched, OpenAnswers, OpenCauses, is_fault};
-ghost use Rattle.vf_journal.specs.Calls.{MakesChanges};
+ghost use Rattle.vf_disk.specs.Calls.{MakesChanges};
 ghost use Rattle.vf_journal.specs.Layout.{new_journal};
 ghost use Rattle.vf_journal.specs.Looking.{IsSyncedAndLookedAt};
 ghost use Rattle.vf_journal.specs.Records.{IsArea, IsEntry, area_with, entry_of, longest};
@@ -30,9 +30,9 @@ pub struct Journal {
 }
 
 impl Model for Journal {
-    ghost use Rattle.vf_journal.specs.Standing.{IsSound, Standing};
+    ghost use Rattle.vf_journal.specs.JournalState.{IsSound, JournalState};
 
-    ghost Value = { Standing };
+    ghost Value = { JournalState };
 
     ghost view = { λ journal. record { second = journal.second; area = journal.area; limit = journal.limit; prepared = journal.prepared } };
 
@@ -40,7 +40,7 @@ impl Model for Journal {
 }
 
 impl Journal {
-    ghost use Rattle.vf_journal.specs.Standing.{HasPrepared, IsWithin, StandsOn, after_append, after_prepare, after_switch, new_area, new_start, placing};
+    ghost use Rattle.vf_journal.specs.JournalState.{HasPrepared, IsWithin, StandsOn, after_append, after_prepare, after_switch, new_area, new_start, placing};
 
     /// Makes a journal without records on an empty disk, in six calls. A crash at any moment leaves no journal, or
     /// that one.
@@ -62,7 +62,7 @@ impl Journal {
     }
 
     /// Syncs a disk and reads the journal on it, whose area is to end within `limit` octets. Puts the octets of its
-    /// records behind those in `records`, the oldest first; after an error none. One call of the disk is a sync, and
+    /// records after those in `records`, the oldest first; after an error none. One call of the disk is a sync, and
     /// the others look.
     ///
     /// `NotAStore` comes where the first 16 octets differ from the header, at the first such place; where they agree
@@ -81,7 +81,7 @@ impl Journal {
         ensures stands { (image : List ℕ) (held : List (List ℕ)) → D.shown disk.old ≡ Some image → Holds image held → IfOk result (λ journal. StandsOn D.shown D.may_leave journal disk.new held) }
         ensures within { IfOk result (λ journal. IsWithin journal (D.size disk.new)) }
         ensures synced { OnOk result (LeavesShown (D.shown disk.new) (D.may_leave disk.new)) }
-        ensures looks { IsSyncedAndLookedAt D.shown D.size D.may_leave D.moment D.left_since D.plan (is_fault result) disk.old disk.new }
+        ensures looks { IsSyncedAndLookedAt D.shown D.size D.may_leave D.moment D.left_since D.plan D.state D.lack_count (is_fault result) disk.old disk.new }
         ensures causes { OpenCauses (D.fault_count disk.old) (D.fault_count disk.new) result }
     {
         let head = sync_and_judge(disk)?;
@@ -94,7 +94,7 @@ impl Journal {
         })
     }
 
-    /// The start and the end of the selected area, in octets; the end is the place behind its closed gate.
+    /// The start and the end of the selected area, in octets; the end is the place after its closed gate.
     pub fn area(&self) -> (u64, u64)
         ensures { result ≡ (self.now.area.start, self.now.area.end) }
     {

@@ -4,7 +4,7 @@ ghost use Rattle.vf_journal.specs.Layout.{anchor_place as place_of, selector_of}
 
 /// `FTAMJNL1`, the number 2, and four zeros.
 pub(crate) const HEADER: [u8; 16] = *b"FTAMJNL1\x00\x00\x00\x02\x00\x00\x00\x00";
-/// What stands behind the first octet of a journal that is just made: the rest of the header, a selector, two anchors
+/// What stands after the first octet of a journal that is just made: the rest of the header, a selector, two anchors
 /// and a closed gate.
 pub(crate) const REST: [u8; 33] =
     *b"TAMJNL1\x00\x00\x00\x02\x00\x00\x00\x00\x00\x00\x00\x00\x00\x00\x00\x00!\x00\x00\x00\x00\x00\x00\x00!\x00";

@@ -1,6 +1,6 @@
 use Rattle.std.proofs.Common.{◌≤◌, length, true, arith}
 use Rattle.std.proofs.lemmas.Result.{err_from_is_err_and}
-use Rattle.vf_journal.proofs.Plans.{changes_joined, one_change}
+use Rattle.vf_disk.proofs.CallCounts.{changes_joined, one_change}
 use Rattle.vf_journal.proofs.Runs.{both_run, both_seen, first_run, first_seen, written_seen}
 use Rattle.vf_journal.proofs.device.write_both_synced.Goals as goal
 

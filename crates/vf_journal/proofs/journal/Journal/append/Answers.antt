@@ -1,11 +1,11 @@
 use Rattle.std.proofs.Common.{◌+◌, ◌-◌, ◌≤◌, None, length, true, arith, ap, sym, subst}
 use Rattle.std.proofs.lemmas.Result.{err_from_is_err_and}
 use Rattle.vf_disk.specs.Disk.{greatest_length}
-use Rattle.vf_journal.specs.Standing.{IsSound}
+use Rattle.vf_journal.specs.JournalState.{IsSound}
 use Rattle.vf_journal.specs.declared.area.Area.{Area}
 use Rattle.vf_journal.proofs.Appending.{append_done, append_opened, append_seen, append_seen_first, append_staged, length-entry_of}
 use Rattle.vf_journal.proofs.Counts.{placed_more}
-use Rattle.vf_journal.proofs.Plans.{changes_joined}
+use Rattle.vf_disk.proofs.CallCounts.{changes_joined}
 use Rattle.vf_journal.proofs.journal.Journal.append.Goals as goal
 
 pub returns-in_err-write_synced-clause-any_moment : goal.returns-in_err-write_synced-clause-any_moment

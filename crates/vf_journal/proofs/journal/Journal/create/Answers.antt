@@ -2,7 +2,7 @@ use Rattle.std.proofs.Common.{◌≡◌, Some, true, false, arith, [], ◌∷◌
 use Rattle.std.proofs.lemmas.List.{nil_from_length}
 use Rattle.std.proofs.lemmas.Result.{err_from_is_err_and}
 use Rattle.vf_journal.proofs.Creating.{create_first, create_second, create_seen, create_third, first_left, new_is, rest_of_new, second_left, third_left}
-use Rattle.vf_journal.proofs.Plans.{changes_fewer, changes_joined}
+use Rattle.vf_disk.proofs.CallCounts.{changes_fewer, changes_joined}
 use Rattle.vf_journal.proofs.journal.Journal.create.Goals as goal
 
 pub returns-in_err-write_synced-clause-any_moment : goal.returns-in_err-write_synced-clause-any_moment

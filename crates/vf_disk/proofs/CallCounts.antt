@@ -1,9 +1,9 @@
 -- How rows of calls are counted.
 use Rattle.std.proofs.Common.{◌≡◌, inl, inr, ℕ, zero, suc, ◌+◌, ◌≤◌, Bool, true, false, not, ◌&&◌, Option, None, Some, refl, sym, ◌∙◌, ap, subst, arith, true≢false}
 use Rattle.vf_disk.specs.Plans.{StopPlan, after_change, after_look, change_fails, look_fails, ChangesWherePlanned, LooksAsPlanned, SyncsAsPlanned}
-use Rattle.vf_journal.specs.Calls.{MakesChanges, MakesLooks, SyncsAndLooks, after_changes, after_looks, no_change_fails, no_look_fails}
+use Rattle.vf_disk.specs.Calls.{MakesChanges, MakesLooks, SyncsAndLooks, after_changes, after_looks, no_change_fails, no_look_fails}
 
-after_add : (a b : ℕ) (plan : StopPlan) → after_changes b (after_changes a plan) ≡ after_changes (a + b) plan
+pub after_add : (a b : ℕ) (plan : StopPlan) → after_changes b (after_changes a plan) ≡ after_changes (a + b) plan
 after_add a zero plan = let same : a ≡ a + 0 = omega arith in ap (λ (n : ℕ). after_changes n plan) same
 after_add a (suc b) plan = let same : suc (a + b) ≡ a + suc b = omega arith in ap after_change (after_add a b plan) ∙ ap (λ (n : ℕ). after_changes n plan) same
 
@@ -15,7 +15,7 @@ and_of : (a b : Bool) → a ≡ true → b ≡ true → (a && b) ≡ true
 and_of true b is_a is_b = is_b
 and_of false b is_a is_b = cc
 
-none_add : (a b : ℕ) (plan : StopPlan) → no_change_fails a plan ≡ true → no_change_fails b (after_changes a plan) ≡ true → no_change_fails (a + b) plan ≡ true
+pub none_add : (a b : ℕ) (plan : StopPlan) → no_change_fails a plan ≡ true → no_change_fails b (after_changes a plan) ≡ true → no_change_fails (a + b) plan ≡ true
 none_add a zero plan first second = let same : a ≡ a + 0 = omega arith in subst (λ (n : ℕ). no_change_fails n plan ≡ true) same first
 none_add a (suc b) plan first second =
     let same : suc (a + b) ≡ a + suc b = omega arith in
@@ -23,7 +23,7 @@ none_add a (suc b) plan first second =
     let last : not (change_fails (after_changes (a + b) plan)) ≡ true = subst (λ (p : StopPlan). not (change_fails p) ≡ true) (after_add a b plan) parts.1 in
     subst (λ (n : ℕ). no_change_fails n plan ≡ true) same (and_of (no_change_fails (a + b) plan) (not (change_fails (after_changes (a + b) plan))) (none_add a b plan first parts.0) last)
 
--- a row of calls behind another
+-- a row of calls after another
 pub changes_joined : (a b : ℕ) (old mid new : Option StopPlan) (failed : Bool) → MakesChanges a old mid false → MakesChanges b mid new failed → MakesChanges (a + b) old new failed
 changes_joined a b None None new true first second = second
 changes_joined a b None None new false first second = second
@@ -94,7 +94,7 @@ pub no_look : (plan : Option StopPlan) → MakesLooks plan plan false
 no_look None = refl
 no_look (Some plan) = (0, refl, refl)
 
--- a sync, and calls behind it that look
+-- a sync, and calls after it that look
 pub sync_fails : (old new : Option StopPlan) → SyncsAsPlanned old new true → SyncsAndLooks old new true
 sync_fails None new is = is
 sync_fails (Some old) new (fails, is) = inl (sym fails, is)

@@ -2,7 +2,7 @@
 use Rattle.std.specs.Prelude.{◌≡◌, ◌⊎◌, ℕ, zero, suc, ◌<◌, Bool, true, false, not, ◌&&◌, Option, None, Some}
 use Rattle.vf_disk.specs.Plans.{StopPlan, after_look, after_change, look_fails, change_fails}
 
--- behind so many writes and syncs
+-- after so many writes and syncs
 abbrev pub after_changes : ℕ → StopPlan → StopPlan
 after_changes zero plan = plan
 after_changes (suc count) plan = after_change (after_changes count plan)
@@ -18,7 +18,7 @@ MakesChanges count None new failed = new ≡ None
 MakesChanges count (Some old) new false = (no_change_fails count old ≡ true) × (new ≡ Some (after_changes count old))
 MakesChanges count (Some old) new true = (made : ℕ) × (made < count) × (no_change_fails made old ≡ true) × (new ≡ Some (after_changes (suc made) old))
 
--- behind so many calls of `len` and `read`
+-- after so many calls of `len` and `read`
 abbrev pub after_looks : ℕ → StopPlan → StopPlan
 after_looks zero plan = plan
 after_looks (suc count) plan = after_look (after_looks count plan)
@@ -34,7 +34,7 @@ MakesLooks (Some old) new false = (count : ℕ) × (no_look_fails count old ≡ 
 MakesLooks (Some old) new true =
     (count : ℕ) × (no_look_fails count old ≡ true) × (look_fails (after_looks count old) ≡ true) × (new ≡ Some (after_looks (suc count) old))
 
--- A sync is made and behind it only calls of `len` and `read`, each as planned.
+-- A sync is made and after it only calls of `len` and `read`, each as planned.
 abbrev pub SyncsAndLooks : Option StopPlan → Option StopPlan → Bool → Type 0
 SyncsAndLooks None new failed = new ≡ None
 SyncsAndLooks (Some old) new false = (change_fails old ≡ false) × MakesLooks (Some (after_change old)) new false

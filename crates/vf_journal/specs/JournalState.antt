@@ -9,7 +9,7 @@ use Rattle.vf_journal.specs.Image.{Holds, records_of}
 
 -- What a journal keeps: whether the second anchor is selected, the selected area, the limit of what is written, and
 -- an area that was just prepared for a switch, which the other anchor names.
-pub record Standing : Type 0 where
+pub record JournalState : Type 0 where
   pub second : Bool
   pub area : Area
   pub limit : ℕ
@@ -39,47 +39,47 @@ with_record area count =
     }
 
 -- as a journal stands that was just opened on an image
-abbrev pub when_opened : List ℕ → ℕ → Standing
+abbrev pub when_opened : List ℕ → ℕ → JournalState
 when_opened image limit = record { second = selects_second image; area = area_of (selected_start image) (records_of image); limit = limit; prepared = None }
 
--- behind an append of a record of so many octets, a prepare of an area of so many, and a switch to an area
-abbrev pub after_append : Standing → ℕ → Standing
+-- after an append of a record of so many octets, a prepare of an area of so many, and a switch to an area
+abbrev pub after_append : JournalState → ℕ → JournalState
 after_append journal count = record { second = journal.second; area = with_record journal.area count; limit = journal.limit; prepared = None }
 
 -- The start of a new area of so many octets: the first place, where that area ends before the selected one starts,
 -- and else the end of the selected one.
-abbrev pub new_start : Standing → ℕ → ℕ
+abbrev pub new_start : JournalState → ℕ → ℕ
 new_start journal count = if nat_le (first_start + count) journal.area.start then first_start else journal.area.end
 
 -- the area of so many octets, with its one record
-abbrev pub new_area : Standing → ℕ → Area
+abbrev pub new_area : JournalState → ℕ → Area
 new_area journal count = let start = new_start journal count in record { start = start; end = start + count; first = count - 6; later = 0 }
 
-abbrev pub after_prepare : Standing → ℕ → Standing
+abbrev pub after_prepare : JournalState → ℕ → JournalState
 after_prepare journal count = record { second = journal.second; area = journal.area; limit = journal.limit; prepared = Some (new_area journal count) }
 
-abbrev pub after_switch : Standing → Area → Standing
+abbrev pub after_switch : JournalState → Area → JournalState
 after_switch journal area = record { second = not journal.second; area = area; limit = journal.limit; prepared = None }
 
 -- A switch is due where the later records have more than 4,096 octets and more than the first one, or where the record
 -- would end past the limit.
-abbrev pub is_due : Standing → ℕ → Bool
+abbrev pub is_due : JournalState → ℕ → Bool
 is_due journal count =
     (nat_lt 4096 journal.area.later && nat_lt journal.area.first journal.area.later) || nat_lt journal.limit (journal.area.end + count + 5)
 
 -- It is possible where a record of all tables isn't longer than any may be, and its area ends within the limit.
-abbrev pub is_possible : Standing → ℕ → Bool
+abbrev pub is_possible : JournalState → ℕ → Bool
 is_possible journal snapshot = nat_le snapshot longest && nat_le (new_start journal (snapshot + 6) + (snapshot + 6)) journal.limit
 
 -- where a record of so many octets is to stand, when a record of all tables has so many
-abbrev pub placing : Standing → ℕ → ℕ → Placing
+abbrev pub placing : JournalState → ℕ → ℕ → Placing
 placing journal count snapshot =
     let start = new_start journal (snapshot + 6) in
     if is_due journal count && is_possible journal snapshot
     then record { switch = Some start; end = start + (snapshot + 6) + count + 5 }
     else record { switch = None; end = journal.area.end + count + 5 }
 
--- What holds of every journal: its areas stand behind the anchors and within the greatest length.
+-- What holds of every journal: its areas stand after the anchors and within the greatest length.
 pub record IsPlaced (area : Area) : Type 0 where
   pub start : first_start ≤ area.start
   pub order : area.start < area.end
@@ -91,13 +91,13 @@ pub record IsSound (area : Area) (next : Option Area) : Type 0 where
   pub prepared : IfSome next IsPlaced
 
 -- what the journal has written lies on a disk of so many octets
-pub record IsWithin (journal : Standing) (size : ℕ) : Type 0 where
+pub record IsWithin (journal : JournalState) (size : ℕ) : Type 0 where
   pub area : journal.area.end ≤ size
   pub prepared : IfSome journal.prepared (λ area. area.end ≤ size)
 
 -- The journal stands on a disk that holds these records: a read gives such an image, a crash leaves that image, and
 -- the journal keeps what the image says.
-pub record StandsOn {D : Type 0} (shown : D → Option (List ℕ)) (may_leave : D → List ℕ → Type 0) (journal : Standing) (disk : D) (records : List (List ℕ)) : Type 0 where
+pub record StandsOn {D : Type 0} (shown : D → Option (List ℕ)) (may_leave : D → List ℕ → Type 0) (journal : JournalState) (disk : D) (records : List (List ℕ)) : Type 0 where
   pub image : List ℕ
   pub shows : shown disk ≡ Some image
   pub synced : LeavesShown (shown disk) (may_leave disk)
@@ -106,7 +106,7 @@ pub record StandsOn {D : Type 0} (shown : D → Option (List ℕ)) (may_leave : 
   pub area : journal.area ≡ area_of (selected_start image) records
 
 -- and the anchor that isn't selected names an area of one record, which was prepared
-pub record HasPrepared {D : Type 0} (shown : D → Option (List ℕ)) (journal : Standing) (disk : D) (only : List ℕ) : Type 0 where
+pub record HasPrepared {D : Type 0} (shown : D → Option (List ℕ)) (journal : JournalState) (disk : D) (only : List ℕ) : Type 0 where
   pub image : List ℕ
   pub shows : shown disk ≡ Some image
   pub start : first_start ≤ anchor image (not journal.second)
