@@ -2,6 +2,7 @@
 use Rattle.std.proofs.Common.{◌≡◌, inl, inr, ℕ, ◌+◌, Bool, true, false, not, ◌||◌, if◌then◌else◌, List, [], ◌∷◌, ◌++◌, length, take, Option, None, Some, refl, sym, ◌∙◌, ap, subst, arith, true≢false, length-append}
 use Rattle.std.specs.Prelude.{fold}
 use Rattle.std.proofs.Math.Seq.{take-append-add}
+use Rattle.std.proofs.lemmas.List.{take-append-le}
 use Rattle.std.proofs.lemmas.List.Sums.{fold-append}
 use Rattle.vf_base.specs.Faults.{HasRisen}
 use Rattle.vf_disk.specs.Calls.{after_changes, no_change_fails}
@@ -108,3 +109,36 @@ steps_joined a b (Some p) None r (Some s) t u failed l m n (inl first) second = 
 steps_joined a b (Some p) (Some q) r (Some s) None u failed l m n (inl first) second = cc first.leaves
 steps_joined a b (Some p) (Some q) r (Some s) (Some t) u failed l m n (inl first) (inl second) = inl (planned_joined a b p q r s t u failed l m n first second)
 steps_joined a b (Some p) (Some q) r (Some s) (Some t) u failed l m n (inl first) (inr second) = inr (lacking_joined a b p q r s t u failed l m n first second)
+
+chosen_early : (fails : Bool) (early rest both : Ending) → ((rest.failed ≡ true) → both ≡ rest) → (let all : Ending = if fails then early else rest in all).failed ≡ true
+    → (let all : Ending = if fails then early else both in all) ≡ (let all : Ending = if fails then early else rest in all)
+chosen_early true early rest both more bad = refl
+chosen_early false early rest both more bad = more bad
+
+-- a row that fails ends so whatever is to follow
+ending_early : (a b : List Step) (plan : StopPlan) (state : State) → (ending_of a plan state).failed ≡ true → ending_of (a ++ b) plan state ≡ ending_of a plan state
+ending_early [] b plan state bad = absurd (true≢false (sym bad))
+ending_early (step ∷ a) b plan state bad =
+    chosen_early (step_fails plan step) (record { plan = after_change plan; state = fold after state (noted plan step); failed = true })
+    (ending_of a (after_change plan) (after state step)) (ending_of (a ++ b) (after_change plan) (after state step)) (ending_early a b (after_change plan) (after state step)) bad
+
+pub steps_failed : (a b : List Step) (p q : Option StopPlan) (s t : Option State) (l n : ℕ) → MakesSteps a p q s t true l n → MakesSteps (a ++ b) p q s t true l n
+steps_failed a b None q s t l n made = made
+steps_failed a b (Some p) q None t l n made = made
+steps_failed a b (Some p) q (Some s) t l n (inl made) =
+    let end = ending_early a b p s (sym made.fails) in
+    inl (record {
+      next = made.next ∙ ap (λ (e : Ending). Some e.plan) (sym end);
+      leaves = made.leaves ∙ ap (λ (e : Ending). Some e.state) (sym end);
+      fails = made.fails ∙ ap (λ (e : Ending). e.failed) (sym end);
+      memory = made.memory;
+    })
+steps_failed a b (Some p) q (Some s) t l n (inr lacks) = inr (record {
+  made = lacks.made;
+  less = omega (arith, lacks.less, length-append a b);
+  none = lacks.none;
+  next = lacks.next;
+  leaves = lacks.leaves ∙ ap (λ (row : List Step). Some (fold after s row)) (sym (take-append-le lacks.made a b (omega (arith, lacks.less))));
+  fails = lacks.fails;
+  memory = lacks.memory;
+})

@@ -1,25 +1,18 @@
 -- An append, from the disk on which a journal stands to that with one record more.
-use Rattle.std.proofs.Common.{◌≡◌, inl, ℕ, ◌+◌, ◌-◌, ◌≤◌, List, [], ◌∷◌, ◌++◌, length, get_or, drop, Option, Some, sym, ◌∙◌, ap, subst, arith, length-append}
+use Rattle.std.proofs.Common.{◌≡◌, inl, ℕ, ◌+◌, ◌-◌, ◌≤◌, List, [], ◌∷◌, ◌++◌, length, get_or, drop, Option, Some, sym, ◌∙◌, ap, subst, arith}
 use Rattle.std.proofs.lemmas.List.{get_or-drop}
 use Rattle.vf_disk.specs.Disk.{LeavesOnly, LeavesShown, Torn, overwritten}
 use Rattle.vf_disk.proofs.Runs.{joined, leaves_at_first, leaves_octets, weaker}
 use Rattle.vf_journal.specs.declared.area.Area.{Area}
 use Rattle.vf_journal.specs.Layout.{selected_start}
-use Rattle.vf_journal.specs.Records.{IsEntry, entry_of, longest, sized}
+use Rattle.vf_journal.specs.Records.{IsEntry, entry_of, longest}
 use Rattle.vf_journal.specs.Image.{Holds, HoldsEither}
 use Rattle.vf_journal.specs.JournalState.{JournalState, StandsOn, after_append, area_of, with_record}
 use Rattle.vf_journal.specs.Writes.{MadeBy, Shows}
-use Rattle.vf_journal.proofs.Areas.{length-sized}
+use Rattle.vf_journal.proofs.Lengths.{entry_short, length-entry_of}
 use Rattle.vf_journal.proofs.Counts.{counts_push}
 use Rattle.vf_journal.proofs.Images.{SameHead, gate_head, gate_of, gate_open, gate_torn, gate_within, written_behind}
 use Rattle.vf_journal.proofs.Parts.{overwritten_from, torn_whole}
-
-pub length-entry_of : (item : List ℕ) → length (entry_of item) ≡ length item + 5
-length-entry_of item = omega (arith, length-append (sized item) (0 ∷ []), length-sized item)
-
--- a record whose built form is handed in isn't too long
-pub entry_short : (entry item : List ℕ) → IsEntry entry → entry ≡ entry_of item → length item ≤ longest
-entry_short entry item built is = omega (arith, ap length built.2, ap length is, length-entry_of item, length-entry_of built.0, built.1)
 
 module _ {D : Type 0} (shown : D → Option (List ℕ)) (may_leave : D → List ℕ → Type 0) (moment : D → ℕ) (left_since : D → ℕ → List ℕ → Type 0)
     (only_now : (disk : D) (image : List ℕ) → left_since disk (moment disk) image → may_leave disk image)

@@ -1,12 +1,12 @@
 -- What an empty disk holds while a journal is made on it.
-use Rattle.std.proofs.Common.{◌≡◌, ◌≢◌, ◌==◌, inl, inr, ℕ, ◌≤◌, false, List, [], ◌∷◌, length, take, drop, Option, None, Some, IsSome, refl, sym, ap, subst, arith}
+use Rattle.std.proofs.Common.{◌≡◌, ◌≢◌, ◌==◌, inl, inr, ℕ, ◌≤◌, false, List, [], ◌∷◌, ◌++◌, length, take, drop, Option, None, Some, IsSome, refl, sym, ap, subst, arith}
 use Rattle.std.proofs.lemmas.Bool.{cases_eq, le-leb}
 use Rattle.std.proofs.lemmas.Bool.Decides.{nat_tests}
 use Rattle.vf_disk.specs.Disk.{LeavesOnly, LeavesShown, Torn}
 use Rattle.vf_disk.proofs.Runs.{joined, leaves_octets, weaker}
 use Rattle.vf_journal.specs.Layout.{first_start, header, new_journal, place_named, place_octets}
 use Rattle.vf_journal.specs.Image.{Holds, IsNoneOrNew, Refusal, difference, misplaced, or_else, refusal}
-use Rattle.vf_journal.specs.Writes.{MadeBy, Shows}
+use Rattle.vf_journal.specs.Writes.{MadeBy, Shows, create_steps, written_steps}
 
 or_else_second : (first second : Option Refusal) → IsSome second → IsSome (or_else first second)
 or_else_second (Some found) second some = refl
@@ -32,13 +32,17 @@ pub first_refused : (octet : ℕ) (rest : List ℕ) → octet ≢ 70 → IsSome 
 unfolding refusal
 first_refused octet rest other = or_else_first (difference 0 header (octet ∷ rest)) (misplaced (octet ∷ rest)) (differs octet rest other)
 
--- what stands behind the first octet of a new journal
+-- what stands after the first octet of a new journal
 abbrev pub rest_of_new : List ℕ
 rest_of_new = 84 ∷ 65 ∷ 77 ∷ 74 ∷ 78 ∷ 76 ∷ 49 ∷ 0 ∷ 0 ∷ 0 ∷ 2 ∷ 0 ∷ 0 ∷ 0 ∷ 0 ∷ 0 ∷ 0 ∷ 0 ∷ 0 ∷ 0 ∷ 0 ∷ 0 ∷ 0 ∷ 33 ∷ 0 ∷ 0 ∷ 0 ∷ 0 ∷ 0 ∷ 0 ∷ 0 ∷ 33 ∷ 0 ∷ []
 
 pub new_is : new_journal ≡ 70 ∷ rest_of_new
 unfolding place_octets
 new_is = refl
+
+pub create_is : create_steps ≡ written_steps 0 (0 ∷ []) ++ written_steps 1 rest_of_new ++ written_steps 0 (70 ∷ [])
+unfolding place_octets
+create_is = refl
 
 pub new_holds : Holds (70 ∷ rest_of_new) []
 unfolding place_named

@@ -3,14 +3,19 @@ use Rattle.std.proofs.Common.{◌≡◌, ◌⊎◌, inl, inr, ⊎_elim, ℕ, ◌
 use Rattle.std.proofs.lemmas.Bool.{leb-true}
 use Rattle.vf_disk.specs.Disk.{LeavesOnly, LeavesShown, Torn, greatest_length, overwritten}
 use Rattle.vf_disk.proofs.Runs.{leaves_octets, weaker}
+use Rattle.vf_disk.specs.Plans.{StopPlan}
+use Rattle.vf_disk.specs.State.{State}
+use Rattle.vf_disk.specs.Steps.{MakesSteps}
+use Rattle.vf_disk.specs.declared.step.Step.{Step}
+use Rattle.vf_disk.specs.declared.step.Step.TheVariants.{Wrote}
 use Rattle.vf_journal.specs.declared.area.Area.{Area}
 use Rattle.vf_journal.specs.Layout.{anchor, anchor_place, first_start, place_named, place_octets, selects_second, selected_start}
-use Rattle.vf_journal.specs.Records.{HoldsArea, IsArea, area_with, entry_of, longest, octets_of}
+use Rattle.vf_journal.specs.Records.{HoldsArea, IsArea, area_with, entry_of, octets_of}
 use Rattle.vf_journal.specs.Image.{Holds}
 use Rattle.vf_journal.specs.JournalState.{HasPrepared, JournalState, StandsOn, area_of, new_start}
-use Rattle.vf_journal.specs.Writes.{MadeBy, Shows}
-use Rattle.vf_journal.proofs.Appending.{length-entry_of}
+use Rattle.vf_journal.specs.Writes.{MadeBy, Shows, prepare_steps, written_steps}
 use Rattle.vf_journal.proofs.Areas.{area_alone}
+use Rattle.vf_journal.proofs.Lengths.{area_short, length-area_with}
 use Rattle.vf_journal.proofs.Images.{SameHead, anchor_low, gate_within, other_anchor, written_before, written_behind}
 use Rattle.vf_journal.proofs.Numbers.{length-place_octets, place_named-take, place_read_back}
 use Rattle.vf_journal.proofs.Parts.{drop_behind, overwritten_from, length-overwritten, torn_whole}
@@ -23,12 +28,6 @@ new_start_cases journal count = by (nat_le (first_start + count) journal.area.st
         → (((if low then first_start else journal.area.end) ≡ first_start) × (first_start + count ≤ journal.area.start)) ⊎ ((if low then first_start else journal.area.end) ≡ journal.area.end)
     by true is = inl (refl, leb-true (first_start + count) journal.area.start is)
     by false is = inr refl
-
-pub length-area_with : (item : List ℕ) → length (area_with item) ≡ length item + 6
-length-area_with item = omega (arith, length-entry_of item)
-
-pub area_short : (octets item : List ℕ) → IsArea octets → octets ≡ area_with item → length item ≤ longest
-area_short octets item built is = omega (arith, ap length built.2, ap length is, length-area_with item, length-area_with built.0, built.1)
 
 -- an area of one record, by its octets
 made : ℕ → ℕ → ℕ → Area
@@ -48,6 +47,14 @@ prepared_shown told image start start' at at' area name shows start_is at_is nam
     shows ∙ ap (λ (l : List ℕ). Some (overwritten (overwritten image start area) at l)) name_is
     ∙ ap (λ (n : ℕ). Some (overwritten (overwritten image start area) n (place_octets start))) at_is
     ∙ ap (λ (n : ℕ). Some (overwritten (overwritten image n area) at' (place_octets n))) start_is
+
+-- the calls of a prepare, told by what was handed to the disk
+pub prepare_goes : (start start' : ℕ) (area : List ℕ) (at : ℕ) (name : List ℕ) (second : Bool) (p q : Option StopPlan) (s t : Option State) (failed : Bool) (l n : ℕ) → start ≡ start' → at ≡ anchor_place second → name ≡ place_octets start
+    → MakesSteps (Wrote start area true ∷ written_steps at name) p q s t failed l n → MakesSteps (prepare_steps start' area second) p q s t failed l n
+prepare_goes start start' area at name second p q s t failed l n start_is at_is name_is made =
+    let Goes : List Step → Type 0 = λ steps. MakesSteps steps p q s t failed l n in
+    subst (λ (x : ℕ). Goes (prepare_steps x area second)) start_is
+    (subst (λ (x : ℕ). Goes (Wrote start area true ∷ written_steps x (place_octets start))) at_is (subst (λ (x : List ℕ). Goes (Wrote start area true ∷ written_steps at x)) name_is made))
 
 module _ {D : Type 0} (shown : D → Option (List ℕ)) (may_leave : D → List ℕ → Type 0) (moment : D → ℕ) (left_since : D → ℕ → List ℕ → Type 0)
     (journal : JournalState) (old : D) (records : List (List ℕ)) (octets : List ℕ) (start : ℕ) (place : start ≡ new_start journal (length octets))

@@ -1,5 +1,5 @@
 -- What a crash leaves of a write and a sync, and of two writes and a sync.
-use Rattle.std.proofs.Common.{◌≡◌, inl, inr, ⊎_elim, ℕ, ◌≤◌, List, length, Option, None, Some, Result, Ok, Err, refl, ap, ◌∙◌, subst, arith}
+use Rattle.std.proofs.Common.{◌≡◌, ℕ, ◌≤◌, List, length, Option, None, Some, Result, Ok, Err, refl, ap, ◌∙◌, subst, arith}
 use Rattle.vf_base.specs.declared.errors.Failed.{Failed}
 use Rattle.vf_disk.specs.Disk.{Elapses, Follows, LeavesOnly, Torn, Within, Writes, overwritten}
 use Rattle.vf_disk.proofs.Runs.{joined, leaves_after, leaves_at_first, weaker}

@@ -1,7 +1,8 @@
--- Where a journal stands on its disk, and when it moves to another area (profile).
+-- What a journal keeps of its disk, and when it moves to another area (profile).
 use Rattle.std.specs.Prelude.{◌≡◌, ◌==◌, ℕ, ◌+◌, ◌-◌, ◌<◌, ◌≤◌, Bool, not, ◌&&◌, ◌||◌, nat_le, nat_lt, List, [], ◌∷◌, length, drop, Option, None, Some, IfSome, if◌then◌else◌}
 use Rattle.vf_disk.specs.Disk.{LeavesShown, greatest_length}
 use Rattle.vf_journal.specs.declared.area.Area.{Area}
+use Rattle.vf_journal.specs.declared.layout.TheConstants.{MOST_LATER_OCTETS}
 use Rattle.vf_journal.specs.declared.placing.Placing.{Placing}
 use Rattle.vf_journal.specs.Layout.{first_start, anchor, selects_second, selected_start}
 use Rattle.vf_journal.specs.Records.{HoldsArea, longest, octets_of}
@@ -65,7 +66,7 @@ after_switch journal area = record { second = not journal.second; area = area; l
 -- would end past the limit.
 abbrev pub is_due : JournalState → ℕ → Bool
 is_due journal count =
-    (nat_lt 4096 journal.area.later && nat_lt journal.area.first journal.area.later) || nat_lt journal.limit (journal.area.end + count + 5)
+    (nat_lt MOST_LATER_OCTETS journal.area.later && nat_lt journal.area.first journal.area.later) || nat_lt journal.limit (journal.area.end + count + 5)
 
 -- It is possible where a record of all tables isn't longer than any may be, and its area ends within the limit.
 abbrev pub is_possible : JournalState → ℕ → Bool

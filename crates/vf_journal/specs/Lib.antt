@@ -6,3 +6,4 @@ pub mod Answers
 pub mod Writes
 pub mod Looking
 pub mod Reading
+pub mod Laws

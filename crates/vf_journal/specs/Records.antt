@@ -1,11 +1,12 @@
 -- The records of an area (profile): a gate, and then for each record its length in four octets, the record, and the
 -- next gate. A gate is closed where it is 0, and open where it is any other octet.
 use Rattle.std.specs.Prelude.{◌≡◌, ◌≢◌, ◌==◌, ℕ, zero, suc, ◌+◌, ◌≤◌, ◌||◌, nat_lt, List, [], ◌∷◌, ◌++◌, length, take, drop, Option, None, Some, if◌then◌else◌}
+use Rattle.vf_journal.specs.declared.layout.TheConstants.{MOST_RECORD_OCTETS}
 use Rattle.vf_journal.specs.Layout.{length_octets, length_named}
 
 -- no record is longer
 abbrev pub longest : ℕ
-longest = 4294967295
+longest = MOST_RECORD_OCTETS
 
 -- a record with its length before it
 abbrev pub sized : List ℕ → List ℕ

@@ -1,11 +1,13 @@
 //! Calls of a disk that belong together.
-ghost use Rattle.std.specs.Prelude.{◌≡◌, ◌+◌, ◌≤◌, ℕ, List, Some, length, is_err, max, IfOk, OnOk, OnErr};
+ghost use Rattle.std.specs.Prelude.{◌≡◌, ◌+◌, ◌≤◌, ◌∷◌, ℕ, List, Some, length, is_err, max, true, IfOk, OnOk, OnErr};
 ghost use Rattle.vf_base.specs.Faults.{HasRisen};
 ghost use Rattle.vf_disk.specs.Disk.{Torn, LeavesOnly, LeavesShown, greatest_length, overwritten};
 ghost use Rattle.vf_disk.specs.Calls.{MakesChanges};
+ghost use Rattle.vf_disk.specs.Steps.{MakesSteps};
+ghost use Rattle.vf_disk.specs.declared.step.Step.TheVariants.{Wrote};
 ghost use Rattle.vf_journal.specs.Layout.{part};
 ghost use Rattle.vf_journal.specs.Looking.{IsLookedAt};
-ghost use Rattle.vf_journal.specs.Writes.{MadeBy, Shows};
+ghost use Rattle.vf_journal.specs.Writes.{MadeBy, Shows, written_steps};
 
 use vf_base::Failed;
 use vf_disk::Disk;
@@ -22,6 +24,7 @@ pub(crate) fn write_synced<D: Disk>(disk: &mut D, at: u64, octets: &[u8]) -> Res
     ensures grows { D.size disk.old ≤ D.size disk.new }
     ensures any_moment { LeavesOnly D.moment D.left_since disk.old disk.new (MadeBy (Torn at (length octets.now)) (D.may_leave disk.old)) }
     ensures calls { MakesChanges 2 (D.plan disk.old) (D.plan disk.new) (is_err result) }
+    ensures steps { MakesSteps (written_steps at octets.now) (D.plan disk.old) (D.plan disk.new) (D.state disk.old) (D.state disk.new) (is_err result) (D.lack_count disk.old) (D.lack_count disk.new) }
     ensures ok { OnOk result (D.fault_count disk.new ≡ D.fault_count disk.old) }
     ensures failed { OnErr result (HasRisen (D.fault_count disk.old) (D.fault_count disk.new)) }
 {
@@ -49,6 +52,7 @@ pub(crate) fn write_both_synced<D: Disk>(
     ensures grows { D.size disk.old ≤ D.size disk.new }
     ensures any_moment { LeavesOnly D.moment D.left_since disk.old disk.new (MadeBy (Torn then_at (length then.now)) (MadeBy (Torn at (length octets.now)) (D.may_leave disk.old))) }
     ensures calls { MakesChanges 3 (D.plan disk.old) (D.plan disk.new) (is_err result) }
+    ensures steps { MakesSteps (Wrote at octets.now true ∷ written_steps then_at then.now) (D.plan disk.old) (D.plan disk.new) (D.state disk.old) (D.state disk.new) (is_err result) (D.lack_count disk.old) (D.lack_count disk.new) }
     ensures ok { OnOk result (D.fault_count disk.new ≡ D.fault_count disk.old) }
     ensures failed { OnErr result (HasRisen (D.fault_count disk.old) (D.fault_count disk.new)) }
 {

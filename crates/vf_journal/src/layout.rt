@@ -12,8 +12,10 @@ pub(crate) const REST: [u8; 33] =
 pub(crate) const SELECTOR: u64 = 16;
 /// The least place at which an area starts.
 pub(crate) const FIRST_START: u64 = 33;
-/// No record has more octets.
-pub(crate) const LONGEST: u64 = 4_294_967_295;
+/// The most octets of a record.
+pub const MOST_RECORD_OCTETS: u64 = 4_294_967_295;
+/// The most octets of the later records of an area, with a length and a gate for each, before a switch may be due.
+pub const MOST_LATER_OCTETS: u64 = 4_096;
 
 /// Where an anchor stands.
 pub(crate) fn anchor_place(second: bool) -> u64

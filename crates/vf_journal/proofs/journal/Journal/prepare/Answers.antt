@@ -1,7 +1,9 @@
-use Rattle.std.proofs.Common.{length, arith, ap, sym, ◌∙◌}
+use Rattle.std.proofs.Common.{length, true, false, arith, ap, sym, ◌∙◌}
+use Rattle.std.proofs.lemmas.Result.{err_from_is_err_and}
 use Rattle.vf_journal.specs.JournalState.{JournalState, new_start}
+use Rattle.vf_journal.proofs.Lengths.{length-area_with}
 use Rattle.vf_journal.proofs.Numbers.{place_octets_are}
-use Rattle.vf_journal.proofs.Preparing.{length-area_with, prepare_done, prepare_run, prepare_seen, prepared_shown}
+use Rattle.vf_journal.proofs.Preparing.{prepare_done, prepare_goes, prepare_run, prepare_seen, prepared_shown}
 use Rattle.vf_journal.proofs.journal.Journal.prepare.Goals as goal
 
 pub new_start-start-requires : goal.new_start-start-requires
@@ -40,3 +42,15 @@ pub returns-clause-shown : goal.returns-clause-shown
 returns-clause-shown g c = rw (← c.self.view_is) (λ image shows.
     prepared_shown (g.D.Disk.shown c.write_both_synced.new.disk) image c.new_start-start.result _ c.anchor_place.result _ c.args.area.now c.to_be_bytes-anchor.result (c.in_ok-write_both_synced.ensures.shown image shows)
     (c.new_start-start.ensures ∙ ap (λ (journal : JournalState). new_start journal (length c.args.area.now)) (sym c.self.view_is)) c.anchor_place.ensures (c.to_be_bytes-anchor.ensures ∙ place_octets_are c.new_start-start.result))
+
+pub returns-in_err-write_both_synced-clause-steps : goal.returns-in_err-write_both_synced-clause-steps
+returns-in_err-write_both_synced-clause-steps g c =
+    let p = err_from_is_err_and c.from_residual.result c.from_residual.ensures.1 in
+    rw (p.1, ← c.self.view_is) (prepare_goes c.new_start-start.result _ c.args.area.now c.anchor_place.result c.to_be_bytes-anchor.result _ (g.D.Disk.plan c.args.disk.now) (g.D.Disk.plan c.write_both_synced.new.disk) (g.D.Disk.state c.args.disk.now) (g.D.Disk.state c.write_both_synced.new.disk) true
+    (g.D.Disk.lack_count c.args.disk.now) (g.D.Disk.lack_count c.write_both_synced.new.disk)
+    (c.new_start-start.ensures ∙ ap (λ (journal : JournalState). new_start journal (length c.args.area.now)) (sym c.self.view_is)) c.anchor_place.ensures (c.to_be_bytes-anchor.ensures ∙ place_octets_are c.new_start-start.result) c.in_err-write_both_synced.ensures.steps)
+
+pub returns-clause-steps : goal.returns-clause-steps
+returns-clause-steps g c = rw (← c.self.view_is) (prepare_goes c.new_start-start.result _ c.args.area.now c.anchor_place.result c.to_be_bytes-anchor.result _ (g.D.Disk.plan c.args.disk.now) (g.D.Disk.plan c.write_both_synced.new.disk) (g.D.Disk.state c.args.disk.now) (g.D.Disk.state c.write_both_synced.new.disk) false
+    (g.D.Disk.lack_count c.args.disk.now) (g.D.Disk.lack_count c.write_both_synced.new.disk)
+    (c.new_start-start.ensures ∙ ap (λ (journal : JournalState). new_start journal (length c.args.area.now)) (sym c.self.view_is)) c.anchor_place.ensures (c.to_be_bytes-anchor.ensures ∙ place_octets_are c.new_start-start.result) c.in_ok-write_both_synced.ensures.steps)
