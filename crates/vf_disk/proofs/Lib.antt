@@ -9,3 +9,4 @@ pub mod Runs
 pub mod CallCounts
 pub mod Rows
 pub mod Noted
+pub mod Stops

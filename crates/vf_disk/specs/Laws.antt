@@ -1,11 +1,12 @@
--- Laws of runs of calls: what a crash leaves of a run that goes on, and how its calls are counted. The lemmas behind
--- them are in proofs, for any predicates; the functions of the crate give them for predicates of types.
-use Rattle.std.specs.Prelude.{ℕ, ◌+◌, ◌≤◌, Bool, true, false, List, ◌++◌, Option}
+-- Laws of runs of calls: what a crash leaves of a run that goes on, and how its calls are counted. The
+-- functions of the crate give them for predicates of types; for any predicates they are lemmas of `proofs/Runs`.
+use Rattle.std.specs.Prelude.{◌≡◌, ℕ, ◌+◌, ◌≤◌, Bool, true, false, List, [], ◌∷◌, ◌++◌, length, fold, Option}
+use Rattle.std.specs.List.{list_any}
 use Rattle.vf_disk.specs.Calls.{MakesChanges}
 use Rattle.vf_disk.specs.Disk.{Elapses, LeavesOnly}
-use Rattle.vf_disk.specs.Plans.{StopPlan}
-use Rattle.vf_disk.specs.State.{State}
-use Rattle.vf_disk.specs.Steps.{MakesSteps}
+use Rattle.vf_disk.specs.Plans.{StopPlan, stopping}
+use Rattle.vf_disk.specs.State.{State, after}
+use Rattle.vf_disk.specs.Steps.{MakesSteps, as_failed, ending_of, is_long}
 use Rattle.vf_disk.specs.declared.step.Step.{Step}
 
 module _ {D : Type 0} (moment : D → ℕ) (left_since : D → ℕ → List ℕ → Type 0) where
@@ -42,3 +43,11 @@ abbrev pub StepsJoin : Type 0
 StepsJoin =
     (a b : List Step) (p q r : Option StopPlan) (s t u : Option State) (failed : Bool) (l m n : ℕ)
     → MakesSteps a p q s t false l m → MakesSteps b q r t u failed m n → MakesSteps (a ++ b) p r s u failed l n
+
+-- What a stop at a call of a row leaves, where no other call is planned to fail and no write is too long: the calls
+-- before it as they are, and that one as one that failed, but none after it.
+abbrev pub StopLeaves : Type 0
+StopLeaves =
+    (before rest : List Step) (step : Step) (calls : ℕ) (state : State) → list_any is_long (before ++ step ∷ []) ≡ false
+    → ((ending_of (before ++ step ∷ rest) (stopping calls (length before + 1)) state).failed ≡ true)
+    × ((ending_of (before ++ step ∷ rest) (stopping calls (length before + 1)) state).state ≡ fold after state (before ++ as_failed step))

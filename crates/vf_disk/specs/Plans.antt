@@ -1,7 +1,7 @@
 -- Which calls of a disk in memory are to fail (profile): those of certain numbers, counted from 1 over `len`, `read`,
 -- `write_at`, `cut` and `sync` together; a stopped write, cut or sync; and every call after that one. A disk over
 -- the real world tells no plan.
-use Rattle.std.specs.Prelude.{◌≡◌, ℕ, ◌-◌, min, Bool, true, false, ◌||◌, nat_eq, nat_le, List, Option, None, Some}
+use Rattle.std.specs.Prelude.{◌≡◌, ℕ, ◌-◌, min, Bool, true, false, ◌||◌, nat_eq, nat_le, List, [], Option, None, Some}
 use Rattle.vf_base.specs.Plans.{FailurePlan, after_call, is_planned}
 
 -- the calls that are to fail by their numbers, and the number of writes, cuts and syncs up to and with the stopped
@@ -13,6 +13,10 @@ pub record StopPlan : Type 0 where
 -- before the first call, with no stop
 abbrev pub planned : List ℕ → StopPlan
 planned failing = record { numbers = record { failing = failing; calls = 0 }; until_stop = None }
+
+-- after so many calls, with a stop at such a write, cut or sync from now on, and no other failure
+abbrev pub stopping : ℕ → ℕ → StopPlan
+stopping calls stop = record { numbers = record { failing = []; calls = calls }; until_stop = Some stop }
 
 -- the stopped call was made
 abbrev pub is_after_stop : Option ℕ → Bool

@@ -1,7 +1,7 @@
 //! Laws of the disk model, each the contract of a function that does nothing.
 ghost use Rattle.std.specs.Prelude.{◌≡◌, ℕ, List, Some};
 ghost use Rattle.vf_disk.specs.Disk.{LeavesShown};
-ghost use Rattle.vf_disk.specs.Laws.{CallsJoin, FewerCalls, GoesOn, Joins, Starts, StepsJoin, Weakens};
+ghost use Rattle.vf_disk.specs.Laws.{CallsJoin, FewerCalls, GoesOn, Joins, Starts, StepsJoin, StopLeaves, Weakens};
 
 use crate::Disk;
 
@@ -48,4 +48,9 @@ pub fn fewer_calls()
 /// A row of calls after another of which all succeeded goes on as the two in one.
 pub fn steps_join()
     ensures { StepsJoin }
+{}
+
+/// What a stop at a call of a row leaves can be computed: the calls before it, and that one as one that failed.
+pub fn stop_leaves()
+    ensures { StopLeaves }
 {}

@@ -2,7 +2,7 @@
 use Rattle.std.proofs.Common.{◌≡◌, inl, ℕ, ◌+◌, ◌-◌, ◌≤◌, List, [], ◌∷◌, ◌++◌, length, get_or, drop, Option, Some, sym, ◌∙◌, ap, subst, arith}
 use Rattle.std.proofs.lemmas.List.{get_or-drop}
 use Rattle.vf_disk.specs.Disk.{LeavesOnly, LeavesShown, Torn, overwritten}
-use Rattle.vf_disk.proofs.Runs.{joined, leaves_at_first, leaves_octets, weaker}
+use Rattle.vf_disk.proofs.Runs.{joined, leaves_octets, weaker}
 use Rattle.vf_journal.specs.declared.area.Area.{Area}
 use Rattle.vf_journal.specs.Layout.{selected_start}
 use Rattle.vf_journal.specs.Records.{IsEntry, entry_of, longest}
@@ -41,10 +41,6 @@ module _ {D : Type 0} (shown : D → Option (List ℕ)) (may_leave : D → List 
   behind : (new : List ℕ) → Torn end (length entry) on.image new → SameHead on.image new × Holds new records
   behind new torn = written_behind records end (length entry) on.image new on.holds (omega (arith, end_is)) torn
 
-  -- no call was made
-  pub append_idle : LeavesOnly moment left_since old old Allowed
-  append_idle = leaves_at_first moment left_since old Allowed (λ image left. inl (subst (λ (l : List ℕ). Holds l records) (sym (from_image image (only_now old image left))) on.holds))
-
   pub append_staged : (mid : D) → LeavesOnly moment left_since old mid (MadeBy (Torn end (length entry)) (may_leave old)) → LeavesOnly moment left_since old mid Allowed
   append_staged mid run = weaker moment left_since old mid (MadeBy (Torn end (length entry)) (may_leave old)) Allowed run (λ image left.
       inl (behind image (subst (λ (l : List ℕ). Torn end (length entry) l image) (from_image left.0 left.1) left.2)).1)
@@ -72,10 +68,6 @@ module _ {D : Type 0} (shown : D → Option (List ℕ)) (may_leave : D → List 
   append_opened mid new shows synced first second = joined moment left_since old mid new Allowed (MadeBy (Torn (end - 1) 1) (may_leave mid)) Allowed (append_staged mid first) second (λ image allowed. allowed) (λ image left.
       let from : left.0 ≡ staged = leaves_octets (shown mid) (may_leave mid) staged left.0 synced shows left.1 in
       gate_torn records item (drop (end + length entry) on.image) staged image staged_kept.1 short entry_behind (gate_left image (subst (λ (l : List ℕ). Torn (end - 1) 1 l image) from left.2)))
-
-  -- what a read gives meanwhile
-  pub append_seen_none : Shows (shown old) Allowed
-  append_seen_none = (on.image, on.shows, inl on.holds)
 
   pub append_seen_first : (new : Option (List ℕ)) → Shows new (Torn end (length entry) on.image) → Shows new Allowed
   append_seen_first new seen = (seen.0, seen.1, inl (behind seen.0 seen.2).1)

@@ -1,39 +1,13 @@
 -- A disk that is looked at once more.
-use Rattle.std.proofs.Common.{◌≡◌, ℕ, Bool, true, false, List, [], ◌∷◌, Option, refl, sym, ◌∙◌, subst}
+use Rattle.std.proofs.Common.{◌≡◌, ℕ, Bool, true, false, List, [], ◌∷◌, Option, sym, ◌∙◌, subst}
 use Rattle.vf_disk.specs.Disk.{Elapses, LeavesOnly, LeavesShown, Within}
 use Rattle.vf_disk.proofs.Runs.{joined, leaves_after, leaves_at_first}
-use Rattle.vf_disk.specs.Plans.{StopPlan, LooksAsPlanned, SyncsAsPlanned}
+use Rattle.vf_disk.specs.Plans.{StopPlan, SyncsAsPlanned}
 use Rattle.vf_disk.specs.State.{State}
 use Rattle.vf_disk.specs.Steps.{LeavesState}
 use Rattle.vf_disk.specs.declared.step.Step.TheVariants.{Synced}
 use Rattle.vf_journal.specs.Looking.{IsLookedAt, IsSyncedAndLookedAt}
-use Rattle.vf_disk.proofs.CallCounts.{looks_joined, no_look, one_look, sync_fails, sync_looks, syncs_joined}
-
-module _ {D : Type 0} (shown : D → Option (List ℕ)) (size : D → ℕ) (may_leave : D → List ℕ → Type 0) (moment : D → ℕ) (left_since : D → ℕ → List ℕ → Type 0) (plan : D → Option StopPlan) (state : D → Option State) (lack_count : D → ℕ)
-    (only_now : (disk : D) (image : List ℕ) → left_since disk (moment disk) image → may_leave disk image) where
-  pub looked_once : (old new : D) (failed : Bool) → shown new ≡ shown old → size new ≡ size old → Within (may_leave old) (may_leave new)
-      → Elapses (moment old) (moment new) (left_since old) (left_since new) (may_leave new) → LooksAsPlanned (plan old) (plan new) failed
-      → (state new ≡ state old) × (lack_count new ≡ lack_count old) → IsLookedAt shown size may_leave moment left_since plan state lack_count failed old new
-  looked_once old new failed same long within time planned kept = record {
-    same = same;
-    as_long = long;
-    now = within;
-    since = leaves_after moment left_since old old new (may_leave old) (may_leave new) (leaves_at_first moment left_since old (may_leave old) (only_now old)) time within;
-    calls = one_look (plan old) (plan new) failed planned;
-    kept = kept.0;
-    memory = kept.1;
-  }
-
-  pub looked_none : (disk : D) → IsLookedAt shown size may_leave moment left_since plan state lack_count false disk disk
-  looked_none disk = record {
-    same = refl;
-    as_long = refl;
-    now = λ image left. left;
-    since = leaves_at_first moment left_since disk (may_leave disk) (only_now disk);
-    calls = no_look (plan disk);
-    kept = refl;
-    memory = refl;
-  }
+use Rattle.vf_disk.proofs.CallCounts.{looks_joined, sync_fails, sync_looks, syncs_joined}
 
 pub looked_then : {D : Type 0} (shown : D → Option (List ℕ)) (size : D → ℕ) (may_leave : D → List ℕ → Type 0) (moment : D → ℕ) (left_since : D → ℕ → List ℕ → Type 0) (plan : D → Option StopPlan) (state : D → Option State) (lack_count : D → ℕ)
     (old mid new : D) (failed : Bool) → IsLookedAt shown size may_leave moment left_since plan state lack_count false old mid → IsLookedAt shown size may_leave moment left_since plan state lack_count failed mid new

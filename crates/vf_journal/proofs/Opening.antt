@@ -31,9 +31,6 @@ module _ (shown : Option (List ℕ)) (start count : ℕ) (old new : List (List �
   area_found = takes.counts ∙ area_taken start [] takes.taken ∙ ap (λ (l : List (List ℕ)). area_of start l) taken_is
 
   module _ (at : start ≡ selected_start image) where
-    pub all_records : new ≡ old ++ records_of image
-    all_records = all_taken ∙ ap (λ (n : ℕ). old ++ records_in (drop n image)) at
-
     pub area_opened : found ≡ area_of (selected_start image) (records_of image)
     area_opened = area_found ∙ ap (λ (n : ℕ). area_of n (records_in (drop n image))) at
 

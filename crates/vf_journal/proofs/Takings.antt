@@ -52,10 +52,6 @@ module _ (block : List ℕ) (count : ℕ) (area : Area) (old : List (List ℕ)) 
         so_far.0 ∙ ap (λ (l : List (List ℕ)). taking.taken ++ l) (reads_none (drop (octets_of taking.taken) all) (none (drop (octets_of taking.taken) all) so_far.1));
   }
 
-  -- the block ends
-  pub taking_cut : Takes (BeginsWith block count) old new count area now true
-  taking_cut = record { taken = taking.taken; records = taking.records; counts = taking.counts; bound = taken_less; reads = λ all begins. (taking.reads all begins).0 }
-
   -- one record more
   pub taking_more : (size : ℕ) (item : List ℕ) (next : List (List ℕ)) (further : Area) (behind : List ℕ) → size + 6 ≤ length rest → item ≡ take size (drop 5 rest) → next ≡ new ++ item ∷ [] → further ≡ with_record now size → behind ≡ drop (5 + size) rest
       → ((all : List ℕ) → BeginsWith rest left all → first_record all ≡ Some (take size (drop 5 rest), drop (size + 5) all)) → Taking block count area old behind (left - (5 + size)) further next

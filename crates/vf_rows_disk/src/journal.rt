@@ -7,7 +7,7 @@ use vf_disk::{CrashForm, MemoryDisk};
 mod store;
 mod torn;
 
-use store::{Call, append, append_all, make, open, told};
+use store::{Call, append, append_all, is_read_as, make, open};
 use torn::{Images, Write, images_after, longest, put};
 
 /// A journal without records.
@@ -212,14 +212,15 @@ fn a_fault_while_opening_leaves_the_records_as_they_were(rt: HostRuntime) -> Res
 }
 
 /// Whether a journal is opened on a disk of which a call fails. If not, it is a fault, and no record was read.
-fn opens(alloc: Global, call: u64) -> Result<bool, JournalError> {
+fn opens(alloc: Global, call: u64) -> Result<bool, NoMemory> {
     let mut disk = MemoryDisk::of(alloc, OF_A, [call].to_vec(alloc)?)?;
     let mut records = Vec::new(alloc);
-    match Journal::open(alloc, &mut disk, 50, &mut records) {
-        Ok(_) => Ok(records.len() == 1),
-        Err(JournalError::DiskFault) if records.is_empty() => Ok(false),
-        Err(error) => Err(error),
+    let error = Journal::open(alloc, &mut disk, 50, &mut records).err();
+    let is_fault = error == Some(JournalError::DiskFault);
+    if is_fault != records.is_empty() {
+        return Err(NoMemory);
     }
+    Ok(error.is_none() && records.len() == 1)
 }
 
 /// A call on a disk that holds these octets: the writes that it makes, with a sync after each row of them, and what
@@ -229,8 +230,8 @@ struct Act {
     call: Call,
     first: &'static [u8],
     synced: &'static [&'static [Write]],
-    before: &'static [u8],
-    after: &'static [u8],
+    before: Option<&'static [&'static [u8]]>,
+    after: Option<&'static [&'static [u8]]>,
 }
 
 const CREATED: Act = Act {
@@ -250,16 +251,16 @@ const CREATED: Act = Act {
             octets: b"F",
         }],
     ],
-    before: b"-",
-    after: b"",
+    before: None,
+    after: Some(&[]),
 };
 
 const OPENED: Act = Act {
     call: Call::Open,
     first: AFTER_AN_OLD_ONE,
     synced: &[&[]],
-    before: b"A.",
-    after: b"A.",
+    before: Some(&[b"A"]),
+    after: Some(&[b"A"]),
 };
 
 const FIRST_APPENDED: Act = Act {
@@ -275,8 +276,8 @@ const FIRST_APPENDED: Act = Act {
             octets: b"\x01",
         }],
     ],
-    before: b"",
-    after: b"B.",
+    before: Some(&[]),
+    after: Some(&[b"B"]),
 };
 
 const APPENDED: Act = Act {
@@ -292,8 +293,8 @@ const APPENDED: Act = Act {
             octets: b"\x01",
         }],
     ],
-    before: b"A.",
-    after: b"A.B.",
+    before: Some(&[b"A"]),
+    after: Some(&[b"A", b"B"]),
 };
 
 const SWITCHED: Act = Act {
@@ -315,8 +316,8 @@ const SWITCHED: Act = Act {
             octets: b"\x01",
         }],
     ],
-    before: b"A.",
-    after: b"S.",
+    before: Some(&[b"A"]),
+    after: Some(&[b"S"]),
 };
 
 const SWITCHED_BACK: Act = Act {
@@ -338,8 +339,8 @@ const SWITCHED_BACK: Act = Act {
             octets: b"\0",
         }],
     ],
-    before: b"A.",
-    after: b"S.",
+    before: Some(&[b"A"]),
+    after: Some(&[b"S"]),
 };
 
 const ACTS: [Act; 6] = [
@@ -381,8 +382,8 @@ fn holds(alloc: Global, act: &Act) -> Result<bool, NoMemory> {
 fn ends(alloc: Global, act: &Act, octets: &[u8]) -> Result<bool, NoMemory> {
     let mut disk = MemoryDisk::of(alloc, act.first, Vec::new(alloc))?;
     let done = make(alloc, &mut disk, act.call, 0).is_ok();
-    let told = told(alloc, octets)?;
-    Ok(done && disk.octets() == octets && told.as_slice() == act.after)
+    let is_after = is_read_as(alloc, octets, act.after)?;
+    Ok(done && disk.octets() == octets && is_after)
 }
 
 /// Whether it is so at each stop in a row of writes and at the sync after it, where so many writes and syncs went
@@ -445,24 +446,37 @@ fn images_hold(
     Ok(true)
 }
 
+/// The forms of a crash that are tried.
+const FORMS: [CrashForm; 5] = [
+    CrashForm::Keep,
+    CrashForm::Lose,
+    CrashForm::Fill(0),
+    CrashForm::Fill(1),
+    CrashForm::Fill(255),
+];
+
 /// Whether a crash of each form leaves the records before or after.
 fn forms_hold(alloc: Global, act: &Act, disk: &MemoryDisk) -> Result<bool, NoMemory> {
-    for form in [
-        CrashForm::Keep,
-        CrashForm::Lose,
-        CrashForm::Fill(0),
-        CrashForm::Fill(1),
-        CrashForm::Fill(255),
-    ] {
-        let left = disk.copy(alloc)?.crash(form)?;
-        if !is_either(alloc, act, left.octets())? {
+    for form in FORMS {
+        if !form_holds(alloc, act, disk, form)? {
             return Ok(false);
         }
     }
     Ok(true)
 }
 
+fn form_holds(
+    alloc: Global,
+    act: &Act,
+    disk: &MemoryDisk,
+    form: CrashForm,
+) -> Result<bool, NoMemory> {
+    let disk = disk.copy(alloc)?;
+    let left = disk.crash(form)?;
+    is_either(alloc, act, left.octets())
+}
+
 fn is_either(alloc: Global, act: &Act, image: &[u8]) -> Result<bool, NoMemory> {
-    let told = told(alloc, image)?;
-    Ok(told.as_slice() == act.before || told.as_slice() == act.after)
+    let is_before = is_read_as(alloc, image, act.before)?;
+    Ok(is_before || is_read_as(alloc, image, act.after)?)
 }

@@ -1,6 +1,5 @@
 //! A small store on a disk in memory, and the calls that change it.
 ghost use Rattle.std.specs.Prelude.{◌≡◌, ◌≤◌, IfOk, length};
-ghost use Rattle.vf_disk.specs.Memory.{state};
 ghost use Rattle.vf_journal.specs.JournalState.{IsWithin};
 
 use std::alloc::Global;
@@ -24,58 +23,53 @@ pub enum Call {
     Switch,
 }
 
-/// Makes a call, and stops it at a write or a sync, unless the number is 0.
+/// Makes a call, and stops it at a write or a sync, unless the number is 0. Opening the journal before makes one sync.
 pub fn make(
     alloc: Global,
     disk: &mut MemoryDisk,
     call: Call,
     stop: u32,
 ) -> Result<(), JournalError> {
-    match call {
-        Call::Create => create(disk, stop),
-        Call::Open => open_stopped(alloc, disk, stop),
-        Call::Append => append_stopped(alloc, disk, stop),
-        Call::Switch => switch_stopped(alloc, disk, stop),
-    }
-}
-
-fn stop_at(disk: &mut MemoryDisk, stop: u32)
-    ensures { (state disk.new).shown ≡ (state disk.old).shown }
-{
+    let before = match call {
+        Call::Create | Call::Open => 0,
+        Call::Append | Call::Switch => 1,
+    };
     if stop > 0 {
-        disk.stop(stop);
+        disk.stop(stop.saturating_add(before));
+    }
+    match call {
+        Call::Create => create(disk),
+        Call::Open => open_alone(alloc, disk),
+        Call::Append => open_and_append(alloc, disk),
+        Call::Switch => open_and_switch(alloc, disk),
     }
 }
 
-fn create(disk: &mut MemoryDisk, stop: u32) -> Result<(), JournalError> {
-    stop_at(disk, stop);
-    if disk.octets().is_empty() {
+fn create<D: Disk>(disk: &mut D) -> Result<(), JournalError> {
+    if disk.len()? == 0 {
         Journal::create(disk)?;
     }
     Ok(())
 }
 
-fn open_stopped(alloc: Global, disk: &mut MemoryDisk, stop: u32) -> Result<(), JournalError> {
-    stop_at(disk, stop);
+fn open_alone<D: Disk>(alloc: Global, disk: &mut D) -> Result<(), JournalError> {
     open(alloc, disk, LIMIT)?;
     Ok(())
 }
 
-fn append_stopped(alloc: Global, disk: &mut MemoryDisk, stop: u32) -> Result<(), JournalError> {
+fn open_and_append<D: Disk>(alloc: Global, disk: &mut D) -> Result<(), JournalError> {
     let mut journal = open(alloc, disk, LIMIT)?;
-    stop_at(disk, stop);
     append(alloc, &mut journal, disk, b"B")
 }
 
-fn switch_stopped(alloc: Global, disk: &mut MemoryDisk, stop: u32) -> Result<(), JournalError> {
+fn open_and_switch<D: Disk>(alloc: Global, disk: &mut D) -> Result<(), JournalError> {
     let mut journal = open(alloc, disk, LIMIT)?;
-    stop_at(disk, stop);
     switch(alloc, &mut journal, disk, b"S")
 }
 
 /// Opens a journal.
-pub fn open(alloc: Global, disk: &mut MemoryDisk, limit: u64) -> Result<Journal, JournalError>
-    ensures { IfOk result (λ journal. IsWithin journal (length (state disk.new).shown)) }
+pub fn open<D: Disk>(alloc: Global, disk: &mut D, limit: u64) -> Result<Journal, JournalError>
+    ensures { IfOk result (λ journal. IsWithin journal (D.size disk.new)) }
 {
     let mut records = Vec::new(alloc);
     Journal::open(alloc, disk, limit, &mut records)
@@ -125,30 +119,35 @@ fn switch<D: Disk>(
 {
     let area = built_area(alloc, item)?;
     let placing = journal.plan(10, item.len() as u64);
-    if placing.switch.is_none() {
+    let Some(_start) = placing.switch else {
         return Ok(());
-    }
+    };
     journal.prepare(disk, &area)?;
     journal.switch(disk)
 }
 
-/// What opening these octets gives: `-` where they are no journal, and else its records, each with a stop after it.
-pub fn told(alloc: Global, octets: &[u8]) -> Result<Vec<u8>, NoMemory> {
+/// Whether opening these octets gives these records, or tells that they are no journal.
+pub fn is_read_as(
+    alloc: Global,
+    octets: &[u8],
+    wanted: Option<&[&[u8]]>,
+) -> Result<bool, NoMemory> {
     let mut disk = MemoryDisk::of(alloc, octets, Vec::new(alloc))?;
     let mut records = Vec::new(alloc);
-    match Journal::open(alloc, &mut disk, LIMIT, &mut records) {
-        Ok(_) => joined(alloc, &records),
-        Err(JournalError::NotAStore { .. }) => Ok(b"-".to_vec(alloc)?),
-        Err(_) => Err(NoMemory),
+    let error = Journal::open(alloc, &mut disk, LIMIT, &mut records).err();
+    if error == Some(JournalError::NoMemory) {
+        return Err(NoMemory);
     }
+    Ok(match wanted {
+        Some(wanted) => error.is_none() && are_alike(&records, wanted),
+        None => matches!(error, Some(JournalError::NotAStore { .. })),
+    })
 }
 
-/// Records, each with a stop after it.
-fn joined(alloc: Global, records: &[Octets]) -> Result<Vec<u8>, NoMemory> {
-    let mut text = Vec::new(alloc);
-    for record in records {
-        text.extend_from_slice(record.as_slice())?;
-        text.push(b'.')?;
-    }
-    Ok(text)
+fn are_alike(records: &[Octets], wanted: &[&[u8]]) -> bool {
+    let alike = records
+        .iter()
+        .zip(wanted)
+        .all(|(record, octets)| record.as_slice() == *octets);
+    records.len() == wanted.len() && alike
 }
