@@ -17,7 +17,8 @@ pub use crash_form::CrashForm;
 pub use disk::Disk;
 pub use file_disk::FileDisk;
 pub use laws::{
-    Outcome, calls_join, fewer_calls, goes_on, runs_join, runs_weaken, starts, steps_join, stop_leaves, synced_leaves,
+    Outcome, calls_join, fewer_calls, goes_on, runs_join, runs_weaken, starts, steps_join,
+    stop_leaves, synced_leaves,
 };
 pub use limits::GREATEST_LENGTH;
 pub use memory_disk::MemoryDisk;

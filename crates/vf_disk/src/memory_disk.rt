@@ -201,15 +201,11 @@ impl Disk for MemoryDisk {
 
     ghost measured = { λ disk octets same. Prim.cc };
 
-    ghost counts_now = {
-        λ disk since image le now.
-            let all = take_all (length disk.steps) disk.steps (Prim.omega arith) in
-            (length disk.steps, le, Prim.omega arith, subst (λ (steps : List Step). IsImage (state_of disk.first steps) image) (sym all) now)
-    };
+    ghost counts_now = { λ disk since image le now.
+        let all = take_all (length disk.steps) disk.steps (Prim.omega arith) in
+        (length disk.steps, le, Prim.omega arith, subst (λ (steps : List Step). IsImage (state_of disk.first steps) image) (sym all) now) };
 
-    ghost only_now = {
-        λ disk image left. subst (λ (steps : List Step). IsImage (state_of disk.first steps) image) (take_all left.0 disk.steps left.1) left.3
-    };
+    ghost only_now = { λ disk image left. subst (λ (steps : List Step). IsImage (state_of disk.first steps) image) (take_all left.0 disk.steps left.1) left.3 };
 
     ghost told = { λ disk now same. Prim.cc };
 

@@ -1,8 +1,8 @@
-use vf_disk::*;
 use std::alloc::Global;
 use std::fs;
 use std::test::Fail;
 use vf_base::*;
+use vf_disk::*;
 
 mod allowed;
 mod two_values;

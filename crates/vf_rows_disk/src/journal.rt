@@ -1,8 +1,8 @@
-use vf_journal::*;
 use std::alloc::Global;
 use std::test::Fail;
 use vf_base::*;
 use vf_disk::{CrashForm, MemoryDisk};
+use vf_journal::*;
 
 mod store;
 mod torn;

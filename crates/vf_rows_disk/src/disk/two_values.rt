@@ -3,8 +3,8 @@ ghost use Rattle.std.specs.Prelude.{◌≡◌, ◌⊎◌, [], ◌∷◌, Some, �
 ghost use Rattle.vf_disk.specs.Disk.{LeavesOnly, LeavesShown};
 ghost use Rattle.vf_rows_disk.specs.Value.{value_of};
 
-use vf_disk::Disk;
 use vf_base::Failed;
+use vf_disk::Disk;
 
 /// Writes a value beside the old one, syncs, lets the first octet choose it, and syncs. A crash at any moment
 /// leaves one of the two.
