@@ -5,7 +5,7 @@
 #![tactic(auto)]
 
 ghost use Rattle.vf_journal.specs.Records.{IsEntry};
-ghost use Rattle.vf_journal.specs.Standing.{IsWithin};
+ghost use Rattle.vf_journal.specs.JournalState.{IsWithin};
 
 use std::alloc::Global;
 use std::env;

@@ -3,7 +3,7 @@ use Rattle.std.proofs.Common.{◌≡◌, ℕ, ◌≤◌, Bool, List, [], ◌∷�
 use Rattle.vf_disk.specs.Disk.{Torn, Shortened, Follows, Within, LeavesShown}
 use Rattle.vf_disk.specs.declared.step.Step.{Step}
 use Rattle.vf_disk.specs.declared.step.Step.TheVariants.{Wrote, CutTo, Synced}
-use Rattle.vf_disk.specs.Memory.{State, IsImage, state_of}
+use Rattle.vf_disk.specs.State.{State, IsImage, state_of}
 use Rattle.vf_disk.proofs.Images.{is_sound, only_shown, synced_within, wrote_follows, cut_follows}
 use Rattle.vf_disk.proofs.Elapse.{one_more}
 

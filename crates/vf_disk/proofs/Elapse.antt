@@ -5,7 +5,7 @@ use Rattle.std.proofs.lemmas.Bool.{cases_lt}
 use Rattle.std.proofs.lemmas.List.Sums.{fold-append}
 use Rattle.vf_disk.specs.Disk.{Elapses}
 use Rattle.vf_disk.specs.declared.step.Step.{Step}
-use Rattle.vf_disk.specs.Memory.{IsImage, state_of, after, settled}
+use Rattle.vf_disk.specs.State.{IsImage, state_of, after, settled}
 
 abbrev pub Left : List ℕ → List Step → ℕ → List ℕ → Type 0
 Left first steps moment image = (count : ℕ) × (moment ≤ count) × (count ≤ length steps) × IsImage (state_of first (take count steps)) image

@@ -6,7 +6,8 @@ use Rattle.std.proofs.lemmas.List.{take-append-drop}
 use Rattle.std.proofs.lemmas.List.Sums.{fold-append}
 use Rattle.vf_disk.specs.declared.step.Step.{Step}
 use Rattle.vf_disk.specs.declared.step.Step.TheVariants.{Wrote, CutTo, Synced}
-use Rattle.vf_disk.specs.Memory.{State, settled, after, state_of, filled, is_change}
+use Rattle.vf_disk.specs.Memory.{is_change}
+use Rattle.vf_disk.specs.State.{State, settled, after, state_of, filled}
 use Rattle.vf_disk.specs.Replay.{make, mark}
 
 made_of : (s : State) (steps : List Step) → list_all is_change steps ≡ true → (fold after s steps).made ≡ fold make s.made steps

@@ -6,7 +6,7 @@ use Rattle.std.proofs.lemmas.Bool.Decides.{nat_tests}
 use Rattle.vf_disk.specs.Disk.{Torn, Shortened, Follows, Within, overwritten}
 use Rattle.vf_disk.specs.declared.step.Step.{Step}
 use Rattle.vf_disk.specs.declared.step.Step.TheVariants.{Wrote, CutTo, Synced}
-use Rattle.vf_disk.specs.Memory.{State, IsImage, settled, after, state_of, lengthened, is_within, is_torn, filled_in, filled, left_by}
+use Rattle.vf_disk.specs.State.{State, IsImage, settled, after, state_of, lengthened, is_within, is_torn, filled_in, filled, left_by}
 use Rattle.vf_disk.specs.declared.crash_form.CrashForm.{CrashForm}
 use Rattle.vf_disk.specs.declared.crash_form.CrashForm.TheVariants.{Keep, Lose, Fill}
 use Rattle.vf_disk.proofs.Patch.{patched, same_front, same_back, length-patched, patched_before, patched_in, patched_behind}
@@ -114,7 +114,7 @@ module _ (s : State) (at : ℕ) (octets : List ℕ) (good : Bool) where
         no_longer = omega arith;
         stays = λ place lt out. new.stays place lt (still place (at, length octets) s.ranges (outside place at (length octets) (inl (omega (arith, new.no_shorter)))) out);
       },
-      record { before = refl; behind = refl; no_shorter = omega arith; no_longer = omega arith },
+      record { before = refl; past = refl; no_shorter = omega arith; no_longer = omega arith },
     )
     | inr le ↦ torn sound low image new le
   ]
@@ -144,7 +144,7 @@ module _ (s : State) (at : ℕ) (octets : List ℕ) (good : Bool) where
             },
             record {
               before = same_front at image before le (omega (arith, size)) (λ place lt. sym (head place lt));
-              behind = elim (cases_lt s.greatest (length image)) [
+              past = elim (cases_lt s.greatest (length image)) [
                 | inl longer ↦ drop_all (at + length octets) image (omega (arith, new.no_longer)) ∙ sym (drop_all (at + length octets) before (omega (arith, size, new.no_longer)))
                 | inr within ↦
                     same_back (at + length octets) image whole (sym long) (λ place ge. sym (patched_behind at m s.synced image in_base le place (omega arith) (omega arith)))
@@ -200,7 +200,7 @@ module _ (s : State) (to : ℕ) (good : Bool) where
             ];
           },
           record {
-            front = same_front to image before in_image (omega (arith, size)) (λ place here. sym (patched_before to s.least s.synced image sound.base in_image place here));
+            kept = same_front to image before in_image (omega (arith, size)) (λ place here. sym (patched_before to s.least s.synced image sound.base in_image place here));
             no_shorter = omega arith;
             no_longer = omega (arith, size);
           },
@@ -212,7 +212,7 @@ module _ (s : State) (to : ℕ) (good : Bool) where
         no_longer = new.no_longer;
         stays = λ place lt out. new.stays place (omega arith) out;
       },
-      record { front = refl; no_shorter = omega arith; no_longer = omega arith },
+      record { kept = refl; no_shorter = omega arith; no_longer = omega arith },
     )
   ]
 

@@ -6,7 +6,8 @@ use Rattle.std.proofs.lemmas.Bool.{le-leb, leb-true}
 use Rattle.std.proofs.lemmas.Bool.Decides.{nat_tests}
 use Rattle.vf_disk.specs.declared.step.Step.{Step}
 use Rattle.vf_disk.specs.declared.step.Step.TheVariants.{Wrote, CutTo, Synced}
-use Rattle.vf_disk.specs.Memory.{IsImage, State, after, is_change, is_torn, is_within, settled}
+use Rattle.vf_disk.specs.Memory.{is_change}
+use Rattle.vf_disk.specs.State.{IsImage, State, after, is_torn, is_within, settled}
 use Rattle.vf_disk.specs.Replay.{covers, longer, reaches, shorter}
 use Rattle.vf_disk.proofs.Forms.{synced_of}
 

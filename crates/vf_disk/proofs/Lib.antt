@@ -5,3 +5,8 @@ pub mod Calls
 pub mod Forms
 mod Settled
 mod Judged
+pub mod Runs
+pub mod CallCounts
+pub mod Rows
+pub mod Noted
+pub mod Stops

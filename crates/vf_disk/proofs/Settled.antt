@@ -4,7 +4,8 @@ use Rattle.std.specs.Prelude.{fold}
 use Rattle.vf_disk.specs.Disk.{LeavesShown}
 use Rattle.vf_disk.specs.declared.step.Step.{Step}
 use Rattle.vf_disk.specs.declared.step.Step.TheVariants.{Wrote, CutTo, Synced}
-use Rattle.vf_disk.specs.Memory.{IsImage, State, after, is_change, is_settled, settled, state_of}
+use Rattle.vf_disk.specs.Memory.{is_change, is_settled}
+use Rattle.vf_disk.specs.State.{IsImage, State, after, settled, state_of}
 use Rattle.vf_disk.proofs.Images.{only_shown}
 
 settles : (s : State) (flag : Bool) (steps : List Step) → (flag ≡ true → s ≡ settled s.shown)

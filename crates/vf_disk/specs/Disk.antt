@@ -3,32 +3,33 @@
 -- no image either, so that clauses on content and on crashes are empty there.
 use Rattle.std.specs.Prelude.{◌≡◌, ◌⊎◌, ℕ, ◌+◌, ◌≤◌, min, max, List, ◌++◌, length, take, drop, Option, None, Some, Result, Ok, Err}
 use Rattle.vf_base.specs.declared.errors.Failed.{Failed}
+use Rattle.vf_disk.specs.declared.limits.TheConstants.{GREATEST_LENGTH}
 
 -- no disk is longer
 abbrev pub greatest_length : ℕ
-greatest_length = 9223372036854775807
+greatest_length = GREATEST_LENGTH
 
 -- these octets at a place, and the others as they were
 abbrev pub overwritten : List ℕ → ℕ → List ℕ → List ℕ
 overwritten old at octets = take at old ++ octets ++ drop (at + length octets) old
 
--- An image behind a write of so many octets at a place that a crash cut short: in that range and past the old
+-- An image after a write of so many octets at a place that a crash cut short: in that range and past the old
 -- end it may hold any octets, elsewhere it has the old ones, and its length is the old one, that which the write
 -- gives, or one between.
 pub record Torn (at count : ℕ) (old new : List ℕ) : Type 0 where
   pub before : take at new ≡ take at old
-  pub behind : drop (at + count) new ≡ drop (at + count) old
+  pub past : drop (at + count) new ≡ drop (at + count) old
   pub no_shorter : length old ≤ length new
   pub no_longer : length new ≤ max (length old) (at + count)
 
--- An image behind a cut to a length: a length down to that one, and what the cut took away may be there again and
+-- An image after a cut to a length: a length down to that one, and what the cut took away may be there again and
 -- hold anything.
 pub record Shortened (to : ℕ) (old new : List ℕ) : Type 0 where
-  pub front : take to new ≡ take to old
+  pub kept : take to new ≡ take to old
   pub no_shorter : min to (length old) ≤ length new
   pub no_longer : length new ≤ length old
 
--- each new image is an old one behind a step
+-- each new image is an old one after a step
 abbrev pub Follows : (List ℕ → List ℕ → Type 0) → (List ℕ → Type 0) → (List ℕ → Type 0) → Type 0
 Follows step old new = (image : List ℕ) → new image → (before : List ℕ) × old before × step before image
 
@@ -46,7 +47,7 @@ Gives None at into result = Unit {0}
 Gives (Some shown) at into (Ok done) = into ≡ take (length into) (drop at shown)
 Gives (Some shown) at into (Err failed) = Unit {0}
 
--- what a read gives behind a call that failed: it has the old length, and otherwise it may be half made
+-- what a read gives after a call that failed: it has the old length, and otherwise it may be half made
 abbrev pub HalfMade : (List ℕ → List ℕ → Type 0) → List ℕ → Option (List ℕ) → Type 0
 HalfMade step old new = (shown : List ℕ) × (new ≡ Some shown) × (length shown ≡ length old) × step old shown
 
@@ -60,7 +61,7 @@ Cuts None new to result = new ≡ None
 Cuts (Some old) new to (Ok done) = new ≡ Some (take to old)
 Cuts (Some old) new to (Err failed) = HalfMade (Shortened to) old new
 
--- the length behind a write: that of the disk or the end of what was written, and that of the disk where it failed
+-- the length after a write: that of the disk or the end of what was written, and that of the disk where it failed
 abbrev pub length_written : ℕ → ℕ → ℕ → Result (Unit {0}) Failed → ℕ
 length_written old at count (Ok done) = max old (at + count)
 length_written old at count (Err failed) = old

@@ -1,7 +1,8 @@
 pub mod Disk
-pub mod Memory
-pub mod Moments
+pub mod State
 pub mod Plans
+pub mod Calls
+pub mod Steps
+pub mod Memory
 pub mod Replay
 pub mod Laws
-pub mod Value

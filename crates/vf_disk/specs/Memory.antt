@@ -1,98 +1,23 @@
 -- A disk in memory (profile): what it held at first and the calls since, from which follows, for each moment, what
 -- a read gives and what a crash may leave.
-use Rattle.std.specs.Prelude.{◌≡◌, ◌⊎◌, ℕ, ◌+◌, ◌-◌, ◌<◌, ◌≤◌, min, max, Bool, true, false, not, ◌&&◌, nat_le, nat_lt, List, [], ◌∷◌, ◌++◌, length, take, drop, replicate, fold, slice_index, if◌then◌else◌}
-use Rattle.std.specs.List.{list_any}
-use Rattle.vf_disk.specs.Disk.{overwritten}
-use Rattle.vf_disk.specs.Plans.{StopPlan, change_fails, is_behind, planned}
-use Rattle.vf_disk.specs.declared.crash_form.CrashForm.{CrashForm}
-use Rattle.vf_disk.specs.declared.crash_form.CrashForm.TheVariants.{Keep, Lose, Fill}
+use Rattle.std.specs.Prelude.{◌≡◌, ◌⊎◌, ℕ, ◌<◌, ◌≤◌, Bool, true, false, not, List, [], ◌∷◌, ◌++◌, length, take, fold, if◌then◌else◌}
+use Rattle.vf_base.specs.Faults.{HasRisen}
+use Rattle.vf_disk.specs.Plans.{StopPlan, planned}
+use Rattle.vf_disk.specs.State.{State, IsImage, state_of}
+use Rattle.vf_disk.specs.Steps.{IsNoted}
 use Rattle.vf_disk.specs.declared.step.Step.{Step}
 use Rattle.vf_disk.specs.declared.step.Step.TheVariants.{Wrote, CutTo, Synced}
-
--- A disk between two syncs: what a read gives; what it gave at the last sync; that with each call since made, also
--- the failed ones; the least length since then that the disk had or was to have, and the greatest; and the ranges
--- written since, each with its length.
-pub record State : Type 0 where
-  pub shown : List ℕ
-  pub synced : List ℕ
-  pub made : List ℕ
-  pub least : ℕ
-  pub greatest : ℕ
-  pub ranges : List (ℕ × ℕ)
-
--- a disk that is just synced
-abbrev pub settled : List ℕ → State
-settled octets = record { shown = octets; synced = octets; made = octets; least = length octets; greatest = length octets; ranges = [] }
-
--- with zeros up to a length, where it is shorter
-abbrev pub lengthened : List ℕ → ℕ → List ℕ
-lengthened octets to = octets ++ replicate (to - length octets) 0
-
-abbrev pub after : State → Step → State
-after s (Wrote at octets good) = record {
-  shown = if good then overwritten s.shown at octets else s.shown;
-  synced = s.synced;
-  made = overwritten (lengthened s.made at) at octets;
-  least = s.least;
-  greatest = max s.greatest (at + length octets);
-  ranges = (at, length octets) ∷ s.ranges;
-}
-after s (CutTo to good) = record {
-  shown = if good then take to s.shown else s.shown;
-  synced = s.synced;
-  made = take to s.made;
-  least = min s.least to;
-  greatest = s.greatest;
-  ranges = s.ranges;
-}
-after s Synced = settled s.shown
-
--- behind these calls, oldest first
-abbrev pub state_of : List ℕ → List Step → State
-state_of first steps = fold after (settled first) steps
-
-abbrev pub is_within : ℕ → ℕ × ℕ → Bool
-is_within place range = nat_le range.0 place && nat_lt place (range.0 + range.1)
-
--- the place is in one of the ranges
-abbrev pub is_torn : ℕ → List (ℕ × ℕ) → Bool
-is_torn place ranges = list_any (is_within place) ranges
-
--- What a crash may leave. The length is that of the last sync, one that a write or a cut gave since, or one
--- between. An octet is that of the last sync where the disk was never shorter since then and no write had it in
--- its range; every other one may be anything.
-pub record IsImage (s : State) (image : List ℕ) : Type 0 where
-  pub no_shorter : s.least ≤ length image
-  pub no_longer : length image ≤ s.greatest
-  pub stays : (place : ℕ) → place < s.least → is_torn place s.ranges ≡ false → slice_index image place ≡ slice_index s.synced place
-
--- octets of one kind in a range, as far as the image goes
-abbrev pub filled_in : ℕ → List ℕ → ℕ × ℕ → List ℕ
-filled_in octet image range =
-    take range.0 image ++ replicate (min range.1 (length image - range.0)) octet ++ drop (range.0 + range.1) image
-
--- the same in each range, the oldest first
-abbrev pub filled : ℕ → List (ℕ × ℕ) → List ℕ → List ℕ
-filled octet [] image = image
-filled octet (range ∷ ranges) image = filled_in octet (filled octet ranges image) range
-
--- What a crash leaves in each form: all calls made; what the last sync left; all calls made and then one octet in
--- each range written since the last sync.
-abbrev pub left_by : CrashForm → State → List ℕ
-left_by Keep s = s.made
-left_by Lose s = s.synced
-left_by (Fill octet) s = filled octet s.ranges s.made
 
 pub record Memory : Type 0 where
   pub first : List ℕ
   pub steps : List Step
   pub plan : StopPlan
   pub faults : ℕ
-  pub lacked : Bool  -- a call found no memory
+  pub lacks : ℕ  -- the number of calls that found no memory
 
 -- a disk that holds these octets as synced, before its first call
 abbrev pub fresh : List ℕ → List ℕ → Memory
-fresh octets failing = record { first = octets; steps = []; plan = planned failing; faults = 0; lacked = false }
+fresh octets failing = record { first = octets; steps = []; plan = planned failing; faults = 0; lacks = 0 }
 
 abbrev pub state : Memory → State
 state disk = state_of disk.first disk.steps
@@ -102,13 +27,16 @@ abbrev pub LeftSince : Memory → ℕ → List ℕ → Type 0
 LeftSince disk moment image =
     (count : ℕ) × (moment ≤ count) × (count ≤ length disk.steps) × IsImage (state_of disk.first (take count disk.steps)) image
 
--- A write or a cut is kept with how it went. It fails only where that is planned or it found no memory, and isn't
--- kept only where it found none or stands behind a stop.
-pub record Keeps (old new : Memory) (step : Step) (good : Bool) : Type 0 where
-  pub first : new.first ≡ old.first
-  pub steps : (new.steps ≡ old.steps ++ step ∷ []) ⊎ ((new.steps ≡ old.steps) × (good ≡ false) × ((is_behind old.plan.until_stop ≡ true) ⊎ (new.lacked ≡ true)))
-  pub cause : good ≡ false → (change_fails old.plan ≡ true) ⊎ (new.lacked ≡ true)
-  pub memory : good ≡ true → new.lacked ≡ old.lacked
+-- a write or a cut found no memory: it fails, and isn't kept
+pub record KeepsNothing (old new : Memory) (failed : Bool) : Type 0 where
+  pub fails : failed ≡ true
+  pub steps : new.steps ≡ old.steps
+  pub memory : HasRisen old.lacks new.lacks
+
+-- A write or a cut is kept as its plan has it, or finds no memory in this call.
+abbrev pub Keeps : Memory → Memory → Step → Bool → Type 0
+Keeps old new step failed =
+    (new.first ≡ old.first) × ((IsNoted old.plan step old.steps new.steps failed × (new.lacks ≡ old.lacks)) ⊎ KeepsNothing old new failed)
 
 abbrev pub is_change : Step → Bool
 is_change (Wrote at octets good) = true
@@ -119,7 +47,7 @@ is_change Synced = false
 abbrev pub is_settled : List Step → Bool
 is_settled steps = fold (λ settled step. not (is_change step)) true steps
 
--- behind a sync that succeeds, which is kept where something has changed since the last one
+-- after a sync that succeeds, which is kept where something has changed since the last one
 abbrev pub with_sync : List Step → List Step
 with_sync steps = if is_settled steps then steps else steps ++ Synced ∷ []
 
@@ -127,7 +55,7 @@ with_sync steps = if is_settled steps then steps else steps ++ Synced ∷ []
 pub record Leaves (old new : Memory) (kept : List Step) : Type 0 where
   pub first : new.first ≡ old.first
   pub steps : new.steps ≡ kept
-  pub memory : new.lacked ≡ old.lacked
+  pub memory : new.lacks ≡ old.lacks
 
 -- what a read gives is that of these calls
 abbrev pub IsShown : List ℕ → List ℕ → List Step → Type 0

@@ -1,7 +1,7 @@
 -- Which calls of a disk in memory are to fail (profile): those of certain numbers, counted from 1 over `len`, `read`,
--- `write_at`, `cut` and `sync` together; a stopped write, cut or sync; and every call behind that one. A disk over
+-- `write_at`, `cut` and `sync` together; a stopped write, cut or sync; and every call after that one. A disk over
 -- the real world tells no plan.
-use Rattle.std.specs.Prelude.{◌≡◌, ℕ, ◌-◌, min, Bool, true, false, ◌||◌, nat_eq, nat_le, List, Option, None, Some}
+use Rattle.std.specs.Prelude.{◌≡◌, ℕ, ◌-◌, min, Bool, true, false, ◌||◌, nat_eq, nat_le, List, [], Option, None, Some}
 use Rattle.vf_base.specs.Plans.{FailurePlan, after_call, is_planned}
 
 -- the calls that are to fail by their numbers, and the number of writes, cuts and syncs up to and with the stopped
@@ -14,12 +14,16 @@ pub record StopPlan : Type 0 where
 abbrev pub planned : List ℕ → StopPlan
 planned failing = record { numbers = record { failing = failing; calls = 0 }; until_stop = None }
 
--- the stopped call was made
-abbrev pub is_behind : Option ℕ → Bool
-is_behind None = false
-is_behind (Some left) = nat_eq left 0
+-- after so many calls, with a stop at such a write, cut or sync from now on, and no other failure
+abbrev pub stopping : ℕ → ℕ → StopPlan
+stopping calls stop = record { numbers = record { failing = []; calls = calls }; until_stop = Some stop }
 
--- the write, cut or sync at hand is the stopped one, or stands behind it
+-- the stopped call was made
+abbrev pub is_after_stop : Option ℕ → Bool
+is_after_stop None = false
+is_after_stop (Some left) = nat_eq left 0
+
+-- the write, cut or sync at hand is the stopped one, or comes after it
 abbrev pub is_stopped : Option ℕ → Bool
 is_stopped None = false
 is_stopped (Some left) = nat_le left 1
@@ -35,7 +39,7 @@ counted_down (Some left) = Some (left - 1)
 
 -- a `len` or a `read` at hand is to fail
 abbrev pub look_fails : StopPlan → Bool
-look_fails plan = is_behind plan.until_stop || is_planned plan.numbers
+look_fails plan = is_after_stop plan.until_stop || is_planned plan.numbers
 
 abbrev pub after_look : StopPlan → StopPlan
 after_look plan = record plan { numbers = after_call plan.numbers }

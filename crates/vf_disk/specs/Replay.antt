@@ -3,7 +3,7 @@ use Rattle.std.specs.Prelude.{ℕ, ◌+◌, min, max, Bool, false, nat_le, List,
 use Rattle.vf_disk.specs.Disk.{overwritten}
 use Rattle.vf_disk.specs.declared.step.Step.{Step}
 use Rattle.vf_disk.specs.declared.step.Step.TheVariants.{Wrote, CutTo, Synced}
-use Rattle.vf_disk.specs.Memory.{lengthened, filled_in, is_within}
+use Rattle.vf_disk.specs.State.{lengthened, filled_in, is_within}
 
 -- a call made on an image, whether it failed or not
 abbrev pub make : List ℕ → Step → List ℕ
@@ -17,7 +17,7 @@ mark octet image (Wrote at octets good) = filled_in octet image (at, length octe
 mark octet image (CutTo to good) = image
 mark octet image Synced = image
 
--- the least length that a disk had or was to have, and the greatest, behind one call more
+-- the least length that a disk had or was to have, and the greatest, after one call more
 abbrev pub shorter : ℕ → Step → ℕ
 shorter least (Wrote at octets good) = least
 shorter least (CutTo to good) = min least to

@@ -1,12 +1,13 @@
 //! Whether a crash may leave an image, going by the calls since the last sync.
 ghost use Rattle.std.specs.Prelude.{◌≡◌, ◌↔◌, ◌≤◌, ◌<◌, ◌||◌, ℕ, IsTrue, true, false, nat_le, length, fold, slice_index};
 ghost use Rattle.std.specs.List.{list_all, list_any};
-ghost use Rattle.vf_disk.specs.Memory.{IsImage, after, is_change, settled};
+ghost use Rattle.vf_disk.specs.Memory.{is_change};
+ghost use Rattle.vf_disk.specs.State.{IsImage, after, settled};
 ghost use Rattle.vf_disk.specs.Replay.{covers as covers_test, longer, reaches as reaches_test, shorter};
 
 use crate::Step;
 
-/// Whether a crash may leave the image behind these writes and cuts, which follow a sync of those octets.
+/// Whether a crash may leave the image after these writes and cuts, which follow a sync of those octets.
 pub(crate) fn is_admitted(synced: &[u8], changes: &[Step], image: &[u8]) -> bool
     requires { list_all is_change changes.now ≡ true }
     ensures { IsTrue result ↔ IsImage (fold after (settled synced.now) changes.now) image.now }
@@ -25,12 +26,12 @@ fn least_length(first: usize, changes: &[Step]) -> usize
 {
     let mut least = first;
     for step in changes {
-        least = least_behind(least, step);
+        least = least_after(least, step);
     }
     least
 }
 
-fn least_behind(least: usize, step: &Step) -> usize
+fn least_after(least: usize, step: &Step) -> usize
     ensures value { result ≡ shorter least step.now }
     ensures within { result ≤ least }
 {

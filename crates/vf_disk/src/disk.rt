@@ -1,7 +1,10 @@
-ghost use Rattle.std.specs.Prelude.{◌≡◌, ◌+◌, ◌<◌, ◌≤◌, ℕ, List, Option, Some, length, is_err, IfOk, OnOk, OnErr, IsErr};
+ghost use Rattle.std.specs.Prelude.{◌≡◌, ◌+◌, ◌<◌, ◌≤◌, ◌∷◌, [], ℕ, List, Option, Some, true, length, is_err, IfOk, OnOk, OnErr, IsErr};
 ghost use Rattle.vf_base.specs.Faults.{HasRisen, NeverFalls};
 ghost use Rattle.vf_disk.specs.Disk.{greatest_length, Torn, Shortened, Follows, Within, LeavesShown, Gives, Writes, Cuts, length_written, length_cut, Elapses};
 ghost use Rattle.vf_disk.specs.Plans.{StopPlan, LooksAsPlanned, SyncsAsPlanned, ChangesWherePlanned};
+ghost use Rattle.vf_disk.specs.State.{State};
+ghost use Rattle.vf_disk.specs.Steps.{LeavesState, MakesSteps};
+ghost use Rattle.vf_disk.specs.declared.step.Step.TheVariants.{Wrote, CutTo, Synced};
 
 use vf_base::Failed;
 
@@ -28,6 +31,13 @@ pub trait Disk {
     /// The calls that are to fail, where the disk tells them.
     ghost plan: { Self → Option StopPlan };
 
+    /// What the calls since the last sync have made, where the disk tells it: what each form of a crash leaves can be
+    /// computed from it.
+    ghost state: { Self → Option State };
+
+    /// The number of calls that found no memory.
+    ghost lack_count: { Self → ℕ };
+
     /// The number of octets.
     fn len(&mut self) -> Result<u64, Failed>
         ensures length { IfOk result (λ length. length ≡ size self.old) }
@@ -37,6 +47,7 @@ pub trait Disk {
         ensures crash { Within (may_leave self.old) (may_leave self.new) }
         ensures time { Elapses (moment self.old) (moment self.new) (left_since self.old) (left_since self.new) (may_leave self.new) }
         ensures plan { LooksAsPlanned (plan self.old) (plan self.new) (is_err result) }
+        ensures state { (state self.new ≡ state self.old) × (lack_count self.new ≡ lack_count self.old) }
         ensures ok { OnOk result (fault_count self.new ≡ fault_count self.old) }
         ensures falls { NeverFalls (fault_count self.old) (fault_count self.new) }
         ensures failed { OnErr result (HasRisen (fault_count self.old) (fault_count self.new)) };
@@ -50,6 +61,7 @@ pub trait Disk {
         ensures crash { Within (may_leave self.old) (may_leave self.new) }
         ensures time { Elapses (moment self.old) (moment self.new) (left_since self.old) (left_since self.new) (may_leave self.new) }
         ensures plan { LooksAsPlanned (plan self.old) (plan self.new) (is_err result) }
+        ensures state { (state self.new ≡ state self.old) × (lack_count self.new ≡ lack_count self.old) }
         ensures ok { OnOk result (fault_count self.new ≡ fault_count self.old) }
         ensures falls { NeverFalls (fault_count self.old) (fault_count self.new) }
         ensures failed { OnErr result (HasRisen (fault_count self.old) (fault_count self.new)) };
@@ -64,6 +76,7 @@ pub trait Disk {
         ensures long { greatest_length < at + length octets.now → IsErr result × (shown self.new ≡ shown self.old) × Within (may_leave self.old) (may_leave self.new) }
         ensures time { Elapses (moment self.old) (moment self.new) (left_since self.old) (left_since self.new) (may_leave self.new) }
         ensures plan { ChangesWherePlanned (plan self.old) (plan self.new) (is_err result) }
+        ensures state { MakesSteps (Wrote at octets.now true ∷ []) (plan self.old) (plan self.new) (state self.old) (state self.new) (is_err result) (lack_count self.old) (lack_count self.new) }
         ensures ok { OnOk result (fault_count self.new ≡ fault_count self.old) }
         ensures falls { NeverFalls (fault_count self.old) (fault_count self.new) }
         ensures failed { OnErr result (HasRisen (fault_count self.old) (fault_count self.new)) };
@@ -77,6 +90,7 @@ pub trait Disk {
         ensures crash { Follows (Shortened to) (may_leave self.old) (may_leave self.new) }
         ensures time { Elapses (moment self.old) (moment self.new) (left_since self.old) (left_since self.new) (may_leave self.new) }
         ensures plan { ChangesWherePlanned (plan self.old) (plan self.new) (is_err result) }
+        ensures state { MakesSteps (CutTo to true ∷ []) (plan self.old) (plan self.new) (state self.old) (state self.new) (is_err result) (lack_count self.old) (lack_count self.new) }
         ensures ok { OnOk result (fault_count self.new ≡ fault_count self.old) }
         ensures falls { NeverFalls (fault_count self.old) (fault_count self.new) }
         ensures failed { OnErr result (HasRisen (fault_count self.old) (fault_count self.new)) };
@@ -89,6 +103,8 @@ pub trait Disk {
         ensures crash { Within (may_leave self.old) (may_leave self.new) }
         ensures time { Elapses (moment self.old) (moment self.new) (left_since self.old) (left_since self.new) (may_leave self.new) }
         ensures plan { SyncsAsPlanned (plan self.old) (plan self.new) (is_err result) }
+        ensures state { LeavesState (Synced ∷ []) (plan self.old) (state self.old) (state self.new) }
+        ensures memory { lack_count self.new ≡ lack_count self.old }
         ensures ok { OnOk result (fault_count self.new ≡ fault_count self.old) }
         ensures falls { NeverFalls (fault_count self.old) (fault_count self.new) }
         ensures failed { OnErr result (HasRisen (fault_count self.old) (fault_count self.new)) };
@@ -105,4 +121,7 @@ pub trait Disk {
 
     /// Since this moment there is no other.
     ghost only_now: { (disk : Self) (image : List ℕ) → left_since disk (moment disk) image → may_leave disk image };
+
+    /// A disk that tells its state tells what a read gives by it.
+    ghost told: { (disk : Self) (now : State) → state disk ≡ Some now → shown disk ≡ Some now.shown };
 }

@@ -2,14 +2,11 @@
 ghost use Rattle.std.specs.Prelude.{None, ◌≡◌, ◌≤◌, IfOk};
 ghost use Rattle.vf_base.specs.Faults.{HasRisen};
 ghost use Rattle.vf_disk.specs.Disk.{greatest_length};
-ghost use Rattle.vf_disk.specs.Moments.{measured_none};
 
-use crate::Disk;
+use crate::{Disk, GREATEST_LENGTH};
 use std::os::unix::fs::FileExt;
 use std::{fs, io};
 use vf_base::Failed;
-
-const GREATEST_LENGTH: u64 = 9_223_372_036_854_775_807;
 
 /// A disk over a file that nobody else writes. Where the file couldn't be opened each call fails. After a sync that failed each later one fails too, since the system
 /// may have dropped what it could not write.
@@ -140,11 +137,17 @@ impl Disk for FileDisk {
 
     ghost plan = { λ disk. None };
 
-    ghost measured = { λ disk octets none. measured_none octets disk.length none };
+    ghost state = { λ disk. None };
+
+    ghost lack_count = { λ disk. 0 };
+
+    ghost measured = { λ disk octets none. Prim.cc };
 
     ghost counts_now = { λ disk since image le none. none };
 
     ghost only_now = { λ disk image none. none };
+
+    ghost told = { λ disk now none. Prim.cc };
 
     fn len(&mut self) -> Result<u64, Failed> {
         if self.file.is_none() {

@@ -6,6 +6,7 @@ mod crash_form;
 mod disk;
 mod file_disk;
 mod laws;
+mod limits;
 mod memory_disk;
 mod overwrite;
 mod plan;
@@ -15,9 +16,10 @@ mod step;
 pub use crash_form::CrashForm;
 pub use disk::Disk;
 pub use file_disk::FileDisk;
-pub use laws::{Outcome, goes_on, starts, synced_leaves};
+pub use laws::{
+    Outcome, calls_join, fewer_calls, goes_on, runs_join, runs_weaken, starts, steps_join,
+    stop_leaves, synced_leaves,
+};
+pub use limits::GREATEST_LENGTH;
 pub use memory_disk::MemoryDisk;
 pub use step::Step;
-
-#[cfg(test)]
-mod tests;

@@ -1,9 +1,13 @@
-ghost use Rattle.std.specs.Prelude.{◌≡◌, ◌↔◌, ◌+◌, ◌<◌, ◌≤◌, [], ◌∷◌, ◌++◌, List, ℕ, Some, IfOk, IsErr, IsTrue, OnOk, OnErr, length, is_err, is_ok, if◌then◌else◌, true, vec_capacity, vec_len};
+ghost use Rattle.std.specs.Prelude.{◌≡◌, ◌↔◌, ◌+◌, ◌<◌, ◌≤◌, [], ◌∷◌, ◌++◌, List, ℕ, Some, IfOk, IsErr, IsTrue, OnOk, OnErr, length, is_err, is_ok, if◌then◌else◌, nat_lt, true, vec_capacity, vec_len};
+ghost use Rattle.std.proofs.Common.{arith, subst, sym};
+ghost use Rattle.std.proofs.lemmas.List.{take_all};
 ghost use Rattle.vf_base.specs.Faults.{HasRisen, NeverFalls, counted};
 ghost use Rattle.vf_disk.specs.Disk.{greatest_length, Torn, Shortened, Follows, Within, LeavesShown, Gives, Writes, Cuts, length_written, length_cut, Elapses};
-ghost use Rattle.vf_disk.specs.Memory.{IsImage, Keeps, Leaves, LeftSince, Memory, fresh, left_by, state, state_of, with_sync};
+ghost use Rattle.vf_disk.specs.Memory.{Keeps, Leaves, LeftSince, Memory, fresh, state, with_sync};
+ghost use Rattle.vf_disk.specs.State.{IsImage, left_by, state_of};
+ghost use Rattle.vf_disk.specs.Steps.{LeavesState, MakesSteps};
 ghost use Rattle.vf_disk.specs.declared.step.Step.TheVariants.{Wrote, CutTo, Synced};
-ghost use Rattle.vf_disk.specs.Moments.{measured_memory, counts_memory, only_memory};
+ghost use Rattle.vf_disk.specs.declared.step.Step.{Step};
 ghost use Rattle.vf_disk.specs.Plans.{ChangesWherePlanned, LooksAsPlanned, SyncsAsPlanned, sooner};
 
 use crate::admitted::is_admitted;
@@ -11,7 +15,7 @@ use crate::overwrite::overwrite;
 use crate::plan::Plan;
 use crate::replay::{is_settled, last_sync, make_all, mark_all, shown_by};
 use crate::step::copy_steps;
-use crate::{CrashForm, Disk, Step};
+use crate::{CrashForm, Disk, GREATEST_LENGTH, Step};
 use std::alloc::Global;
 use std::marker::Model;
 use vf_base::{Failed, NoMemory, Octets};
@@ -25,7 +29,7 @@ pub struct MemoryDisk {
     octets: Vec<u8>,
     plan: Plan,
     faults: u64,
-    lacked: bool,
+    lacks: u64,
 }
 
 impl Model for MemoryDisk {
@@ -34,7 +38,7 @@ impl Model for MemoryDisk {
 
     ghost Value = { Memory };
 
-    ghost view = { λ disk. record { first = disk.first; steps = disk.steps.items; plan = disk.plan; faults = disk.faults; lacked = disk.lacked } };
+    ghost view = { λ disk. record { first = disk.first; steps = disk.steps.items; plan = disk.plan; faults = disk.faults; lacks = disk.lacks } };
 
     ghost invariant = { λ disk. record { shown : IsShown disk.octets.items disk.first disk.steps.items; room : HasRoom disk.steps.items (vec_capacity disk.steps) } };
 }
@@ -55,15 +59,15 @@ impl MemoryDisk {
             octets,
             plan: Plan::new(failing),
             faults: 0,
-            lacked: false,
+            lacks: 0,
         })
     }
 
     /// A call failed because it found no memory. It failed as any other does.
     pub fn lacked(&self) -> bool
-        ensures { result ≡ self.now.lacked }
+        ensures { result ≡ nat_lt 0 self.now.lacks }
     {
-        self.lacked
+        self.lacks > 0
     }
 
     /// What a read gives.
@@ -98,17 +102,17 @@ impl MemoryDisk {
         ensures { IfOk result (λ image. image.items ≡ left_by form (state self.now)) }
     {
         let steps = self.steps.as_slice();
-        let (front, back) = steps.split_at(last_sync(steps));
-        let mut image = shown_by(self.alloc, self.first.as_slice(), front)?;
+        let (before, since) = steps.split_at(last_sync(steps));
+        let mut image = shown_by(self.alloc, self.first.as_slice(), before)?;
         match form {
             CrashForm::Keep => {
-                make_all(&mut image, back)?;
+                make_all(&mut image, since)?;
                 Ok(image)
             }
             CrashForm::Lose => Ok(image),
             CrashForm::Fill(octet) => {
-                make_all(&mut image, back)?;
-                mark_all(&mut image, octet, back);
+                make_all(&mut image, since)?;
+                mark_all(&mut image, octet, since);
                 Ok(image)
             }
         }
@@ -120,9 +124,9 @@ impl MemoryDisk {
         ensures { IfOk result (λ admitted. IsTrue admitted ↔ IsImage (state self.now) image.now) }
     {
         let steps = self.steps.as_slice();
-        let (front, back) = steps.split_at(last_sync(steps));
-        let synced = shown_by(self.alloc, self.first.as_slice(), front)?;
-        Ok(is_admitted(&synced, back, image))
+        let (before, since) = steps.split_at(last_sync(steps));
+        let synced = shown_by(self.alloc, self.first.as_slice(), before)?;
+        Ok(is_admitted(&synced, since, image))
     }
 
     /// A disk that holds the same and has made the same calls; what fails of its calls to come is the same too.
@@ -140,7 +144,7 @@ impl MemoryDisk {
             octets,
             plan,
             faults: self.faults,
-            lacked: self.lacked,
+            lacks: self.lacks,
         })
     }
 
@@ -155,15 +159,16 @@ impl MemoryDisk {
 
     /// Counts a fault for want of memory.
     fn lack(&mut self) -> Failed
-        ensures fault { self.new ≡ record self.old { faults = counted self.old.faults; lacked = true } }
+        ensures fault { self.new ≡ record self.old { faults = counted self.old.faults; lacks = counted self.old.lacks } }
         ensures risen { HasRisen self.old.faults self.new.faults }
+        ensures memory { HasRisen self.old.lacks self.new.lacks }
     {
-        self.lacked = true;
+        self.lacks = self.lacks.saturating_add(1);
         self.fail()
     }
 }
 
-/// Puts a call behind the others, with room for a sync behind it; without memory they stay as they are.
+/// Puts a call after the others, with room for a sync after it; without memory they stay as they are.
 fn keep(steps: &mut Vec<Step>, step: Step) -> Result<(), NoMemory>
     ensures ok { OnOk result (steps.new.items ≡ steps.old.items ++ step ∷ []) }
     ensures room { OnOk result (vec_len steps.new < vec_capacity steps.new) }
@@ -190,11 +195,19 @@ impl Disk for MemoryDisk {
 
     ghost plan = { λ disk. Some disk.plan };
 
-    ghost measured = { measured_memory };
+    ghost state = { λ disk. Some (state disk) };
 
-    ghost counts_now = { counts_memory };
+    ghost lack_count = { λ disk. disk.lacks };
 
-    ghost only_now = { only_memory };
+    ghost measured = { λ disk octets same. Prim.cc };
+
+    ghost counts_now = { λ disk since image le now.
+        let all = take_all (length disk.steps) disk.steps (Prim.omega arith) in
+        (length disk.steps, le, Prim.omega arith, subst (λ (steps : List Step). IsImage (state_of disk.first steps) image) (sym all) now) };
+
+    ghost only_now = { λ disk image left. subst (λ (steps : List Step). IsImage (state_of disk.first steps) image) (take_all left.0 disk.steps left.1) left.3 };
+
+    ghost told = { λ disk now same. Prim.cc };
 
     fn len(&mut self) -> Result<u64, Failed>
         ensures length { IfOk result (λ count. count ≡ length (state self.old).shown) }
@@ -204,6 +217,7 @@ impl Disk for MemoryDisk {
         ensures crash { Within (IsImage (state self.old)) (IsImage (state self.new)) }
         ensures time { Elapses (length self.old.steps) (length self.new.steps) (LeftSince self.old) (LeftSince self.new) (IsImage (state self.new)) }
         ensures plan { LooksAsPlanned (Some self.old.plan) (Some self.new.plan) (is_err result) }
+        ensures state { (Some (state self.new) ≡ Some (state self.old)) × (self.new.lacks ≡ self.old.lacks) }
         ensures ok { OnOk result (self.new.faults ≡ self.old.faults) }
         ensures falls { NeverFalls self.old.faults self.new.faults }
         ensures failed { OnErr result (HasRisen self.old.faults self.new.faults) }
@@ -223,6 +237,7 @@ impl Disk for MemoryDisk {
         ensures crash { Within (IsImage (state self.old)) (IsImage (state self.new)) }
         ensures time { Elapses (length self.old.steps) (length self.new.steps) (LeftSince self.old) (LeftSince self.new) (IsImage (state self.new)) }
         ensures plan { LooksAsPlanned (Some self.old.plan) (Some self.new.plan) (is_err result) }
+        ensures state { (Some (state self.new) ≡ Some (state self.old)) × (self.new.lacks ≡ self.old.lacks) }
         ensures ok { OnOk result (self.new.faults ≡ self.old.faults) }
         ensures falls { NeverFalls self.old.faults self.new.faults }
         ensures failed { OnErr result (HasRisen self.old.faults self.new.faults) }
@@ -245,14 +260,15 @@ impl Disk for MemoryDisk {
         ensures long { greatest_length < at + length octets.now → IsErr result × (Some (state self.new).shown ≡ Some (state self.old).shown) × Within (IsImage (state self.old)) (IsImage (state self.new)) }
         ensures time { Elapses (length self.old.steps) (length self.new.steps) (LeftSince self.old) (LeftSince self.new) (IsImage (state self.new)) }
         ensures plan { ChangesWherePlanned (Some self.old.plan) (Some self.new.plan) (is_err result) }
+        ensures state { MakesSteps (Wrote at octets.now true ∷ []) (Some self.old.plan) (Some self.new.plan) (Some (state self.old)) (Some (state self.new)) (is_err result) self.old.lacks self.new.lacks }
         ensures ok { OnOk result (self.new.faults ≡ self.old.faults) }
         ensures falls { NeverFalls self.old.faults self.new.faults }
         ensures failed { OnErr result (HasRisen self.old.faults self.new.faults) }
-        ensures kept { at + length octets.now ≤ greatest_length → Keeps self.old self.new (Wrote at octets.now (is_ok result)) (is_ok result) }
+        ensures kept { Keeps self.old self.new (Wrote at octets.now true) (is_err result) }
     {
-        let stopped = self.plan.is_behind();
+        let stopped = self.plan.is_after_stop();
         let good = !self.plan.changes();
-        if stopped || octets.len() as u64 > 9_223_372_036_854_775_807 - at {
+        if stopped || octets.len() as u64 > GREATEST_LENGTH - at {
             return Err(self.fail());
         }
         let Ok(kept) = Octets::of(self.alloc, octets) else {
@@ -284,12 +300,13 @@ impl Disk for MemoryDisk {
         ensures crash { Follows (Shortened to) (IsImage (state self.old)) (IsImage (state self.new)) }
         ensures time { Elapses (length self.old.steps) (length self.new.steps) (LeftSince self.old) (LeftSince self.new) (IsImage (state self.new)) }
         ensures plan { ChangesWherePlanned (Some self.old.plan) (Some self.new.plan) (is_err result) }
+        ensures state { MakesSteps (CutTo to true ∷ []) (Some self.old.plan) (Some self.new.plan) (Some (state self.old)) (Some (state self.new)) (is_err result) self.old.lacks self.new.lacks }
         ensures ok { OnOk result (self.new.faults ≡ self.old.faults) }
         ensures falls { NeverFalls self.old.faults self.new.faults }
         ensures failed { OnErr result (HasRisen self.old.faults self.new.faults) }
-        ensures kept { Keeps self.old self.new (CutTo to (is_ok result)) (is_ok result) }
+        ensures kept { Keeps self.old self.new (CutTo to true) (is_err result) }
     {
-        let stopped = self.plan.is_behind();
+        let stopped = self.plan.is_after_stop();
         let good = !self.plan.changes();
         if stopped {
             return Err(self.fail());
@@ -311,6 +328,8 @@ impl Disk for MemoryDisk {
         ensures crash { Within (IsImage (state self.old)) (IsImage (state self.new)) }
         ensures time { Elapses (length self.old.steps) (length self.new.steps) (LeftSince self.old) (LeftSince self.new) (IsImage (state self.new)) }
         ensures plan { SyncsAsPlanned (Some self.old.plan) (Some self.new.plan) (is_err result) }
+        ensures state { LeavesState (Synced ∷ []) (Some self.old.plan) (Some (state self.old)) (Some (state self.new)) }
+        ensures memory { self.new.lacks ≡ self.old.lacks }
         ensures ok { OnOk result (self.new.faults ≡ self.old.faults) }
         ensures falls { NeverFalls self.old.faults self.new.faults }
         ensures failed { OnErr result (HasRisen self.old.faults self.new.faults) }

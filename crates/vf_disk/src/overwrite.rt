@@ -1,6 +1,6 @@
 ghost use Rattle.std.specs.Prelude.{◌≡◌, ◌≤◌, ◌<◌, ◌^◌, ◌+◌, length, vec_len, OnOk, OnErr};
 ghost use Rattle.vf_disk.specs.Disk.{overwritten};
-ghost use Rattle.vf_disk.specs.Memory.{lengthened};
+ghost use Rattle.vf_disk.specs.State.{lengthened};
 
 use std::alloc::AllocError;
 use vf_base::NoMemory;
@@ -12,8 +12,8 @@ pub(crate) fn overwrite(old: &mut Vec<u8>, at: usize, octets: &[u8]) -> Result<(
     ensures err { OnErr result (old.new.items ≡ old.old.items) }
 {
     let over = octets.len().min(old.len() - at);
-    let (front, back) = octets.split_at(over);
-    old.extend_from_slice(back)?;
-    old[at..at + over].copy_from_slice(front);
+    let (inside, past) = octets.split_at(over);
+    old.extend_from_slice(past)?;
+    old[at..at + over].copy_from_slice(inside);
     Ok(())
 }

@@ -1,6 +1,6 @@
 //! Which calls of a disk in memory fail.
 ghost use Rattle.std.specs.Prelude.{◌≡◌, Some, IfOk};
-ghost use Rattle.vf_disk.specs.Plans.{after_change, after_look, change_fails, counted_down as nearer, is_behind as behind_test, is_stopped as stopped_test, look_fails, planned, sooner as sooner_of};
+ghost use Rattle.vf_disk.specs.Plans.{after_change, after_look, change_fails, counted_down as nearer, is_after_stop as after_stop_test, is_stopped as stopped_test, look_fails, planned, sooner as sooner_of};
 
 use std::alloc::Global;
 use std::marker::Model;
@@ -53,10 +53,10 @@ impl Plan {
     }
 
     /// Whether the stopped call was made.
-    pub(crate) fn is_behind(&self) -> bool
-        ensures { result ≡ behind_test self.now.until_stop }
+    pub(crate) fn is_after_stop(&self) -> bool
+        ensures { result ≡ after_stop_test self.now.until_stop }
     {
-        is_behind(self.until_stop)
+        is_after_stop(self.until_stop)
     }
 
     /// Counts a `len` or a `read`, and says whether it is to fail.
@@ -65,7 +65,7 @@ impl Plan {
         ensures call { self.new ≡ after_look self.old }
     {
         self.calls = self.calls.saturating_add(1);
-        is_behind(self.until_stop) || self.failing.contains(&self.calls)
+        is_after_stop(self.until_stop) || self.failing.contains(&self.calls)
     }
 
     /// Counts a write, a cut or a sync, and says whether it is to fail.
@@ -80,8 +80,8 @@ impl Plan {
     }
 }
 
-fn is_behind(until_stop: Option<u32>) -> bool
-    ensures { result ≡ behind_test until_stop }
+fn is_after_stop(until_stop: Option<u32>) -> bool
+    ensures { result ≡ after_stop_test until_stop }
 {
     match until_stop {
         None => false,

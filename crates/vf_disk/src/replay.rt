@@ -1,7 +1,8 @@
 //! The images of a disk in memory, made from its calls.
 ghost use Rattle.std.specs.Prelude.{◌≡◌, ◌≤◌, ◌+◌, ℕ, List, true, length, take, drop, fold, vec_len, IfOk, OnOk};
 ghost use Rattle.std.specs.List.{list_all};
-ghost use Rattle.vf_disk.specs.Memory.{settled, state_of, after, filled_in, is_change as change_test, is_settled as settled_test};
+ghost use Rattle.vf_disk.specs.Memory.{is_change as change_test, is_settled as settled_test};
+ghost use Rattle.vf_disk.specs.State.{settled, state_of, after, filled_in};
 ghost use Rattle.vf_disk.specs.Replay.{make, mark};
 
 use crate::Step;
@@ -44,7 +45,7 @@ fn is_change(step: &Step) -> bool
     }
 }
 
-/// What a read gives behind these calls.
+/// What a read gives after these calls.
 pub(crate) fn shown_by(alloc: Global, first: &[u8], steps: &[Step]) -> Result<Vec<u8>, NoMemory>
     ensures { IfOk result (λ image. image.items ≡ (state_of first.now steps.now).shown) }
 {

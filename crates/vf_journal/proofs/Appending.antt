@@ -1,30 +1,22 @@
 -- An append, from the disk on which a journal stands to that with one record more.
-use Rattle.std.proofs.Common.{◌≡◌, inl, ℕ, ◌+◌, ◌-◌, ◌≤◌, List, [], ◌∷◌, ◌++◌, length, get_or, drop, Option, Some, sym, ◌∙◌, ap, subst, arith, length-append}
+use Rattle.std.proofs.Common.{◌≡◌, inl, ℕ, ◌+◌, ◌-◌, ◌≤◌, List, [], ◌∷◌, ◌++◌, length, get_or, drop, Option, Some, sym, ◌∙◌, ap, subst, arith}
 use Rattle.std.proofs.lemmas.List.{get_or-drop}
 use Rattle.vf_disk.specs.Disk.{LeavesOnly, LeavesShown, Torn, overwritten}
-use Rattle.vf_disk.specs.Laws.{leaves_at_first, leaves_octets}
+use Rattle.vf_disk.proofs.Runs.{joined, leaves_octets, weaker}
 use Rattle.vf_journal.specs.declared.area.Area.{Area}
 use Rattle.vf_journal.specs.Layout.{selected_start}
-use Rattle.vf_journal.specs.Records.{IsEntry, entry_of, longest, sized}
+use Rattle.vf_journal.specs.Records.{IsEntry, entry_of, longest}
 use Rattle.vf_journal.specs.Image.{Holds, HoldsEither}
-use Rattle.vf_journal.specs.Standing.{Standing, StandsOn, after_append, area_of, with_record}
-use Rattle.vf_journal.specs.Writes.{Behind, Shows}
-use Rattle.vf_journal.proofs.Areas.{length-sized}
+use Rattle.vf_journal.specs.JournalState.{JournalState, StandsOn, after_append, area_of, with_record}
+use Rattle.vf_journal.specs.Writes.{MadeBy, Shows}
+use Rattle.vf_journal.proofs.Lengths.{entry_short, length-entry_of}
 use Rattle.vf_journal.proofs.Counts.{counts_push}
 use Rattle.vf_journal.proofs.Images.{SameHead, gate_head, gate_of, gate_open, gate_torn, gate_within, written_behind}
 use Rattle.vf_journal.proofs.Parts.{overwritten_from, torn_whole}
-use Rattle.vf_journal.proofs.Runs.{joined, weaker}
-
-pub length-entry_of : (item : List ℕ) → length (entry_of item) ≡ length item + 5
-length-entry_of item = omega (arith, length-append (sized item) (0 ∷ []), length-sized item)
-
--- a record whose built form is handed in isn't too long
-pub entry_short : (entry item : List ℕ) → IsEntry entry → entry ≡ entry_of item → length item ≤ longest
-entry_short entry item built is = omega (arith, ap length built.2, ap length is, length-entry_of item, length-entry_of built.0, built.1)
 
 module _ {D : Type 0} (shown : D → Option (List ℕ)) (may_leave : D → List ℕ → Type 0) (moment : D → ℕ) (left_since : D → ℕ → List ℕ → Type 0)
     (only_now : (disk : D) (image : List ℕ) → left_since disk (moment disk) image → may_leave disk image)
-    (journal : Standing) (old : D) (item : List ℕ) (records : List (List ℕ)) (entry : List ℕ) (built : IsEntry entry) (is : entry ≡ entry_of item)
+    (journal : JournalState) (old : D) (item : List ℕ) (records : List (List ℕ)) (entry : List ℕ) (built : IsEntry entry) (is : entry ≡ entry_of item)
     (on : StandsOn shown may_leave journal old records) where
   abbrev Allowed : List ℕ → Type 0
   Allowed = HoldsEither records (records ++ item ∷ [])
@@ -49,12 +41,8 @@ module _ {D : Type 0} (shown : D → Option (List ℕ)) (may_leave : D → List 
   behind : (new : List ℕ) → Torn end (length entry) on.image new → SameHead on.image new × Holds new records
   behind new torn = written_behind records end (length entry) on.image new on.holds (omega (arith, end_is)) torn
 
-  -- no call was made
-  pub append_idle : LeavesOnly moment left_since old old Allowed
-  append_idle = leaves_at_first moment left_since old Allowed (λ image left. inl (subst (λ (l : List ℕ). Holds l records) (sym (from_image image (only_now old image left))) on.holds))
-
-  pub append_staged : (mid : D) → LeavesOnly moment left_since old mid (Behind (Torn end (length entry)) (may_leave old)) → LeavesOnly moment left_since old mid Allowed
-  append_staged mid run = weaker moment left_since old mid (Behind (Torn end (length entry)) (may_leave old)) Allowed run (λ image left.
+  pub append_staged : (mid : D) → LeavesOnly moment left_since old mid (MadeBy (Torn end (length entry)) (may_leave old)) → LeavesOnly moment left_since old mid Allowed
+  append_staged mid run = weaker moment left_since old mid (MadeBy (Torn end (length entry)) (may_leave old)) Allowed run (λ image left.
       inl (behind image (subst (λ (l : List ℕ). Torn end (length entry) l image) (from_image left.0 left.1) left.2)).1)
 
   -- the image between the two writes
@@ -75,15 +63,11 @@ module _ {D : Type 0} (shown : D → Option (List ℕ)) (may_leave : D → List 
   gate_left : (new : List ℕ) → Torn (end - 1) 1 staged new → Torn (gate_of staged records) 1 staged new
   gate_left new torn = subst (λ (n : ℕ). Torn n 1 staged new) (sym gate_is) torn
 
-  pub append_opened : (mid new : D) → shown mid ≡ Some staged → LeavesShown (shown mid) (may_leave mid) → LeavesOnly moment left_since old mid (Behind (Torn end (length entry)) (may_leave old))
-      → LeavesOnly moment left_since mid new (Behind (Torn (end - 1) 1) (may_leave mid)) → LeavesOnly moment left_since old new Allowed
-  append_opened mid new shows synced first second = joined moment left_since old mid new Allowed (Behind (Torn (end - 1) 1) (may_leave mid)) Allowed (append_staged mid first) second (λ image allowed. allowed) (λ image left.
+  pub append_opened : (mid new : D) → shown mid ≡ Some staged → LeavesShown (shown mid) (may_leave mid) → LeavesOnly moment left_since old mid (MadeBy (Torn end (length entry)) (may_leave old))
+      → LeavesOnly moment left_since mid new (MadeBy (Torn (end - 1) 1) (may_leave mid)) → LeavesOnly moment left_since old new Allowed
+  append_opened mid new shows synced first second = joined moment left_since old mid new Allowed (MadeBy (Torn (end - 1) 1) (may_leave mid)) Allowed (append_staged mid first) second (λ image allowed. allowed) (λ image left.
       let from : left.0 ≡ staged = leaves_octets (shown mid) (may_leave mid) staged left.0 synced shows left.1 in
       gate_torn records item (drop (end + length entry) on.image) staged image staged_kept.1 short entry_behind (gate_left image (subst (λ (l : List ℕ). Torn (end - 1) 1 l image) from left.2)))
-
-  -- what a read gives meanwhile
-  pub append_seen_none : Shows (shown old) Allowed
-  append_seen_none = (on.image, on.shows, inl on.holds)
 
   pub append_seen_first : (new : Option (List ℕ)) → Shows new (Torn end (length entry) on.image) → Shows new Allowed
   append_seen_first new seen = (seen.0, seen.1, inl (behind seen.0 seen.2).1)

@@ -4,7 +4,7 @@ use Rattle.std.proofs.lemmas.Bool.Decides.{nat_tests}
 use Rattle.vf_journal.specs.declared.area.Area.{Area}
 use Rattle.vf_journal.specs.Records.{octets_of}
 use Rattle.vf_disk.specs.Disk.{greatest_length}
-use Rattle.vf_journal.specs.Standing.{IsPlaced, area_of, with_record}
+use Rattle.vf_journal.specs.JournalState.{IsPlaced, area_of, with_record}
 
 pub octets_push : (records : List (List ℕ)) (item : List ℕ) → octets_of (records ++ item ∷ []) ≡ octets_of records + length item + 5
 octets_push [] item = omega arith

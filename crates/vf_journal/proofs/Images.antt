@@ -16,7 +16,7 @@ IsApart at count place size = (place + size ≤ at) ⊎ (at + count ≤ place)
 -- a write cut short leaves it as it was
 pub part_apart : (at count place size : ℕ) (old new : List ℕ) → Torn at count old new → IsApart at count place size → part new place size ≡ part old place size
 part_apart at count place size old new torn (inl before) = part_before at place size old new torn.before before
-part_apart at count place size old new torn (inr behind) = part_behind (at + count) place size old new torn.behind behind
+part_apart at count place size old new torn (inr behind) = part_behind (at + count) place size old new torn.past behind
 
 -- the head of an image: the header, the selector and the selected anchor
 pub record SameHead (old new : List ℕ) : Type 0 where
@@ -132,7 +132,7 @@ module _ (records : List (List ℕ)) (entry rest old new : List ℕ) (holds : Ho
   back =
       drop-drop (octets_of records) (selected_start old) new
       ∙ drop_more new (gate_of old records) 0 (omega (arith, torn.no_shorter, gate_within old records holds))
-      ∙ ap (λ (l : List ℕ). get_or new (gate_of old records) 0 ∷ l) (torn.behind ∙ behind)
+      ∙ ap (λ (l : List ℕ). get_or new (gate_of old records) 0 ∷ l) (torn.past ∙ behind)
 
   holding : (more : List (List ℕ)) → HoldsArea (octet ∷ (entry_of entry ++ rest)) more → Holds new (records ++ more)
   holding more tail = record {
@@ -162,7 +162,7 @@ module _ (records others : List (List ℕ)) (old new : List ℕ) (holds : Holds 
   anchors second = same_anchor second old new (part_apart selector_place 1 (anchor_place second) 8 old new torn (inr (anchor_high second)))
 
   areas : (place : ℕ) → first_start ≤ place → drop place new ≡ drop place old
-  areas place high = drop_behind (selector_place + 1) place old new torn.behind (omega arith)
+  areas place high = drop_behind (selector_place + 1) place old new torn.past (omega arith)
 
   same_header : take 16 new ≡ header
   same_header = part_apart selector_place 1 0 16 old new torn (inl (omega arith)) ∙ holds.head

@@ -2,9 +2,9 @@ mod Runs
 mod Numbers
 mod Parts
 mod Areas
+pub mod Lengths
 mod Images
-mod Plans
-mod Planned
+pub mod Planned
 mod Counts
 mod Appending
 mod Preparing

@@ -7,7 +7,7 @@ use Rattle.vf_journal.specs.Image.{Holds, records_of}
 use Rattle.vf_journal.specs.Layout.{selects_second, selected_start}
 use Rattle.vf_journal.specs.Reading.{StandsFrom, Takes, with_records}
 use Rattle.vf_journal.specs.Records.{records_in}
-use Rattle.vf_journal.specs.Standing.{Standing, StandsOn, area_of, when_opened}
+use Rattle.vf_journal.specs.JournalState.{JournalState, StandsOn, area_of, when_opened}
 use Rattle.vf_journal.proofs.Counts.{counts_push}
 use Rattle.vf_journal.proofs.Held.{read_as_held}
 
@@ -31,30 +31,27 @@ module _ (shown : Option (List ℕ)) (start count : ℕ) (old new : List (List �
   area_found = takes.counts ∙ area_taken start [] takes.taken ∙ ap (λ (l : List (List ℕ)). area_of start l) taken_is
 
   module _ (at : start ≡ selected_start image) where
-    pub all_records : new ≡ old ++ records_of image
-    all_records = all_taken ∙ ap (λ (n : ℕ). old ++ records_in (drop n image)) at
-
     pub area_opened : found ≡ area_of (selected_start image) (records_of image)
     area_opened = area_found ∙ ap (λ (n : ℕ). area_of n (records_in (drop n image))) at
 
 -- where a journal stands that was opened
-stands_at : Bool → Area → ℕ → Standing
+stands_at : Bool → Area → ℕ → JournalState
 stands_at second area limit = record { second = second; area = area; limit = limit; prepared = None }
 
 pub opened_is : (second : Bool) (area : Area) (image : List ℕ) (limit : ℕ) → second ≡ selects_second image → area ≡ area_of (selected_start image) (records_of image)
-    → (let journal : Standing = record { second = second; area = area; limit = limit; prepared = None } in journal) ≡ when_opened image limit
+    → (let journal : JournalState = record { second = second; area = area; limit = limit; prepared = None } in journal) ≡ when_opened image limit
 unfolding stands_at
 opened_is second area image limit same_second same_area =
     ap (λ (b : Bool). stands_at b area limit) same_second ∙ ap (λ (a : Area). stands_at (selects_second image) a limit) same_area
 
 -- what is opened on an image that holds records stands on it
-pub opened_stands : {D : Type 0} (shown : D → Option (List ℕ)) (may_leave : D → List ℕ → Type 0) (journal : Standing) (disk : D) (image : List ℕ) (limit : ℕ) (records : List (List ℕ))
+pub opened_stands : {D : Type 0} (shown : D → Option (List ℕ)) (may_leave : D → List ℕ → Type 0) (journal : JournalState) (disk : D) (image : List ℕ) (limit : ℕ) (records : List (List ℕ))
     → shown disk ≡ Some image → LeavesShown (shown disk) (may_leave disk) → Holds image records → journal ≡ when_opened image limit → StandsOn shown may_leave journal disk records
 opened_stands shown may_leave journal disk image limit records shows synced holds is = record {
   image = image;
   shows = shows;
   synced = synced;
   holds = holds;
-  second = ap (λ (j : Standing). j.second) is;
-  area = ap (λ (j : Standing). j.area) is ∙ ap (λ (l : List (List ℕ)). area_of (selected_start image) l) (read_as_held image records holds);
+  second = ap (λ (j : JournalState). j.second) is;
+  area = ap (λ (j : JournalState). j.area) is ∙ ap (λ (l : List (List ℕ)). area_of (selected_start image) l) (read_as_held image records holds);
 }

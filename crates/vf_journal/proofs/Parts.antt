@@ -39,9 +39,6 @@ module _ (old : List ℕ) (at : ℕ) (octets : List ℕ) (low : at ≤ length ol
   pub overwritten_from : drop at (overwritten old at octets) ≡ octets ++ drop (at + length octets) old
   overwritten_from = ap (λ (image : List ℕ). drop at image) grouped ∙ drop_at (take at old) (octets ++ drop (at + length octets) old) at front_length
 
-  pub overwritten_part : part (overwritten old at octets) at (length octets) ≡ octets
-  overwritten_part = ap (λ (image : List ℕ). take (length octets) image) overwritten_from ∙ take_at octets (drop (at + length octets) old) (length octets) refl
-
   pub overwritten_back : drop (at + length octets) (overwritten old at octets) ≡ drop (at + length octets) old
   overwritten_back =
       sym (drop-drop (length octets) at (overwritten old at octets))
@@ -55,7 +52,7 @@ module _ (old : List ℕ) (at : ℕ) (octets : List ℕ) (low : at ≤ length ol
   pub torn_whole : Torn at (length octets) old (overwritten old at octets)
   torn_whole = record {
     before = overwritten_front;
-    behind = overwritten_back;
+    past = overwritten_back;
     no_shorter = omega (arith, length-overwritten);
     no_longer = omega (arith, length-overwritten);
   }

@@ -2,34 +2,32 @@
 use Rattle.std.proofs.Common.{◌≡◌, ◌⊎◌, inl, inr, ⊎_elim, ℕ, ◌+◌, ◌-◌, ◌≤◌, Bool, true, false, not, if◌then◌else◌, nat_le, List, [], ◌∷◌, ◌++◌, length, drop, Option, Some, refl, sym, ◌∙◌, ap, subst, arith}
 use Rattle.std.proofs.lemmas.Bool.{leb-true}
 use Rattle.vf_disk.specs.Disk.{LeavesOnly, LeavesShown, Torn, greatest_length, overwritten}
-use Rattle.vf_disk.specs.Laws.{leaves_octets}
+use Rattle.vf_disk.proofs.Runs.{leaves_octets, weaker}
+use Rattle.vf_disk.specs.Plans.{StopPlan}
+use Rattle.vf_disk.specs.State.{State}
+use Rattle.vf_disk.specs.Steps.{MakesSteps}
+use Rattle.vf_disk.specs.declared.step.Step.{Step}
+use Rattle.vf_disk.specs.declared.step.Step.TheVariants.{Wrote}
 use Rattle.vf_journal.specs.declared.area.Area.{Area}
 use Rattle.vf_journal.specs.Layout.{anchor, anchor_place, first_start, place_named, place_octets, selects_second, selected_start}
-use Rattle.vf_journal.specs.Records.{HoldsArea, IsArea, area_with, entry_of, longest, octets_of}
+use Rattle.vf_journal.specs.Records.{HoldsArea, IsArea, area_with, entry_of, octets_of}
 use Rattle.vf_journal.specs.Image.{Holds}
-use Rattle.vf_journal.specs.Standing.{HasPrepared, Standing, StandsOn, area_of, new_start}
-use Rattle.vf_journal.specs.Writes.{Behind, Shows}
-use Rattle.vf_journal.proofs.Appending.{length-entry_of}
+use Rattle.vf_journal.specs.JournalState.{HasPrepared, JournalState, StandsOn, area_of, new_start}
+use Rattle.vf_journal.specs.Writes.{MadeBy, Shows, prepare_steps, written_steps}
 use Rattle.vf_journal.proofs.Areas.{area_alone}
+use Rattle.vf_journal.proofs.Lengths.{area_short, length-area_with}
 use Rattle.vf_journal.proofs.Images.{SameHead, anchor_low, gate_within, other_anchor, written_before, written_behind}
 use Rattle.vf_journal.proofs.Numbers.{length-place_octets, place_named-take, place_read_back}
 use Rattle.vf_journal.proofs.Parts.{drop_behind, overwritten_from, length-overwritten, torn_whole}
-use Rattle.vf_journal.proofs.Runs.{weaker}
 
 -- where a new area starts
-pub new_start_cases : (journal : Standing) (count : ℕ) → ((new_start journal count ≡ first_start) × (first_start + count ≤ journal.area.start)) ⊎ (new_start journal count ≡ journal.area.end)
+pub new_start_cases : (journal : JournalState) (count : ℕ) → ((new_start journal count ≡ first_start) × (first_start + count ≤ journal.area.start)) ⊎ (new_start journal count ≡ journal.area.end)
 new_start_cases journal count = by (nat_le (first_start + count) journal.area.start) refl
   where
     by : (low : Bool) → nat_le (first_start + count) journal.area.start ≡ low
         → (((if low then first_start else journal.area.end) ≡ first_start) × (first_start + count ≤ journal.area.start)) ⊎ ((if low then first_start else journal.area.end) ≡ journal.area.end)
     by true is = inl (refl, leb-true (first_start + count) journal.area.start is)
     by false is = inr refl
-
-pub length-area_with : (item : List ℕ) → length (area_with item) ≡ length item + 6
-length-area_with item = omega (arith, length-entry_of item)
-
-pub area_short : (octets item : List ℕ) → IsArea octets → octets ≡ area_with item → length item ≤ longest
-area_short octets item built is = omega (arith, ap length built.2, ap length is, length-area_with item, length-area_with built.0, built.1)
 
 -- an area of one record, by its octets
 made : ℕ → ℕ → ℕ → Area
@@ -50,8 +48,16 @@ prepared_shown told image start start' at at' area name shows start_is at_is nam
     ∙ ap (λ (n : ℕ). Some (overwritten (overwritten image start area) n (place_octets start))) at_is
     ∙ ap (λ (n : ℕ). Some (overwritten (overwritten image n area) at' (place_octets n))) start_is
 
+-- the calls of a prepare, told by what was handed to the disk
+pub prepare_goes : (start start' : ℕ) (area : List ℕ) (at : ℕ) (name : List ℕ) (second : Bool) (p q : Option StopPlan) (s t : Option State) (failed : Bool) (l n : ℕ) → start ≡ start' → at ≡ anchor_place second → name ≡ place_octets start
+    → MakesSteps (Wrote start area true ∷ written_steps at name) p q s t failed l n → MakesSteps (prepare_steps start' area second) p q s t failed l n
+prepare_goes start start' area at name second p q s t failed l n start_is at_is name_is made =
+    let Goes : List Step → Type 0 = λ steps. MakesSteps steps p q s t failed l n in
+    subst (λ (x : ℕ). Goes (prepare_steps x area second)) start_is
+    (subst (λ (x : ℕ). Goes (Wrote start area true ∷ written_steps x (place_octets start))) at_is (subst (λ (x : List ℕ). Goes (Wrote start area true ∷ written_steps at x)) name_is made))
+
 module _ {D : Type 0} (shown : D → Option (List ℕ)) (may_leave : D → List ℕ → Type 0) (moment : D → ℕ) (left_since : D → ℕ → List ℕ → Type 0)
-    (journal : Standing) (old : D) (records : List (List ℕ)) (octets : List ℕ) (start : ℕ) (place : start ≡ new_start journal (length octets))
+    (journal : JournalState) (old : D) (records : List (List ℕ)) (octets : List ℕ) (start : ℕ) (place : start ≡ new_start journal (length octets))
     (on : StandsOn shown may_leave journal old records) where
   abbrev other : ℕ
   other = anchor_place (not journal.second)
@@ -81,24 +87,24 @@ module _ {D : Type 0} (shown : D → Option (List ℕ)) (may_leave : D → List 
       let same : other ≡ anchor_place (not (selects_second mid)) = ap (λ (b : Bool). anchor_place (not b)) (on.second ∙ sym kept.0.second) in
       other_anchor records mid new kept.1 (subst (λ (n : ℕ). Torn n 8 mid new) same torn)
 
-  pub prepare_left : (new : D) → LeavesOnly moment left_since old new (Behind (Torn other 8) (Behind (Torn start (length octets)) (may_leave old))) → LeavesOnly moment left_since old new (λ image. Holds image records)
-  prepare_left new run = weaker moment left_since old new (Behind (Torn other 8) (Behind (Torn start (length octets)) (may_leave old))) (λ image. Holds image records) run (λ image left.
+  pub prepare_left : (new : D) → LeavesOnly moment left_since old new (MadeBy (Torn other 8) (MadeBy (Torn start (length octets)) (may_leave old))) → LeavesOnly moment left_since old new (λ image. Holds image records)
+  prepare_left new run = weaker moment left_since old new (MadeBy (Torn other 8) (MadeBy (Torn start (length octets)) (may_leave old))) (λ image. Holds image records) run (λ image left.
       let mid = left.0 in
       let from = left.1 in
       let same : from.0 ≡ on.image = leaves_octets (shown old) (may_leave old) on.image from.0 on.synced on.shows from.1 in
       (anchor_left mid image (area_left mid (subst (λ (l : List ℕ). Torn start (length octets) l mid) same from.2)) left.2).1)
 
   -- what a read gives meanwhile
-  pub prepare_seen : (at count : ℕ) → at ≡ other → count ≡ 8 → (new : Option (List ℕ)) → Shows new (Behind (Torn at count) (Torn start (length octets) on.image)) → Shows new (λ image. Holds image records)
+  pub prepare_seen : (at count : ℕ) → at ≡ other → count ≡ 8 → (new : Option (List ℕ)) → Shows new (MadeBy (Torn at count) (Torn start (length octets) on.image)) → Shows new (λ image. Holds image records)
   prepare_seen at count place_is count_is new (image, shows, (mid, first, second)) =
       let Left : ℕ → ℕ → Type 0 = λ a n. Torn a n mid image in
       let torn : Torn other 8 mid image = subst (λ (n : ℕ). Left other n) count_is (subst (λ (a : ℕ). Left a count) place_is second) in
       (image, shows, (anchor_left mid image (area_left mid first) torn).1)
 
   -- the same, told by what was handed to the disk
-  pub prepare_run : (at count : ℕ) → at ≡ other → count ≡ 8 → (new : D) → LeavesOnly moment left_since old new (Behind (Torn at count) (Behind (Torn start (length octets)) (may_leave old))) → LeavesOnly moment left_since old new (λ image. Holds image records)
+  pub prepare_run : (at count : ℕ) → at ≡ other → count ≡ 8 → (new : D) → LeavesOnly moment left_since old new (MadeBy (Torn at count) (MadeBy (Torn start (length octets)) (may_leave old))) → LeavesOnly moment left_since old new (λ image. Holds image records)
   prepare_run at count place_is count_is new run =
-      let Runs : ℕ → ℕ → Type 0 = λ a n. LeavesOnly moment left_since old new (Behind (Torn a n) (Behind (Torn start (length octets)) (may_leave old))) in
+      let Runs : ℕ → ℕ → Type 0 = λ a n. LeavesOnly moment left_since old new (MadeBy (Torn a n) (MadeBy (Torn start (length octets)) (may_leave old))) in
       prepare_left new (subst (λ (n : ℕ). Runs other n) count_is (subst (λ (a : ℕ). Runs a count) place_is run))
 
   abbrev with_area : List ℕ
@@ -123,7 +129,7 @@ module _ {D : Type 0} (shown : D → Option (List ℕ)) (may_leave : D → List 
   last_kept = anchor_left with_area last area_kept_whole last_torn
 
   -- what the journal keeps then
-  abbrev standing : Standing
+  abbrev standing : JournalState
   standing = record { second = journal.second; area = journal.area; limit = journal.limit; prepared = Some (record { start = start; end = start + length octets; first = length octets - 6; later = 0 }) }
 
   module _ (bound : start + length octets ≤ greatest_length) (item : List ℕ) (built : IsArea octets) (is : octets ≡ area_with item) where
@@ -135,7 +141,7 @@ module _ {D : Type 0} (shown : D → Option (List ℕ)) (may_leave : D → List 
 
     area_behind : drop start last ≡ 1 ∷ (entry_of item ++ drop (start + length octets) on.image)
     area_behind =
-        drop_behind (other + 8) start with_area last last_torn.behind (omega (arith, other_low, start_high))
+        drop_behind (other + 8) start with_area last last_torn.past (omega (arith, other_low, start_high))
         ∙ overwritten_from on.image start octets start_within
         ∙ ap (λ (l : List ℕ). l ++ drop (start + length octets) on.image) is
 

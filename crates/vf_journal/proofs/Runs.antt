@@ -1,53 +1,36 @@
--- How runs of calls that leave only certain images are joined, and what a crash leaves of a write and a sync.
-use Rattle.std.proofs.Common.{◌≡◌, inl, inr, ⊎_elim, ℕ, ◌≤◌, List, length, Option, None, Some, Result, Ok, Err, refl, ap, ◌∙◌, subst, arith}
+-- What a crash leaves of a write and a sync, and of two writes and a sync.
+use Rattle.std.proofs.Common.{◌≡◌, ℕ, ◌≤◌, List, length, Option, None, Some, Result, Ok, Err, refl, ap, ◌∙◌, subst, arith}
 use Rattle.vf_base.specs.declared.errors.Failed.{Failed}
 use Rattle.vf_disk.specs.Disk.{Elapses, Follows, LeavesOnly, Torn, Within, Writes, overwritten}
-use Rattle.vf_disk.specs.Laws.{leaves_at_first, leaves_behind}
-use Rattle.vf_journal.specs.Writes.{Behind, Shows}
+use Rattle.vf_disk.proofs.Runs.{joined, leaves_after, leaves_at_first, weaker}
+use Rattle.vf_journal.specs.Writes.{MadeBy, Shows}
 use Rattle.vf_journal.proofs.Parts.{torn_whole}
 
 pub torn_self : (at count : ℕ) (image : List ℕ) → Torn at count image image
-torn_self at count image = record { before = refl; behind = refl; no_shorter = omega arith; no_longer = omega arith }
-
-module _ {D : Type 0} (moment : D → ℕ) (left_since : D → ℕ → List ℕ → Type 0) where
-  -- a run behind another
-  pub joined : (old mid new : D) (P Q R : List ℕ → Type 0) → LeavesOnly moment left_since old mid P → LeavesOnly moment left_since mid new Q
-      → ((image : List ℕ) → P image → R image) → ((image : List ℕ) → Q image → R image) → LeavesOnly moment left_since old new R
-  joined old mid new P Q R first second p q = record {
-    later = omega (arith, first.later, second.later);
-    each = λ image left. ⊎_elim (λ past. p image (first.each image past)) (q image) (second.earlier (moment old) image first.later left);
-    earlier = λ t image le left. ⊎_elim (λ past. ⊎_elim inl (λ now. inr (p image now)) (first.earlier t image le past)) (λ now. inr (q image now)) (second.earlier t image (omega (arith, le, first.later)) left);
-  }
-
-  pub weaker : (old new : D) (P R : List ℕ → Type 0) → LeavesOnly moment left_since old new P → ((image : List ℕ) → P image → R image) → LeavesOnly moment left_since old new R
-  weaker old new P R run p = record {
-    later = run.later;
-    each = λ image left. p image (run.each image left);
-    earlier = λ t image le left. ⊎_elim inl (λ now. inr (p image now)) (run.earlier t image le left);
-  }
+torn_self at count image = record { before = refl; past = refl; no_shorter = omega arith; no_longer = omega arith }
 
 module _ {D : Type 0} (moment : D → ℕ) (left_since : D → ℕ → List ℕ → Type 0) (may_leave : D → List ℕ → Type 0) (at count : ℕ) (old mid : D)
     (only_now : (disk : D) (image : List ℕ) → left_since disk (moment disk) image → may_leave disk image)
     (follows : Follows (Torn at count) (may_leave old) (may_leave mid)) (time : Elapses (moment old) (moment mid) (left_since old) (left_since mid) (may_leave mid)) where
   abbrev Left : List ℕ → Type 0
-  Left = Behind (Torn at count) (may_leave old)
+  Left = MadeBy (Torn at count) (may_leave old)
 
   -- behind the write
   pub write_run : LeavesOnly moment left_since old mid Left
-  write_run = leaves_behind moment left_since old old mid Left (may_leave mid) (leaves_at_first moment left_since old Left (λ image left. (image, only_now old image left, torn_self at count image))) time follows
+  write_run = leaves_after moment left_since old old mid Left (may_leave mid) (leaves_at_first moment left_since old Left (λ image left. (image, only_now old image left, torn_self at count image))) time follows
 
   -- and behind the sync
   pub synced_run : (new : D) → Elapses (moment mid) (moment new) (left_since mid) (left_since new) (may_leave new) → Within (may_leave mid) (may_leave new) → LeavesOnly moment left_since old new Left
-  synced_run new later within = leaves_behind moment left_since old mid new Left (may_leave new) write_run later (λ image left. follows image (within image left))
+  synced_run new later within = leaves_after moment left_since old mid new Left (may_leave new) write_run later (λ image left. follows image (within image left))
 
   -- behind the write and another, with its sync
-  pub both_run : (then_at then : ℕ) (new : D) → LeavesOnly moment left_since mid new (Behind (Torn then_at then) (may_leave mid)) → LeavesOnly moment left_since old new (Behind (Torn then_at then) Left)
-  both_run then_at then new second = joined moment left_since old mid new Left (Behind (Torn then_at then) (may_leave mid)) (Behind (Torn then_at then) Left) write_run second
+  pub both_run : (then_at then : ℕ) (new : D) → LeavesOnly moment left_since mid new (MadeBy (Torn then_at then) (may_leave mid)) → LeavesOnly moment left_since old new (MadeBy (Torn then_at then) Left)
+  both_run then_at then new second = joined moment left_since old mid new Left (MadeBy (Torn then_at then) (may_leave mid)) (MadeBy (Torn then_at then) Left) write_run second
       (λ image left. (image, left, torn_self then_at then image))
       (λ image left. (left.0, follows left.0 left.1, left.2))
 
-  pub first_run : (then_at then : ℕ) → LeavesOnly moment left_since old mid (Behind (Torn then_at then) Left)
-  first_run then_at then = weaker moment left_since old mid Left (Behind (Torn then_at then) Left) write_run (λ image left. (image, left, torn_self then_at then image))
+  pub first_run : (then_at then : ℕ) → LeavesOnly moment left_since old mid (MadeBy (Torn then_at then) Left)
+  first_run then_at then = weaker moment left_since old mid Left (MadeBy (Torn then_at then) Left) write_run (λ image left. (image, left, torn_self then_at then image))
 
 -- what a read gives behind a write, however it went
 pub written_seen : (told new : Option (List ℕ)) (old : List ℕ) (at : ℕ) (octets : List ℕ) (result : Result (Unit {0}) Failed) → at ≤ length old → told ≡ Some old → Writes told new at octets result
@@ -65,8 +48,8 @@ pub seen_still : (mid new : Option (List ℕ)) (P : List ℕ → Type 0) → new
 seen_still mid new P same seen = (seen.0, same ∙ seen.1, seen.2)
 
 -- behind a first write, and behind a second one
-pub first_seen : (new : Option (List ℕ)) (old : List ℕ) (at count then_at then : ℕ) → Shows new (Torn at count old) → Shows new (Behind (Torn then_at then) (Torn at count old))
+pub first_seen : (new : Option (List ℕ)) (old : List ℕ) (at count then_at then : ℕ) → Shows new (Torn at count old) → Shows new (MadeBy (Torn then_at then) (Torn at count old))
 first_seen new old at count then_at then seen = (seen.0, seen.1, (seen.0, seen.2, torn_self then_at then seen.0))
 
-pub both_seen : (new : Option (List ℕ)) (old : List ℕ) (at : ℕ) (octets : List ℕ) (then_at then : ℕ) → at ≤ length old → Shows new (Torn then_at then (overwritten old at octets)) → Shows new (Behind (Torn then_at then) (Torn at (length octets) old))
+pub both_seen : (new : Option (List ℕ)) (old : List ℕ) (at : ℕ) (octets : List ℕ) (then_at then : ℕ) → at ≤ length old → Shows new (Torn then_at then (overwritten old at octets)) → Shows new (MadeBy (Torn then_at then) (Torn at (length octets) old))
 both_seen new old at octets then_at then low seen = (seen.0, seen.1, (overwritten old at octets, torn_whole old at octets low, seen.2))

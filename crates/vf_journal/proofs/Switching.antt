@@ -2,23 +2,22 @@
 use Rattle.std.proofs.Common.{◌≡◌, ◌==◌, ℕ, ◌≤◌, Bool, true, false, not, List, [], ◌∷◌, length, get_or, drop, Option, Some, refl, sym, ◌∙◌, ap, subst, arith}
 use Rattle.std.proofs.lemmas.List.{get_or-drop}
 use Rattle.vf_disk.specs.Disk.{LeavesOnly, LeavesShown, Torn, overwritten}
-use Rattle.vf_disk.specs.Laws.{leaves_octets}
+use Rattle.vf_disk.proofs.Runs.{leaves_octets, weaker}
 use Rattle.vf_journal.specs.declared.area.Area.{Area}
 use Rattle.vf_journal.specs.Layout.{anchor, first_start, selector_of, selector_place, selects_second, selected_start}
 use Rattle.vf_journal.specs.Records.{HoldsArea}
 use Rattle.vf_journal.specs.Image.{HoldsEither}
-use Rattle.vf_journal.specs.Standing.{HasPrepared, Standing, StandsOn, after_switch, area_of}
-use Rattle.vf_journal.specs.Writes.{Behind, Shows}
+use Rattle.vf_journal.specs.JournalState.{HasPrepared, JournalState, StandsOn, after_switch, area_of}
+use Rattle.vf_journal.specs.Writes.{MadeBy, Shows}
 use Rattle.vf_journal.proofs.Images.{anchors, gate_within, other_selected, selector_torn}
 use Rattle.vf_journal.proofs.Parts.{overwritten_from, torn_whole}
-use Rattle.vf_journal.proofs.Runs.{weaker}
 
 selects : (second : Bool) → not (selector_of second == 0) ≡ second
 selects true = refl
 selects false = refl
 
 module _ {D : Type 0} (shown : D → Option (List ℕ)) (may_leave : D → List ℕ → Type 0) (moment : D → ℕ) (left_since : D → ℕ → List ℕ → Type 0)
-    (journal : Standing) (old : D) (item : List ℕ) (records : List (List ℕ)) (on : StandsOn shown may_leave journal old records) (has : HasPrepared shown journal old item) where
+    (journal : JournalState) (old : D) (item : List ℕ) (records : List (List ℕ)) (on : StandsOn shown may_leave journal old records) (has : HasPrepared shown journal old item) where
   abbrev Allowed : List ℕ → Type 0
   Allowed = HoldsEither records (item ∷ [])
 
@@ -34,8 +33,8 @@ module _ {D : Type 0} (shown : D → Option (List ℕ)) (may_leave : D → List 
   area : HoldsArea (drop (anchor on.image (not (selects_second on.image))) on.image) (item ∷ [])
   area = subst (λ (n : ℕ). HoldsArea (drop n on.image) (item ∷ [])) named (subst (λ (l : List ℕ). HoldsArea (drop (anchor has.image (not journal.second)) l) (item ∷ [])) same_image has.holds)
 
-  pub switch_left : (new : D) → LeavesOnly moment left_since old new (Behind (Torn selector_place 1) (may_leave old)) → LeavesOnly moment left_since old new Allowed
-  switch_left new run = weaker moment left_since old new (Behind (Torn selector_place 1) (may_leave old)) Allowed run (λ image left.
+  pub switch_left : (new : D) → LeavesOnly moment left_since old new (MadeBy (Torn selector_place 1) (may_leave old)) → LeavesOnly moment left_since old new Allowed
+  switch_left new run = weaker moment left_since old new (MadeBy (Torn selector_place 1) (may_leave old)) Allowed run (λ image left.
       let same : left.0 ≡ on.image = leaves_octets (shown old) (may_leave old) on.image left.0 on.synced on.shows left.1 in
       selector_torn records (item ∷ []) on.image image on.holds start area (subst (λ (l : List ℕ). Torn selector_place 1 l image) same left.2))
 

@@ -6,7 +6,7 @@ use Rattle.vf_journal.specs.declared.area.Area.{Area}
 use Rattle.vf_journal.specs.Records.{first_record, octets_of, records_in}
 use Rattle.std.specs.Prelude.{option_map}
 use Rattle.vf_journal.specs.Reading.{BeginsWith, StandsFrom, Takes, with_records}
-use Rattle.vf_journal.specs.Standing.{IsPlaced, area_of, with_record}
+use Rattle.vf_journal.specs.JournalState.{IsPlaced, area_of, with_record}
 use Rattle.vf_journal.proofs.Counts.{octets_push, placed_more}
 use Rattle.vf_journal.proofs.Gates.{first_rest, reads_none, reads_some}
 
@@ -51,10 +51,6 @@ module _ (block : List ℕ) (count : ℕ) (area : Area) (old : List (List ℕ)) 
         let so_far = taking.reads all begins in
         so_far.0 ∙ ap (λ (l : List (List ℕ)). taking.taken ++ l) (reads_none (drop (octets_of taking.taken) all) (none (drop (octets_of taking.taken) all) so_far.1));
   }
-
-  -- the block ends
-  pub taking_cut : Takes (BeginsWith block count) old new count area now true
-  taking_cut = record { taken = taking.taken; records = taking.records; counts = taking.counts; bound = taken_less; reads = λ all begins. (taking.reads all begins).0 }
 
   -- one record more
   pub taking_more : (size : ℕ) (item : List ℕ) (next : List (List ℕ)) (further : Area) (behind : List ℕ) → size + 6 ≤ length rest → item ≡ take size (drop 5 rest) → next ≡ new ++ item ∷ [] → further ≡ with_record now size → behind ≡ drop (5 + size) rest

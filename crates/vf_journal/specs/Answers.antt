@@ -4,11 +4,11 @@ use Rattle.vf_base.specs.Faults.{HasRisen}
 use Rattle.vf_journal.specs.declared.error.JournalError.{JournalError}
 use Rattle.vf_journal.specs.declared.error.JournalError.TheVariants.{NotAStore, Full, DiskFault, NoMemory}
 use Rattle.vf_disk.specs.Plans.{StopPlan}
-use Rattle.vf_journal.specs.Calls.{MakesChanges}
+use Rattle.vf_disk.specs.Calls.{MakesChanges}
 use Rattle.vf_journal.specs.declared.head.Head.{Head}
 use Rattle.vf_journal.specs.Image.{Refusal, refusal}
 use Rattle.vf_journal.specs.Layout.{selects_second, selected_start}
-use Rattle.vf_journal.specs.Standing.{Standing, when_opened}
+use Rattle.vf_journal.specs.JournalState.{JournalState, when_opened}
 
 -- Only a fault of the disk refuses the call, and there is one exactly where the disk's count of faults rose.
 abbrev pub FaultAlone : {T : Type 0} → ℕ → ℕ → Result T JournalError → Type 0
@@ -65,7 +65,7 @@ HeadAnswers image (Err (Full end bound)) = ⊥
 
 -- What opening answers on a disk of which a read gives an image. Where the image is no journal that is told, unless
 -- the disk fails; memory is wanting only where it is one.
-abbrev pub OpenAnswers : List ℕ → ℕ → Result Standing JournalError → Type 0
+abbrev pub OpenAnswers : List ℕ → ℕ → Result JournalState JournalError → Type 0
 OpenAnswers image limit (Ok journal) = (refusal image ≡ None) × (journal ≡ when_opened image limit)
 OpenAnswers image limit (Err (NotAStore place found expected)) = refusal image ≡ Some (record { place = place; found = found; expected = expected })
 OpenAnswers image limit (Err DiskFault) = Unit {0}

@@ -28,7 +28,7 @@ difference place (expected ∷ wanted) (found ∷ octets) =
     if found == expected then difference (place + 1) wanted octets
     else Some (record { place = place; found = Some found; expected = expected })
 
--- Of an image with the header: it ends before the first gate, or the selected anchor names no place behind the anchors
+-- Of an image with the header: it ends before the first gate, or the selected anchor names no place after the anchors
 -- and within the image.
 abbrev pub misplaced : List ℕ → Option Refusal
 misplaced image =

@@ -3,6 +3,7 @@
 -- octets 25 to 32 the second; each names the place where an area starts, and areas start from 33 on. Numbers are
 -- big-endian.
 use Rattle.std.specs.Prelude.{ℕ, ◌==◌, Bool, not, List, [], ◌∷◌, ◌++◌, take, drop, slice_index, if◌then◌else◌}
+use Rattle.vf_journal.specs.declared.layout.TheConstants.{FIRST_START, SELECTOR}
 use Rattle.byteorder.specs.Endian.{big_bytes, big_number}
 
 -- `FTAMJNL1`, the number 2, and four zeros
@@ -10,7 +11,7 @@ abbrev pub header : List ℕ
 header = 70 ∷ 84 ∷ 65 ∷ 77 ∷ 74 ∷ 78 ∷ 76 ∷ 49 ∷ 0 ∷ 0 ∷ 0 ∷ 2 ∷ 0 ∷ 0 ∷ 0 ∷ 0 ∷ []
 
 abbrev pub selector_place : ℕ
-selector_place = 16
+selector_place = SELECTOR
 
 -- what is written there to select an anchor
 abbrev pub selector_of : Bool → ℕ
@@ -21,7 +22,7 @@ anchor_place second = if second then 25 else 17
 
 -- the least place at which an area starts
 abbrev pub first_start : ℕ
-first_start = 33
+first_start = FIRST_START
 
 -- a place in eight octets, and the place that the first eight of some octets name
 unfoldable pub place_octets : ℕ → List ℕ

@@ -1,9 +1,9 @@
 pub mod Layout
 pub mod Records
 pub mod Image
-pub mod Standing
+pub mod JournalState
 pub mod Answers
-pub mod Calls
 pub mod Writes
 pub mod Looking
 pub mod Reading
+pub mod Laws

@@ -6,7 +6,7 @@ ghost use Rattle.vf_disk.specs.Disk.{greatest_length};
 pub struct Area {
     /// The place of its first gate.
     pub start: u64,
-    /// The place behind its closed gate.
+    /// The place after its closed gate.
     pub end: u64,
     /// The length of its first record, 0 where it has none.
     pub first: u64,
@@ -15,7 +15,7 @@ pub struct Area {
 }
 
 impl Area {
-    ghost use Rattle.vf_journal.specs.Standing.{area_of, with_record};
+    ghost use Rattle.vf_journal.specs.JournalState.{area_of, with_record};
     ghost use Rattle.std.specs.Prelude.{[]};
 
     /// An area at a place, without a record.

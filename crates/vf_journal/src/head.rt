@@ -99,7 +99,7 @@ fn read_head<D: Disk>(disk: &mut D, length: u64) -> Result<Head, JournalError>
     requires { length ≡ D.size disk.old }
     ensures found { (image : List ℕ) → D.shown disk.old ≡ Some image → HeadAnswers image result }
     ensures placed { IfOk result (λ head. (first_start ≤ head.start) × (head.start < length) × (head.length ≡ length)) }
-    ensures looks { IsLookedAt D.shown D.size D.may_leave D.moment D.left_since D.plan (is_fault result) disk.old disk.new }
+    ensures looks { IsLookedAt D.shown D.size D.may_leave D.moment D.left_since D.plan D.state D.lack_count (is_fault result) disk.old disk.new }
     ensures causes { HeadCauses (D.fault_count disk.old) (D.fault_count disk.new) result }
 {
     let count = length.min(FIRST_START) as usize;
@@ -114,7 +114,7 @@ fn find_head<D: Disk>(disk: &mut D) -> Result<Head, JournalError>
     ensures found { (image : List ℕ) → D.shown disk.old ≡ Some image → HeadAnswers image result }
     ensures placed { IfOk result (λ head. (first_start ≤ head.start) × (head.start < head.length)) }
     ensures length { IfOk result (λ head. (head.length ≡ D.size disk.old) × (head.length ≤ greatest_length)) }
-    ensures looks { IsLookedAt D.shown D.size D.may_leave D.moment D.left_since D.plan (is_fault result) disk.old disk.new }
+    ensures looks { IsLookedAt D.shown D.size D.may_leave D.moment D.left_since D.plan D.state D.lack_count (is_fault result) disk.old disk.new }
     ensures causes { HeadCauses (D.fault_count disk.old) (D.fault_count disk.new) result }
 {
     let length = measure(disk)?;
@@ -128,7 +128,7 @@ pub(crate) fn sync_and_judge<D: Disk>(disk: &mut D) -> Result<Head, JournalError
     ensures placed { IfOk result (λ head. (first_start ≤ head.start) × (head.start < head.length)) }
     ensures length { IfOk result (λ head. (head.length ≡ D.size disk.new) × (head.length ≤ greatest_length)) }
     ensures synced { OnOk result (LeavesShown (D.shown disk.new) (D.may_leave disk.new)) }
-    ensures looks { IsSyncedAndLookedAt D.shown D.size D.may_leave D.moment D.left_since D.plan (is_fault result) disk.old disk.new }
+    ensures looks { IsSyncedAndLookedAt D.shown D.size D.may_leave D.moment D.left_since D.plan D.state D.lack_count (is_fault result) disk.old disk.new }
     ensures causes { HeadCauses (D.fault_count disk.old) (D.fault_count disk.new) result }
 {
     disk.sync()?;

@@ -1,17 +1,20 @@
 ghost use Rattle.std.specs.Prelude.{◌≡◌, ◌+◌, ◌-◌, ◌<◌, ◌≤◌, ◌⊎◌, [], ◌∷◌, ◌++◌, ℕ, List, None, Some, IsSome, OnOk, OnErr, IfOk, IfSome, length, is_err, max, not};
 ghost use Rattle.vf_disk.specs.Disk.{LeavesOnly, LeavesShown, greatest_length};
 ghost use Rattle.vf_journal.specs.Answers.{AppendAnswers, AppendCalls, FaultAlone, IsUntouched, OpenAnswers, OpenCauses, is_fault};
-ghost use Rattle.vf_journal.specs.Calls.{MakesChanges};
+ghost use Rattle.vf_disk.specs.Calls.{MakesChanges};
+ghost use Rattle.vf_disk.specs.Steps.{MakesSteps};
 ghost use Rattle.vf_journal.specs.Layout.{new_journal};
 ghost use Rattle.vf_journal.specs.Looking.{IsSyncedAndLookedAt};
 ghost use Rattle.vf_journal.specs.Records.{IsArea, IsEntry, area_with, entry_of, longest};
 ghost use Rattle.vf_journal.specs.Image.{Holds, HoldsEither, IsNoneOrNew, records_of};
-ghost use Rattle.vf_journal.specs.Writes.{Shows, appended, prepared as prepared_on, switched};
+ghost use Rattle.vf_journal.specs.Writes.{Shows, append_steps, appended, create_steps, prepare_steps, prepared as prepared_on, switch_steps, switched};
 
 use crate::area::Area;
 use crate::device::{write_both_synced, write_synced};
 use crate::head::sync_and_judge;
-use crate::layout::{FIRST_START, LONGEST, REST, SELECTOR, anchor_place, selector};
+use crate::layout::{
+    FIRST_START, MOST_LATER_OCTETS, MOST_RECORD_OCTETS, REST, SELECTOR, anchor_place, selector,
+};
 use crate::reading::read_records;
 use crate::{JournalError, Placing};
 use std::alloc::Global;
@@ -30,9 +33,9 @@ pub struct Journal {
 }
 
 impl Model for Journal {
-    ghost use Rattle.vf_journal.specs.Standing.{IsSound, Standing};
+    ghost use Rattle.vf_journal.specs.JournalState.{IsSound, JournalState};
 
-    ghost Value = { Standing };
+    ghost Value = { JournalState };
 
     ghost view = { λ journal. record { second = journal.second; area = journal.area; limit = journal.limit; prepared = journal.prepared } };
 
@@ -40,7 +43,7 @@ impl Model for Journal {
 }
 
 impl Journal {
-    ghost use Rattle.vf_journal.specs.Standing.{HasPrepared, IsWithin, StandsOn, after_append, after_prepare, after_switch, new_area, new_start, placing};
+    ghost use Rattle.vf_journal.specs.JournalState.{HasPrepared, IsWithin, StandsOn, after_append, after_prepare, after_switch, is_due, new_area, new_start, placing};
 
     /// Makes a journal without records on an empty disk, in six calls. A crash at any moment leaves no journal, or
     /// that one.
@@ -52,6 +55,7 @@ impl Journal {
         ensures synced { OnOk result (LeavesShown (D.shown disk.new) (D.may_leave disk.new)) }
         ensures any_moment { (octets : List ℕ) → D.shown disk.old ≡ Some octets → LeavesShown (D.shown disk.old) (D.may_leave disk.old) → LeavesOnly D.moment D.left_since disk.old disk.new IsNoneOrNew }
         ensures calls { MakesChanges 6 (D.plan disk.old) (D.plan disk.new) (is_err result) }
+        ensures steps { MakesSteps (create_steps) (D.plan disk.old) (D.plan disk.new) (D.state disk.old) (D.state disk.new) (is_err result) (D.lack_count disk.old) (D.lack_count disk.new) }
         ensures causes { FaultAlone (D.fault_count disk.old) (D.fault_count disk.new) result }
     {
         // The header is whole only with the last write, when all else stands on the disk.
@@ -62,7 +66,7 @@ impl Journal {
     }
 
     /// Syncs a disk and reads the journal on it, whose area is to end within `limit` octets. Puts the octets of its
-    /// records behind those in `records`, the oldest first; after an error none. One call of the disk is a sync, and
+    /// records after those in `records`, the oldest first; after an error none. One call of the disk is a sync, and
     /// the others look.
     ///
     /// `NotAStore` comes where the first 16 octets differ from the header, at the first such place; where they agree
@@ -78,10 +82,11 @@ impl Journal {
         ensures answers { (image : List ℕ) → D.shown disk.old ≡ Some image → OpenAnswers image limit result }
         ensures records { (image : List ℕ) → D.shown disk.old ≡ Some image → OnOk result (records.new.items ≡ records.old.items ++ records_of image) }
         ensures kept { OnErr result (records.new.items ≡ records.old.items) }
+        ensures limit { IfOk result (λ journal. journal.limit ≡ limit) }
         ensures stands { (image : List ℕ) (held : List (List ℕ)) → D.shown disk.old ≡ Some image → Holds image held → IfOk result (λ journal. StandsOn D.shown D.may_leave journal disk.new held) }
         ensures within { IfOk result (λ journal. IsWithin journal (D.size disk.new)) }
         ensures synced { OnOk result (LeavesShown (D.shown disk.new) (D.may_leave disk.new)) }
-        ensures looks { IsSyncedAndLookedAt D.shown D.size D.may_leave D.moment D.left_since D.plan (is_fault result) disk.old disk.new }
+        ensures looks { IsSyncedAndLookedAt D.shown D.size D.may_leave D.moment D.left_since D.plan D.state D.lack_count (is_fault result) disk.old disk.new }
         ensures causes { OpenCauses (D.fault_count disk.old) (D.fault_count disk.new) result }
     {
         let head = sync_and_judge(disk)?;
@@ -94,11 +99,28 @@ impl Journal {
         })
     }
 
-    /// The start and the end of the selected area, in octets; the end is the place behind its closed gate.
+    /// The start and the end of the selected area, in octets; the end is the place after its closed gate.
     pub fn area(&self) -> (u64, u64)
         ensures { result ≡ (self.now.area.start, self.now.area.end) }
     {
         (self.area.start, self.area.end)
+    }
+
+    /// The limit: no record is written that ends past so many octets.
+    pub fn limit(&self) -> u64
+        ensures { result ≡ self.now.limit }
+    {
+        self.limit
+    }
+
+    /// Whether a switch to a new area is due before a record of `length` octets is appended: the later records of the
+    /// area have more than 4,096 octets and more than the first one, or the record would end past the limit.
+    pub fn is_due(&self, length: u64) -> bool
+        requires { length ≤ longest }
+        ensures { result ≡ is_due self.now length }
+    {
+        self.area.later > MOST_LATER_OCTETS && self.area.first < self.area.later
+            || self.area.end + length + 5 > self.limit
     }
 
     /// Where a record of `length` octets is to stand, when a record that makes all tables has `snapshot` octets:
@@ -109,9 +131,7 @@ impl Journal {
         ensures { result ≡ placing self.now length snapshot }
     {
         let end = self.area.end + length + 5;
-        let is_due = self.area.later > 4096 && self.area.first < self.area.later
-            || end > self.limit;
-        if is_due && snapshot <= LONGEST {
+        if self.is_due(length) && snapshot <= MOST_RECORD_OCTETS {
             let count = snapshot + 6;
             let start = self.new_start(count);
             if start + count <= self.limit {
@@ -151,10 +171,12 @@ impl Journal {
         ensures any_moment { (item : List ℕ) (records : List (List ℕ)) → entry.now ≡ entry_of item → StandsOn D.shown D.may_leave self.old disk.old records
             → LeavesOnly D.moment D.left_since disk.old disk.new (HoldsEither records (records ++ item ∷ [])) }
         ensures moved { OnOk result (self.new ≡ after_append self.old (length entry.now - 5)) }
+        ensures limit { self.new.limit ≡ self.old.limit }
         ensures err { OnErr result (self.new ≡ self.old) }
         ensures full { IsUntouched disk.old disk.new result }
         ensures within { IsWithin self.new (D.size disk.new) }
         ensures calls { AppendCalls (D.plan disk.old) (D.plan disk.new) result }
+        ensures steps { self.old.area.end + length entry.now ≤ self.old.limit → MakesSteps (append_steps self.old.area.end entry.now) (D.plan disk.old) (D.plan disk.new) (D.state disk.old) (D.state disk.new) (is_err result) (D.lack_count disk.old) (D.lack_count disk.new) }
         ensures causes { AppendAnswers (self.old.area.end + length entry.now) self.old.limit (D.fault_count disk.old) (D.fault_count disk.new) result }
     {
         let end = self.area.end + entry.len() as u64;
@@ -185,9 +207,11 @@ impl Journal {
         ensures any_moment { (records : List (List ℕ)) → StandsOn D.shown D.may_leave self.old disk.old records
             → LeavesOnly D.moment D.left_since disk.old disk.new (λ image. Holds image records) }
         ensures moved { OnOk result (self.new ≡ after_prepare self.old (length area.now)) }
+        ensures limit { self.new.limit ≡ self.old.limit }
         ensures err { OnErr result (self.new ≡ self.old) }
         ensures within { IsWithin self.new (D.size disk.new) }
         ensures calls { MakesChanges 3 (D.plan disk.old) (D.plan disk.new) (is_err result) }
+        ensures steps { MakesSteps (prepare_steps (new_start self.old (length area.now)) area.now (not self.old.second)) (D.plan disk.old) (D.plan disk.new) (D.state disk.old) (D.state disk.new) (is_err result) (D.lack_count disk.old) (D.lack_count disk.new) }
         ensures causes { FaultAlone (D.fault_count disk.old) (D.fault_count disk.new) result }
     {
         let count = area.len() as u64;
@@ -217,9 +241,11 @@ impl Journal {
         ensures any_moment { (item : List ℕ) (records : List (List ℕ)) → StandsOn D.shown D.may_leave self.old disk.old records → HasPrepared D.shown self.old disk.old item
             → LeavesOnly D.moment D.left_since disk.old disk.new (HoldsEither records (item ∷ [])) }
         ensures moved { OnOk result (IfSome self.old.prepared (λ area. self.new ≡ after_switch self.old area)) }
+        ensures limit { self.new.limit ≡ self.old.limit }
         ensures err { OnErr result (self.new ≡ self.old) }
         ensures within { IsWithin self.new (D.size disk.new) }
         ensures calls { MakesChanges 2 (D.plan disk.old) (D.plan disk.new) (is_err result) }
+        ensures steps { MakesSteps (switch_steps (not self.old.second)) (D.plan disk.old) (D.plan disk.new) (D.state disk.old) (D.state disk.new) (is_err result) (D.lack_count disk.old) (D.lack_count disk.new) }
         ensures causes { FaultAlone (D.fault_count disk.old) (D.fault_count disk.new) result }
     {
         let Some(area) = self.prepared else {

@@ -17,8 +17,6 @@ pub use area::Area;
 pub use built::{built_area, built_entry};
 pub use error::JournalError;
 pub use journal::Journal;
-pub use laws::{held_is_read, new_holds_none, planned_fits};
+pub use laws::{built_lengths, held_is_read, new_holds_none, planned_fits, unplanned_end};
+pub use layout::{MOST_LATER_OCTETS, MOST_RECORD_OCTETS};
 pub use placing::Placing;
-
-#[cfg(test)]
-mod tests;

@@ -3,6 +3,6 @@
 pub struct Placing {
     /// The start of the new area, where a switch is due and possible.
     pub switch: Option<u64>,
-    /// The place behind the record and its gate.
+    /// The place after the record and its gate.
     pub end: u64,
 }

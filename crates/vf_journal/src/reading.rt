@@ -3,10 +3,10 @@ ghost use Rattle.std.specs.Prelude.{◌≡◌, ◌+◌, ◌-◌, ◌<◌, ◌≤
 ghost use Rattle.vf_disk.specs.Disk.{greatest_length};
 ghost use Rattle.vf_journal.specs.Answers.{ReadCauses, is_fault};
 ghost use Rattle.vf_journal.specs.Looking.{IsLookedAt};
-ghost use Rattle.vf_journal.specs.Reading.{BeginsWith, IsFront, IsWhole, StandsFrom, Takes};
+ghost use Rattle.vf_journal.specs.Reading.{BeginsWith, IsBeginning, IsWhole, StandsFrom, Takes};
 ghost use Rattle.vf_journal.specs.Layout.{first_start, length_named, part};
 ghost use Rattle.vf_journal.specs.Records.{first_record};
-ghost use Rattle.vf_journal.specs.Standing.{IsPlaced, area_of};
+ghost use Rattle.vf_journal.specs.JournalState.{IsPlaced, area_of};
 
 use crate::JournalError;
 use crate::area::Area;
@@ -19,8 +19,8 @@ use vf_disk::Disk;
 /// The octets that are read at a time.
 const BLOCK: u64 = 65_536;
 
-/// What stands at the front of octets that begin with a gate.
-pub(crate) enum Front {
+/// What stands first in octets that begin with a gate.
+pub(crate) enum Beginning {
     /// No record.
     End,
     /// The octets end before that can be told, or before the record and its gate do.
@@ -38,7 +38,7 @@ fn named_length(octets: &[u8]) -> u32
     BigEndian::read_u32(octets)
 }
 
-/// The length of the record behind a gate, where it stands there whole with the next gate: by the first octets from
+/// The length of the record after a gate, where it stands there whole with the next gate: by the first octets from
 /// the gate on, of which there are `left`.
 fn record_length(octets: &[u8], left: u64) -> Option<u32>
     requires octets { 5 ≤ length octets.now }
@@ -50,37 +50,37 @@ fn record_length(octets: &[u8], left: u64) -> Option<u32>
     if octets[0] == 0 || left < 6 {
         return None;
     }
-    let (_, behind) = octets.split_at(1);
-    let count = named_length(behind);
+    let (_, rest) = octets.split_at(1);
+    let count = named_length(rest);
     if left - 6 < u64::from(count) {
         return None;
     }
     Some(count)
 }
 
-/// What stands at the front of these octets, where `left` stand from the gate on.
-pub(crate) fn front_of(octets: &[u8], left: u64) -> Front
+/// What stands first in these octets, where `left` stand from the gate on.
+pub(crate) fn beginning_of(octets: &[u8], left: u64) -> Beginning
     requires { length octets.now ≤ left }
-    ensures front { (all : List ℕ) → BeginsWith octets.now left all → IsFront result octets.now all }
+    ensures beginning { (all : List ℕ) → BeginsWith octets.now left all → IsBeginning result octets.now all }
     ensures whole { IsWhole result (length octets.now) }
 {
     if left < 6 {
-        return Front::End;
+        return Beginning::End;
     }
     if octets.len() < 5 {
-        return Front::Cut;
+        return Beginning::Cut;
     }
     let Some(count) = record_length(octets, left) else {
-        return Front::End;
+        return Beginning::End;
     };
     let count = count as usize;
     if octets.len() - 5 <= count {
-        return Front::Cut;
+        return Beginning::Cut;
     }
-    Front::Record(count)
+    Beginning::Record(count)
 }
 
-/// Takes the whole records at the front of a block, which begins with the closing gate of the area so far; `left`
+/// Takes the first whole records of a block, which begins with the closing gate of the area so far; `left`
 /// octets stand from that gate on. Answers the area with them, and whether the block ended first.
 pub(crate) fn take_records(
     alloc: Global,
@@ -100,17 +100,17 @@ pub(crate) fn take_records(
     let mut left = left;
     let mut area = area;
     loop {
-        match front_of(rest, left) {
-            Front::End => return Ok((area, false)),
-            Front::Cut => return Ok((area, true)),
-            Front::Record(count) => {
-                let (record, behind) = rest.split_at(5 + count);
+        match beginning_of(rest, left) {
+            Beginning::End => return Ok((area, false)),
+            Beginning::Cut => return Ok((area, true)),
+            Beginning::Record(count) => {
+                let (record, others) = rest.split_at(5 + count);
                 let (_, octets) = record.split_at(5);
                 let octets = Octets::of(alloc, octets)?;
                 records.push(octets)?;
                 area = area.with(count as u64);
                 left -= 5 + count as u64;
-                rest = behind;
+                rest = others;
             }
         }
     }
@@ -127,7 +127,7 @@ fn read_octets<D: Disk>(
     requires count { count < 2 ^ 32 }
     ensures octets { (image : List ℕ) → D.shown disk.old ≡ Some image → IfOk result (λ octets. octets ≡ part image at count) }
     ensures count { IfOk result (λ octets. size_of octets ≡ count) }
-    ensures looks { IsLookedAt D.shown D.size D.may_leave D.moment D.left_since D.plan (is_fault result) disk.old disk.new }
+    ensures looks { IsLookedAt D.shown D.size D.may_leave D.moment D.left_since D.plan D.state D.lack_count (is_fault result) disk.old disk.new }
     ensures causes { ReadCauses (D.fault_count disk.old) (D.fault_count disk.new) result }
 {
     let mut octets = vec![in alloc; 0; count as usize]?;
@@ -136,7 +136,7 @@ fn read_octets<D: Disk>(
     Ok(octets)
 }
 
-/// The record behind the gate at a place of a disk of so many octets, read by itself.
+/// The record after the gate at a place of a disk of so many octets, read by itself.
 fn read_record<D: Disk>(
     alloc: Global,
     disk: &mut D,
@@ -147,7 +147,7 @@ fn read_record<D: Disk>(
     requires length { length ≡ D.size disk.old }
     ensures found { (image : List ℕ) → D.shown disk.old ≡ Some image → IfOk result (λ found. found ≡ option_map (λ item. item.0) (first_record (drop gate image))) }
     ensures bound { IfOk result (λ found. IfSome found (λ item. gate + size_of item + 6 ≤ length)) }
-    ensures looks { IsLookedAt D.shown D.size D.may_leave D.moment D.left_since D.plan (is_fault result) disk.old disk.new }
+    ensures looks { IsLookedAt D.shown D.size D.may_leave D.moment D.left_since D.plan D.state D.lack_count (is_fault result) disk.old disk.new }
     ensures causes { ReadCauses (D.fault_count disk.old) (D.fault_count disk.new) result }
 {
     let left = length - gate;
@@ -180,7 +180,7 @@ fn take_block<D: Disk>(
     requires placed { IsPlaced area }
     ensures taken { IfOk result (λ found. Takes (StandsFrom (D.shown disk.old) (area.end - 1)) records.old.items records.new.items (length - (area.end - 1)) area found.0 found.1) }
     ensures kept { OnErr result (take (size_of records.old.items) records.new.items ≡ records.old.items) }
-    ensures looks { IsLookedAt D.shown D.size D.may_leave D.moment D.left_since D.plan (is_fault result) disk.old disk.new }
+    ensures looks { IsLookedAt D.shown D.size D.may_leave D.moment D.left_since D.plan D.state D.lack_count (is_fault result) disk.old disk.new }
     ensures causes { ReadCauses (D.fault_count disk.old) (D.fault_count disk.new) result }
 {
     let gate = area.end - 1;
@@ -207,7 +207,7 @@ fn take_alone<D: Disk>(
     ensures taken { IfOk result (λ found. Takes (StandsFrom (D.shown disk.old) (area.end - 1)) records.old.items records.new.items (length - (area.end - 1)) area found.0 found.1) }
     ensures goes_on { IfOk result (λ found. IsTrue found.1 → area.end < found.0.end) }
     ensures kept { OnErr result (take (size_of records.old.items) records.new.items ≡ records.old.items) }
-    ensures looks { IsLookedAt D.shown D.size D.may_leave D.moment D.left_since D.plan (is_fault result) disk.old disk.new }
+    ensures looks { IsLookedAt D.shown D.size D.may_leave D.moment D.left_since D.plan D.state D.lack_count (is_fault result) disk.old disk.new }
     ensures causes { ReadCauses (D.fault_count disk.old) (D.fault_count disk.new) result }
 {
     let Some(record) = read_record(alloc, disk, area.end - 1, length)? else {
@@ -219,7 +219,7 @@ fn take_alone<D: Disk>(
 }
 
 /// Takes the whole records of the next block, or else the one record that is longer than a block. Answers the area
-/// with them, and whether more may stand behind.
+/// with them, and whether more may follow.
 fn take_more<D: Disk>(
     alloc: Global,
     disk: &mut D,
@@ -236,7 +236,7 @@ fn take_more<D: Disk>(
     ensures taken { IfOk result (λ found. Takes (StandsFrom (D.shown disk.old) (area.end - 1)) records.old.items records.new.items (length - (area.end - 1)) area found.0 found.1) }
     ensures goes_on { IfOk result (λ found. IsTrue found.1 → area.end < found.0.end) }
     ensures kept { OnErr result (take (size_of records.old.items) records.new.items ≡ records.old.items) }
-    ensures looks { IsLookedAt D.shown D.size D.may_leave D.moment D.left_since D.plan (is_fault result) disk.old disk.new }
+    ensures looks { IsLookedAt D.shown D.size D.may_leave D.moment D.left_since D.plan D.state D.lack_count (is_fault result) disk.old disk.new }
     ensures causes { ReadCauses (D.fault_count disk.old) (D.fault_count disk.new) result }
 {
     let (found, more) = take_block(alloc, disk, block, length, area, records)?;
@@ -250,7 +250,7 @@ fn take_more<D: Disk>(
     Ok((found, more))
 }
 
-/// Reads the records of the area that starts at a place of a disk of so many octets, and puts them behind others.
+/// Reads the records of the area that starts at a place of a disk of so many octets, and puts them after others.
 pub(crate) fn read_area<D: Disk>(
     alloc: Global,
     disk: &mut D,
@@ -266,7 +266,7 @@ pub(crate) fn read_area<D: Disk>(
     ensures placed { IfOk result IsPlaced }
     ensures end { IfOk result (λ area. area.end ≤ length) }
     ensures kept { OnErr result (take (size_of records.old.items) records.new.items ≡ records.old.items) }
-    ensures looks { IsLookedAt D.shown D.size D.may_leave D.moment D.left_since D.plan (is_fault result) disk.old disk.new }
+    ensures looks { IsLookedAt D.shown D.size D.may_leave D.moment D.left_since D.plan D.state D.lack_count (is_fault result) disk.old disk.new }
     ensures causes { ReadCauses (D.fault_count disk.old) (D.fault_count disk.new) result }
 {
     let room = (length - start).min(BLOCK) as usize;
@@ -281,7 +281,7 @@ pub(crate) fn read_area<D: Disk>(
     Ok(area)
 }
 
-/// The same, but after an error no record stands behind the others.
+/// The same, but after an error no record stands after the others.
 pub(crate) fn read_records<D: Disk>(
     alloc: Global,
     disk: &mut D,
@@ -297,7 +297,7 @@ pub(crate) fn read_records<D: Disk>(
     ensures placed { IfOk result IsPlaced }
     ensures end { IfOk result (λ area. area.end ≤ length) }
     ensures kept { OnErr result (records.new.items ≡ records.old.items) }
-    ensures looks { IsLookedAt D.shown D.size D.may_leave D.moment D.left_since D.plan (is_fault result) disk.old disk.new }
+    ensures looks { IsLookedAt D.shown D.size D.may_leave D.moment D.left_since D.plan D.state D.lack_count (is_fault result) disk.old disk.new }
     ensures causes { ReadCauses (D.fault_count disk.old) (D.fault_count disk.new) result }
 {
     let before = records.len();

@@ -1,4 +1,4 @@
-use Rattle.vf_journal.specs.Standing.{IsWithin}
+use Rattle.vf_journal.specs.JournalState.{IsWithin}
 use Rattle.journal.proofs.append_all.Given as goal
 
 abbrev pub invariant-loop-done : goal.invariant-loop-done

@@ -1,5 +1,5 @@
-use Rattle.vf_journal.proofs.Planned.{planned_within}
+use Rattle.vf_journal.proofs.Planned.{planned}
 use Rattle.vf_journal.proofs.laws.planned_fits.Goals as goal
 
 pub returns : goal.returns
-returns c = planned_within
+returns c = planned

@@ -15,7 +15,7 @@ returns-then-left-lt6-clause-found g c = λ image shows.
 pub returns-in_err-record-clause-looks : goal.returns-in_err-record-clause-looks
 returns-in_err-record-clause-looks g c =
     let p = err_from_is_err_and c.from_residual-in_err-record.result c.from_residual-in_err-record.ensures.1 in
-    rw (p.1, p.2) (looked_then g.D.Disk.shown g.D.Disk.size g.D.Disk.may_leave g.D.Disk.moment g.D.Disk.left_since g.D.Disk.plan c.args.disk.now c.read_at.new.disk c.read_octets.new.disk (is_fault {T = Unit {0}} (Err c.in_err-record.field-0.0)) c.in_ok-read_at.ensures.looks c.in_err-record.ensures.looks)
+    rw (p.1, p.2) (looked_then g.D.Disk.shown g.D.Disk.size g.D.Disk.may_leave g.D.Disk.moment g.D.Disk.left_since g.D.Disk.plan g.D.Disk.state g.D.Disk.lack_count c.args.disk.now c.read_at.new.disk c.read_octets.new.disk (is_fault {T = Unit {0}} (Err c.in_err-record.field-0.0)) c.in_ok-read_at.ensures.looks c.in_err-record.ensures.looks)
 
 pub returns-clause-found : goal.returns-clause-found
 returns-clause-found g c = λ image shows.
@@ -29,4 +29,4 @@ returns-clause-found g c = λ image shows.
     record_read image c.in_ok-record.record c.args.gate c.in-Some.count _ found (read ∙ ap (λ (n : ℕ). part image (c.args.gate + 5) n) c.from.ensures)
 
 pub returns-clause-looks : goal.returns-clause-looks
-returns-clause-looks g c = looked_then g.D.Disk.shown g.D.Disk.size g.D.Disk.may_leave g.D.Disk.moment g.D.Disk.left_since g.D.Disk.plan c.args.disk.now c.read_at.new.disk c.read_octets.new.disk false c.in_ok-read_at.ensures.looks c.in_ok-record.ensures.looks
+returns-clause-looks g c = looked_then g.D.Disk.shown g.D.Disk.size g.D.Disk.may_leave g.D.Disk.moment g.D.Disk.left_since g.D.Disk.plan g.D.Disk.state g.D.Disk.lack_count c.args.disk.now c.read_at.new.disk c.read_octets.new.disk false c.in_ok-read_at.ensures.looks c.in_ok-record.ensures.looks

@@ -1,5 +1,5 @@
 use Rattle.std.proofs.Common.{◌-◌, arith, ap, sym, ◌∙◌}
-use Rattle.vf_journal.specs.Standing.{with_record}
+use Rattle.vf_journal.specs.JournalState.{with_record}
 use Rattle.vf_journal.proofs.Takings.{alone_none, alone_some}
 use Rattle.vf_journal.proofs.reading.take_alone.Goals as goal
 

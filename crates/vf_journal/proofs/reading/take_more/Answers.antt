@@ -9,10 +9,10 @@ use Rattle.vf_journal.proofs.reading.take_more.Goals as goal
 pub returns-in_err-found-2-clause-looks : goal.returns-in_err-found-2-clause-looks
 returns-in_err-found-2-clause-looks g c =
     let p = err_from_is_err_and c.from_residual-in_err-found-2.result c.from_residual-in_err-found-2.ensures.1 in
-    rw (p.1, p.2) (looked_then g.D.Disk.shown g.D.Disk.size g.D.Disk.may_leave g.D.Disk.moment g.D.Disk.left_since g.D.Disk.plan c.args.disk.now c.take_block.new.disk c.take_alone.new.disk (is_fault {T = Unit {0}} (Err c.in_err-found-2.field-0.0)) c.in_ok-found.ensures.looks c.in_err-found-2.ensures.looks)
+    rw (p.1, p.2) (looked_then g.D.Disk.shown g.D.Disk.size g.D.Disk.may_leave g.D.Disk.moment g.D.Disk.left_since g.D.Disk.plan g.D.Disk.state g.D.Disk.lack_count c.args.disk.now c.take_block.new.disk c.take_alone.new.disk (is_fault {T = Unit {0}} (Err c.in_err-found-2.field-0.0)) c.in_ok-found.ensures.looks c.in_err-found-2.ensures.looks)
 
 pub returns-clause-looks : goal.returns-clause-looks
-returns-clause-looks g c = looked_then g.D.Disk.shown g.D.Disk.size g.D.Disk.may_leave g.D.Disk.moment g.D.Disk.left_since g.D.Disk.plan c.args.disk.now c.take_block.new.disk c.take_alone.new.disk false c.in_ok-found.ensures.looks c.in_ok-found-2.ensures.looks
+returns-clause-looks g c = looked_then g.D.Disk.shown g.D.Disk.size g.D.Disk.may_leave g.D.Disk.moment g.D.Disk.left_since g.D.Disk.plan g.D.Disk.state g.D.Disk.lack_count c.args.disk.now c.take_block.new.disk c.take_alone.new.disk false c.in_ok-found.ensures.looks c.in_ok-found-2.ensures.looks
 
 pub returns-clause-taken : goal.returns-clause-taken
 returns-clause-taken g c =

@@ -1,5 +1,6 @@
 use Rattle.std.proofs.Common.{◌≡◌, List, ℕ, sym, subst, rules}
-use Rattle.vf_disk.specs.Memory.{IsImage, left_by, state}
+use Rattle.vf_disk.specs.Memory.{state}
+use Rattle.vf_disk.specs.State.{IsImage, left_by}
 use Rattle.vf_disk.proofs.Images.{is_sound, form_image}
 use Rattle.vf_disk.proofs.memory_disk.MemoryDisk.crash.Goals as goal
 

@@ -1,7 +1,8 @@
 use Rattle.std.proofs.Common.{◌≡◌, true, take, drop, rules}
 use Rattle.std.specs.Prelude.{fold}
 use Rattle.std.specs.List.{list_all}
-use Rattle.vf_disk.specs.Memory.{is_change, settled, state_of}
+use Rattle.vf_disk.specs.Memory.{is_change}
+use Rattle.vf_disk.specs.State.{settled, state_of}
 use Rattle.vf_disk.specs.Replay.{make, mark}
 use Rattle.vf_disk.proofs.Forms.{lost, kept, marked}
 use Rattle.vf_disk.proofs.memory_disk.MemoryDisk.image.Goals as goal

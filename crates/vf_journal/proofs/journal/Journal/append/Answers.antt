@@ -1,11 +1,14 @@
-use Rattle.std.proofs.Common.{◌+◌, ◌-◌, ◌≤◌, None, length, true, arith, ap, sym, subst}
+use Rattle.std.proofs.Common.{◌+◌, ◌-◌, ◌≤◌, [], ◌∷◌, None, length, true, false, arith, ap, sym, subst}
 use Rattle.std.proofs.lemmas.Result.{err_from_is_err_and}
 use Rattle.vf_disk.specs.Disk.{greatest_length}
-use Rattle.vf_journal.specs.Standing.{IsSound}
+use Rattle.vf_disk.proofs.Rows.{steps_failed, steps_joined}
+use Rattle.vf_journal.specs.Writes.{written_steps}
+use Rattle.vf_journal.specs.JournalState.{IsSound}
 use Rattle.vf_journal.specs.declared.area.Area.{Area}
-use Rattle.vf_journal.proofs.Appending.{append_done, append_opened, append_seen, append_seen_first, append_staged, length-entry_of}
+use Rattle.vf_journal.proofs.Appending.{append_done, append_opened, append_seen, append_seen_first, append_staged}
+use Rattle.vf_journal.proofs.Lengths.{length-entry_of}
 use Rattle.vf_journal.proofs.Counts.{placed_more}
-use Rattle.vf_journal.proofs.Plans.{changes_joined}
+use Rattle.vf_disk.proofs.CallCounts.{changes_joined}
 use Rattle.vf_journal.proofs.journal.Journal.append.Goals as goal
 
 pub returns-in_err-write_synced-clause-any_moment : goal.returns-in_err-write_synced-clause-any_moment
@@ -68,3 +71,22 @@ returns-clause-seen g c = rw (← c.self.view_is) (λ item records is on.
 
 pub returns-clause-shown : goal.returns-clause-shown
 returns-clause-shown g c = rw (← c.self.view_is) (λ image shows. c.in_ok-write_synced-2.ensures.shown _ (c.in_ok-write_synced.ensures.shown image shows))
+
+pub returns-in_err-write_synced-clause-steps : goal.returns-in_err-write_synced-clause-steps
+returns-in_err-write_synced-clause-steps g c =
+    let p = err_from_is_err_and c.from_residual.result c.from_residual.ensures.1 in
+    rw (p.1, ← c.self.view_is) (λ within. steps_failed (written_steps c.self.inside.area.end c.args.entry.now) (written_steps (c.self.inside.area.end - 1) (1 ∷ [])) (g.D.Disk.plan c.args.disk.now) (g.D.Disk.plan c.write_synced.new.disk) (g.D.Disk.state c.args.disk.now) (g.D.Disk.state c.write_synced.new.disk)
+    (g.D.Disk.lack_count c.args.disk.now) (g.D.Disk.lack_count c.write_synced.new.disk) (c.in_err-write_synced.ensures.steps))
+
+pub returns-in_err-write_synced-2-clause-steps : goal.returns-in_err-write_synced-2-clause-steps
+returns-in_err-write_synced-2-clause-steps g c =
+    let p = err_from_is_err_and c.from_residual-in_err-write_synced-2.result c.from_residual-in_err-write_synced-2.ensures.1 in
+    rw (p.1, ← c.self.view_is) (λ within. steps_joined (written_steps c.self.inside.area.end c.args.entry.now) (written_steps (c.self.inside.area.end - 1) (1 ∷ [])) (g.D.Disk.plan c.args.disk.now) (g.D.Disk.plan c.write_synced.new.disk) (g.D.Disk.plan c.write_synced-2.new.disk)
+    (g.D.Disk.state c.args.disk.now) (g.D.Disk.state c.write_synced.new.disk) (g.D.Disk.state c.write_synced-2.new.disk) true (g.D.Disk.lack_count c.args.disk.now) (g.D.Disk.lack_count c.write_synced.new.disk) (g.D.Disk.lack_count c.write_synced-2.new.disk)
+    (c.in_ok-write_synced.ensures.steps) (c.in_err-write_synced-2.ensures.steps))
+
+pub returns-clause-steps : goal.returns-clause-steps
+returns-clause-steps g c =
+    rw (← c.self.view_is) (λ within. steps_joined (written_steps c.self.inside.area.end c.args.entry.now) (written_steps (c.self.inside.area.end - 1) (1 ∷ [])) (g.D.Disk.plan c.args.disk.now) (g.D.Disk.plan c.write_synced.new.disk) (g.D.Disk.plan c.write_synced-2.new.disk)
+    (g.D.Disk.state c.args.disk.now) (g.D.Disk.state c.write_synced.new.disk) (g.D.Disk.state c.write_synced-2.new.disk) false (g.D.Disk.lack_count c.args.disk.now) (g.D.Disk.lack_count c.write_synced.new.disk) (g.D.Disk.lack_count c.write_synced-2.new.disk)
+    (c.in_ok-write_synced.ensures.steps) (c.in_ok-write_synced-2.ensures.steps))
