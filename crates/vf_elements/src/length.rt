@@ -14,8 +14,8 @@ pub fn spelled_length(element: &Element) -> u64
         Element::Descriptor { name, filled } => with_header(descriptor_length(name, *filled)),
         Element::Enter => 2,
         Element::Exit => 2,
-        Element::Text { octets, .. } => with_header(octets.len() as u64),
-        Element::Binary { octets } => with_header(octets.len() as u64),
+        Element::Text { octets, .. } => with_header(octets.as_slice().len() as u64),
+        Element::Binary { octets } => with_header(octets.as_slice().len() as u64),
     }
 }
 

@@ -13,8 +13,8 @@ mod writing;
 
 pub use elements::of_value;
 pub use laws::{
-    meaning_has_no_fault, meaning_is_found, meaning_is_one, meaning_is_writable, value_is_within, value_means,
-    written_is_read_again,
+    meaning_has_no_fault, meaning_is_found, meaning_is_one, meaning_is_writable, value_is_within,
+    value_means, written_is_read_again,
 };
 pub use length::spelled_length;
 pub use message::{Message, Said};
