@@ -1,0 +1,5 @@
+//! Tests of the public calls of the lower layers.
+#![tactic(auto)]
+
+#[cfg(test)]
+mod upper;
