@@ -190,7 +190,7 @@ fn written(
     primitive: &Primitive,
     contexts: &Contexts,
 ) -> Result<Option<Vec<u8>>, NoMemory> {
-    if !is_writable(alloc, primitive, contexts)? {
+    if !is_writable(primitive, contexts) {
         return Ok(None);
     }
     let mut out = Vec::new(alloc);

@@ -1,5 +1,5 @@
 //! Primitive values of integers, octets and object identifiers.
-ghost use Rattle.std.specs.Prelude.{◌≡◌, ◌++◌, IfOk, OnOk};
+ghost use Rattle.std.specs.Prelude.{◌≡◌, ◌≤◌, ◌++◌, IfOk, length, OnOk};
 ghost use Rattle.vf_ber.specs.Contents.{arc_octets, boolean_octets, integer_octets, is_redundant as redundancy, oid_octets, shortened as shortest};
 ghost use Rattle.std.specs.List.{flat_map};
 ghost use Rattle.vf_ber.specs.Tree.{plain};
@@ -43,9 +43,18 @@ impl Value {
     }
 }
 
+/// The number of octets of an integer's contents.
+pub fn integer_len(n: i64) -> u32
+    ensures len { result ≡ length (integer_octets n) }
+    ensures small { result ≤ 8 }
+{
+    shortened(&n.to_be_bytes()).len() as u32
+}
+
 /// Without the first octets that add nothing in two's complement.
 fn shortened(octets: &[u8]) -> &[u8]
-    ensures { result.now ≡ shortest octets.now }
+    ensures value { result.now ≡ shortest octets.now }
+    ensures shorter { length result.now ≤ length octets.now }
 {
     let mut rest = octets;
     while is_redundant(rest) {

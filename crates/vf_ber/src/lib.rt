@@ -18,6 +18,7 @@ mod tag;
 mod value;
 mod writing;
 
+pub use contents::integer_len;
 pub use contents_laws::{
     booleans_are_read, integers_are_read, integers_are_spelled, oids_are_read, oids_are_spelled,
 };
@@ -27,6 +28,7 @@ pub use laws::{
     written_is_read_again,
 };
 pub use limits::MOST_DEPTH;
+pub use measure::spelled_len;
 pub use primitive::{boolean, integer, integer_from, oid, oid_from};
 pub use reader::{read, read_shared};
 pub use segments::octets;

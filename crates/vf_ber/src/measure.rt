@@ -44,6 +44,15 @@ fn length_len(len: u32) -> u32
     }
 }
 
+/// The number of octets of the canonical spelling; `None` exactly where the value is deeper than `depth` or its spelling
+/// longer than `room`. It takes no memory.
+pub fn spelled_len(value: &Value, depth: u32, room: u32) -> Option<u32>
+    requires { room ≤ MOST_VALUE_OCTETS }
+    ensures { result ≡ measured depth room (tree_of value.now) }
+{
+    measure(value, depth, room)
+}
+
 /// The length of the canonical spelling, unless the value is deeper than `depth` or its spelling is longer
 /// than `room`.
 #[cycle(measure)]

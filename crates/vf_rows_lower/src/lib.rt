@@ -9,3 +9,5 @@ mod session;
 mod spdus;
 #[cfg(test)]
 mod transport;
+#[cfg(test)]
+mod upper;

@@ -13,7 +13,7 @@ use Rattle.vf_upper.specs.declared.primitive.Primitive.{Primitive}
 use Rattle.vf_upper.specs.declared.primitive.Primitive.TheVariants.{Associate, Accepted, Refused, Release, Released, Data, Abort}
 use Rattle.vf_upper.specs.CarriedCode.{Carried}
 use Rattle.vf_upper.specs.Laws.{AreCarried, AreContexts, carrier_of, IsCarried, IsPrimitive}
-use Rattle.vf_upper.specs.Primitives.{offered, Standing}
+use Rattle.vf_upper.specs.Primitives.{offered, Negotiated}
 use Rattle.vf_upper.specs.Written.{accepted, has_pdu, holding, is_empty, IsWritable, universal, written}
 use Rattle.vf_upper.proofs.Marked.{marks_of}
 use Rattle.vf_upper.proofs.Parts.{first_of, is_low}
@@ -22,45 +22,45 @@ use Rattle.vf_upper.proofs.TypesRead.{acse_data-reads, all_data-reads, aru-reads
 use Rattle.vf_upper.proofs.WrittenTrees.{acse_id-fits, sequence-tree, written-tree}
 use Rattle.vf_upper_grammar.specs.declared.labels.NumberLabel.{NumberLabel}
 use Rattle.vf_upper_grammar.specs.declared.labels.NumberLabel.TheVariants.{AnyContext, PciContext}
-use Rattle.vf_upper_grammar.specs.Forms.{has_tag, Finding, Tags}
+use Rattle.vf_upper_grammar.specs.Forms.{has_tag, Form, Tags}
 use Rattle.vf_upper_grammar.specs.Marks.{Mark}
 use Rattle.vf_upper_grammar.specs.Texts.{typed}
 use Rattle.vf_upper_grammar.specs.Types as types
-use Rattle.vf_upper_grammar.specs.Types.{cargo_of, found_in}
+use Rattle.vf_upper_grammar.specs.Types.{user_data_of, found_in}
 
-read-alone : (tags : Tags) (read : Finding) (tree : Tree) (marks : List Mark) → has_tag tags (first_of tree) ≡ true → is_low (root tree) ≡ true → Reads read tree marks → IsSound tree
+read-alone : (tags : Tags) (read : Form) (tree : Tree) (marks : List Mark) → has_tag tags (first_of tree) ≡ true → is_low (root tree) ≡ true → Reads read tree marks → IsSound tree
     → typed tags read (spell tree) [] ≡ Ok marks
 read-alone tags read tree marks has low reads sound = let all = typed-reads tags read has low reads in all.finds [] sound
 
 -- where values are one PDU, what is read of a list of one is read of them
-pdu-reads : (read : Finding) (tree : List Carried → Tree) (marks : List Carried → List Mark) → ((v : Carried) → IsCarried v → Reads read (tree (v ∷ [])) (marks (v ∷ [])))
-    → (standing : List Standing) (contexts : List ContextEntry) (label : NumberLabel) (values : List Carried) → has_pdu standing contexts label values ≡ true → AreCarried values
+pdu-reads : (read : Form) (tree : List Carried → Tree) (marks : List Carried → List Mark) → ((v : Carried) → IsCarried v → Reads read (tree (v ∷ [])) (marks (v ∷ [])))
+    → (negotiated : List Negotiated) (contexts : List ContextEntry) (label : NumberLabel) (values : List Carried) → has_pdu negotiated contexts label values ≡ true → AreCarried values
     → Reads read (tree values) (marks values)
-pdu-reads read tree marks reads standing contexts label [] has are = absurd (cc)
-pdu-reads read tree marks reads standing contexts label (v ∷ []) has are = reads v (All-head IsCarried v [] are)
-pdu-reads read tree marks reads standing contexts label (v ∷ other ∷ values) has are = absurd (cc)
+pdu-reads read tree marks reads negotiated contexts label [] has are = absurd (cc)
+pdu-reads read tree marks reads negotiated contexts label (v ∷ []) has are = reads v (All-head IsCarried v [] are)
+pdu-reads read tree marks reads negotiated contexts label (v ∷ other ∷ values) has are = absurd (cc)
 
 -- the same of a primitive with these values
-pdu-found : (tags : Tags) (read : Finding) (primitive : List Carried → Primitive) (contexts : List ContextEntry)
+pdu-found : (tags : Tags) (read : Form) (primitive : List Carried → Primitive) (contexts : List ContextEntry)
     → ((v : Carried) → IsCarried v → Reads read (written (primitive (v ∷ [])) contexts) (marks_of (primitive (v ∷ [])) contexts))
-    → (standing : List Standing) (label : NumberLabel) (values : List Carried) → has_pdu standing contexts label values ≡ true → AreCarried values
+    → (negotiated : List Negotiated) (label : NumberLabel) (values : List Carried) → has_pdu negotiated contexts label values ≡ true → AreCarried values
     → has_tag tags (first_of (written (primitive values) contexts)) ≡ true → is_low (root (written (primitive values) contexts)) ≡ true
     → IsPrimitive (primitive values) → ¬ IsTooLarge (written (primitive values) contexts)
     → typed tags read (spell (written (primitive values) contexts)) [] ≡ Ok (marks_of (primitive values) contexts)
-pdu-found tags read primitive contexts reads standing label values has are tag low is small =
+pdu-found tags read primitive contexts reads negotiated label values has are tag low is small =
     read-alone tags read (written (primitive values) contexts) (marks_of (primitive values) contexts) tag low
-    (pdu-reads read (λ vs. written (primitive vs) contexts) (λ vs. marks_of (primitive vs) contexts) reads standing contexts label values has are)
+    (pdu-reads read (λ vs. written (primitive vs) contexts) (λ vs. marks_of (primitive vs) contexts) reads negotiated contexts label values has are)
     (record { is_tree = written-tree (primitive values) contexts is; small = small })
 
 refused-found : (results : List Bool) (values : List Carried) (contexts : List ContextEntry) → AreCarried values → AreContexts contexts
     → has_pdu (accepted contexts) contexts PciContext values ≡ true → ¬ IsTooLarge (written (Refused results values) contexts)
-    → found_in (cargo_of (carrier_of (Refused results values))) (spell (written (Refused results values) contexts)) ≡ Ok (marks_of (Refused results values) contexts)
+    → found_in (user_data_of (carrier_of (Refused results values))) (spell (written (Refused results values) contexts)) ≡ Ok (marks_of (Refused results values) contexts)
 refused-found results values contexts is are has small =
     pdu-found (types.universal 16) types.cpr (Refused results) contexts (λ v is_v. cpr-reads results contexts v (acse_id-fits contexts are) is_v)
     (accepted contexts) PciContext values has is refl refl is small
 
 pub written_found : (p : Primitive) (contexts : List ContextEntry) → IsPrimitive p → AreContexts contexts → IsWritable p contexts → is_empty p ≡ false
-    → found_in (cargo_of (carrier_of p)) (spell (written p contexts)) ≡ Ok (marks_of p contexts)
+    → found_in (user_data_of (carrier_of p)) (spell (written p contexts)) ≡ Ok (marks_of p contexts)
 written_found (Associate offers values) contexts is are writable some =
     let placed = and_parts (list_all (λ offer. offer.ber) offers) (has_pdu (map offered offers) contexts PciContext values) writable.placed in
     pdu-found (types.universal 17) types.cp (Associate offers) contexts (λ v is_v. cp-reads offers contexts v is.0 (acse_id-fits contexts are) is_v)
@@ -91,7 +91,7 @@ written_found (Abort (v ∷ values)) contexts is are writable some =
 -- the same of one value within the SEQUENCE of a resynchronization, whose response has the same type
 pub sequence_found : (value : Carried) (contexts : List ContextEntry) → IsCarried value → IsWritable (Data (value ∷ [])) contexts
     → ¬ IsTooLarge (holding (universal 16) (written (Data (value ∷ [])) contexts ∷ []))
-    → found_in (cargo_of RS) (spell (holding (universal 16) (written (Data (value ∷ [])) contexts ∷ []))) ≡ Ok (marks_of (Data (value ∷ [])) contexts)
+    → found_in (user_data_of RS) (spell (holding (universal 16) (written (Data (value ∷ [])) contexts ∷ []))) ≡ Ok (marks_of (Data (value ∷ [])) contexts)
 sequence_found value contexts is writable small =
     read-alone (types.universal 16) types.resynchronization (holding (universal 16) (written (Data (value ∷ [])) contexts ∷ [])) (marks_of (Data (value ∷ [])) contexts) refl refl
     (resynchronization-reads value is)

@@ -3,6 +3,8 @@ mod Lists
 mod Marked
 mod Parts
 mod Readings
+mod Measured
 mod Recovered
+mod Room
 mod TypesRead
 mod WrittenTrees

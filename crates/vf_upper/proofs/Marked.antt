@@ -13,7 +13,7 @@ use Rattle.vf_upper.specs.declared.primitive.Primitive.TheVariants.{Associate, A
 use Rattle.vf_upper.specs.CarriedCode.{Carried}
 use Rattle.vf_upper.specs.Written.{acse_id}
 
--- a value behind its context
+-- a value after its context
 abbrev pub carried_marks : NumberLabel → Carried → List Mark
 carried_marks label carried = number label carried.context ∷ value carried.tree ∷ []
 

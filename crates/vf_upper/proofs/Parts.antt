@@ -1,10 +1,10 @@
 -- The spellings of trees are read as their parts, one by one, and whole.
-use Rattle.std.proofs.Common.{◌≡◌, ℕ, zero, suc, ◌+◌, ◌-◌, ◌<◌, ◌≤◌, Bool, true, false, List, [], ◌∷◌, ◌++◌, length, drop, refl, ap, sym, subst, ◌∙◌, append_assoc, arith, length-append, inl, inr}
+use Rattle.std.proofs.Common.{◌≡◌, ℕ, zero, suc, ◌+◌, ◌<◌, ◌≤◌, Bool, true, false, List, [], ◌∷◌, ◌++◌, length, refl, ap, sym, subst, ◌∙◌, append_assoc, arith, length-append, inl, inr}
 use Rattle.std.specs.Prelude.{◌&&◌, nat_eq, nat_le, nat_lt, Option, Some}
 use Rattle.std.specs.List.{All}
 use Rattle.std.specs.Option.{option_and_then}
-use Rattle.std.proofs.lemmas.Bool.{and_parts, cases_lt, cond-true, cond-false, leb-true, le-leb, le-ltb, lt-ltb, ne_eqb}
-use Rattle.std.proofs.lemmas.List.{append-nil, drop_at, take_at}
+use Rattle.std.proofs.lemmas.Bool.{and_parts, cases_lt, cond-true, cond-false, leb-true, lt-ltb, ne_eqb}
+use Rattle.std.proofs.lemmas.List.{append-nil}
 use Rattle.std.proofs.lemmas.List.Elements.{All-cons, All-head, All-nil, All-tail}
 use Rattle.vf_ber.proofs.Canonical.{length_is}
 use Rattle.vf_ber.proofs.Names.{identifier-short, low-first}
@@ -13,12 +13,12 @@ use Rattle.vf_ber.proofs.Readings.{read_again}
 use Rattle.vf_ber.specs.Limits.{IsTooLarge}
 use Rattle.vf_ber.specs.Reader.{reading}
 use Rattle.vf_ber.specs.Spelling.{first_octet, header, length_octets, spell, spells}
-use Rattle.vf_ber.specs.Spellings.{IsLength, number_in}
 use Rattle.vf_ber.specs.Tags.{AreTrees, IsTag, IsTree}
 use Rattle.vf_ber.specs.Tree.{built, depth_in, plain, root, Tag, Tree}
 use Rattle.vf_ber.specs.Reading.{Read}
 use Rattle.vf_upper.specs.Written.{holding, trees}
-use Rattle.vf_upper_grammar.specs.Parts.{behind_length, ends, Header, header_at, long_form, next, number_of, Part, part_with, Parts, parts_by, parts_in, parts_of, Piece, piece_of, place_in, Taken, taken, taken_at, taken_by, Text}
+use Rattle.vf_upper_grammar.proofs.Spelled.{length-found, piece-definite}
+use Rattle.vf_upper_grammar.specs.Parts.{after_length, ends, Header, header_at, next, number_of, Part, part_with, Parts, parts_by, parts_in, parts_of, Piece, place_in, FirstPart, first_part, first_part_at, first_part_by, Text}
 
 -- ---- trees and their parts
 
@@ -44,7 +44,7 @@ pub record IsPart (tree : Tree) (part : Part) : Type 0 where
   pub octets : part.contents.octets ≡ contents_of tree
   pub whole : part.contents.whole ≡ true
 
--- parts that are those of trees in turn, with nothing behind
+-- parts that are those of trees in turn, with nothing after
 abbrev pub AreParts : List Tree → Parts → Type 0
 AreParts [] (ends place) = Unit {0}
 AreParts [] (next part parts) = ⊥
@@ -90,66 +90,39 @@ spell-low (built tag parts) low =
 spelled-some : (tree : Tree) → IsLow tree → 0 < length (spell tree)
 spelled-some tree low = rw (spell-low tree low) (omega arith)
 
--- a length, and what stands behind it
+-- a length, and what stands after it
 abbrev counted : ℕ → List ℕ → Option Header
 counted n rest = Some (record { count = Some n; rest = rest })
-
-long-found : (digits rest : List ℕ) → 1 ≤ length digits → length digits ≤ 8 → behind_length ((128 + length digits) ∷ (digits ++ rest)) ≡ counted (number_in 0 digits) rest
-long-found digits rest some few =
-    let first = 128 + length digits in
-    let n : length digits ≡ first - 128 = omega arith in
-    let all = digits ++ rest in
-    cond-false (nat_lt first 128) _ _ (le-ltb first 128 (omega arith))
-    ∙ cond-false (nat_eq first 128) _ _ (ne_eqb first 128 (λ e. omega arith))
-    ∙ cond-true (nat_le first 136) _ _ (le-leb first 136 (omega arith))
-    ∙ ap (λ k. long_form k all) (sym n)
-    ∙ cond-true (nat_le (length digits) (length all)) _ _ (le-leb (length digits) (length all) (omega (arith, length-append digits rest)))
-    ∙ ap (λ o. counted (number_in 0 o) (drop (length digits) all)) (take_at digits rest (length digits) refl)
-    ∙ ap (counted (number_in 0 digits)) (drop_at digits rest (length digits) refl)
-
-length-found : (octets rest : List ℕ) (n : ℕ) → IsLength octets n → behind_length (octets ++ rest) ≡ counted n rest
-length-found octets rest n (inl (is, lt)) =
-    ap (λ o. behind_length (o ++ rest)) is ∙ cond-true (nat_lt n 128) _ _ (lt-ltb n 128 lt)
-length-found octets rest n (inr long) =
-    ap (λ o. behind_length (o ++ rest)) long.spelled ∙ long-found long.digits rest long.some long.few ∙ ap (λ k. counted k rest) long.number
 
 header-spelled : (tree : Tree) (rest : List ℕ) → IsLow tree → length (contents_of tree) ≤ 1048576
     → header_at (first_of tree ∷ ((length_octets (length (contents_of tree)) ++ contents_of tree) ++ rest)) ≡ counted (length (contents_of tree)) (contents_of tree ++ rest)
 header-spelled tree rest low few =
     let n = length (contents_of tree) in
     let number : number_of (first_of tree) < 31 = omega (arith, number-of tree low, low.1) in
-    ap (option_and_then behind_length) (cond-true (nat_lt (number_of (first_of tree)) 31) _ _ (lt-ltb (number_of (first_of tree)) 31 number))
-    ∙ ap behind_length (append_assoc (length_octets n) (contents_of tree) rest)
+    ap (option_and_then after_length) (cond-true (nat_lt (number_of (first_of tree)) 31) _ _ (lt-ltb (number_of (first_of tree)) 31 number))
+    ∙ ap after_length (append_assoc (length_octets n) (contents_of tree) rest)
     ∙ length-found (length_octets n) (contents_of tree ++ rest) n (length_is n few)
 
 abbrev whole_piece : List ℕ → List ℕ → Piece
 whole_piece contents rest = record { octets = contents; whole = true; rest = rest }
 
-piece-found : (contents rest : List ℕ) → piece_of (Some (length contents)) (contents ++ rest) ≡ whole_piece contents rest
-piece-found contents rest =
-    let n = length contents in
-    let all = contents ++ rest in
-    ap (λ o. record { octets = o; whole = nat_le n (length all); rest = drop n all }) (take_at contents rest n refl)
-    ∙ ap (λ b. record { octets = contents; whole = b; rest = drop n all }) (le-leb n (length all) (omega (arith, length-append contents rest)))
-    ∙ ap (whole_piece contents) (drop_at contents rest n refl)
-
 abbrev text_of : List ℕ → ℕ → Text
 text_of octets at = record { octets = octets; at = at; whole = true }
 
--- what is taken of a text that begins with the spelling of a tree
-abbrev spelled : Tree → List ℕ → ℕ → Taken
+-- what is first_part of a text that begins with the spelling of a tree
+abbrev spelled : Tree → List ℕ → ℕ → FirstPart
 spelled tree rest at = part_with (text_of (spell tree ++ rest) at) (first_of tree) (length (contents_of tree ++ rest)) (whole_piece (contents_of tree) rest)
 
-taken-spelled : (tree : Tree) (rest : List ℕ) (at : ℕ) → IsLow tree → length (contents_of tree) ≤ 1048576
-    → taken (text_of (spell tree ++ rest) at) ≡ Some (spelled tree rest at)
-unfolding taken
-taken-spelled tree rest at low few =
+first_part-spelled : (tree : Tree) (rest : List ℕ) (at : ℕ) → IsLow tree → length (contents_of tree) ≤ 1048576
+    → first_part (text_of (spell tree ++ rest) at) ≡ Some (spelled tree rest at)
+unfolding first_part
+first_part-spelled tree rest at low few =
     let text = text_of (spell tree ++ rest) at in
     let first = first_of tree in
-    ap (λ o. taken_at text (o ++ rest)) (spell-low tree low)
+    ap (λ o. first_part_at text (o ++ rest)) (spell-low tree low)
     ∙ cond-false (nat_eq first 0) _ _ (some-first tree low)
-    ∙ ap (λ h. Some (taken_by text first h)) (header-spelled tree rest low few)
-    ∙ ap (λ p. Some (part_with text first (length (contents_of tree ++ rest)) p)) (piece-found (contents_of tree) rest)
+    ∙ ap (λ h. Some (first_part_by text first h)) (header-spelled tree rest low few)
+    ∙ ap (λ p. Some (part_with text first (length (contents_of tree ++ rest)) p)) (piece-definite (contents_of tree) rest)
 
 is-part : (tree : Tree) (rest : List ℕ) (at : ℕ) → IsPart tree (spelled tree rest at).part
 is-part tree rest at = record { first = refl; octets = refl; whole = refl }
@@ -157,7 +130,7 @@ is-part tree rest at = record { first = refl; octets = refl; whole = refl }
 -- as many turns as there are octets are enough
 parts-in : (ts : List Tree) (turns at : ℕ) → All IsLow ts → length (spells (trees ts)) ≤ 1048576 → length (spells (trees ts)) ≤ turns
     → AreParts ts (parts_in turns (text_of (spells (trees ts)) at))
-unfolding parts_in taken
+unfolding parts_in first_part
 parts-in [] zero at low few enough = tt
 parts-in [] (suc turns) at low few enough = tt
 parts-in (tree ∷ ts) zero at low few enough = absurd (omega (arith, length-append (spell tree) (spells (trees ts)), spelled-some tree (All-head IsLow tree ts low)))
@@ -169,7 +142,7 @@ parts-in (tree ∷ ts) (suc turns) at low few enough =
     let first : length (contents_of tree) ≤ 1048576 = omega (arith, contents-fewer tree) in
     let text = text_of (spell tree ++ rest) at in
     let others = parts-in ts turns (place_in text (length rest)) (All-tail IsLow tree ts low) (omega arith) (omega arith) in
-    subst (λ (o : Option Taken). AreParts (tree ∷ ts) (parts_by (parts_in turns) text o)) (sym (taken-spelled tree rest at here first)) (is-part tree rest at, others)
+    subst (λ (o : Option FirstPart). AreParts (tree ∷ ts) (parts_by (parts_in turns) text o)) (sym (first_part-spelled tree rest at here first)) (is-part tree rest at, others)
 
 -- what is spelled by trees in turn is read as their parts
 pub parts-are : (ts : List Tree) (at : ℕ) → All IsLow ts → length (spells (trees ts)) ≤ 1048576

@@ -20,10 +20,10 @@ use Rattle.vf_upper.specs.Written.{context, holding, trees}
 use Rattle.vf_upper.proofs.Parts.{AreParts, first_of, is_low, IsLow, IsPart, low-by, parts-are, small-contents, small-parts, small-spelled, value-octets, reading-alone}
 use Rattle.vf_upper_grammar.specs.declared.labels.NameLabel.{NameLabel}
 use Rattle.vf_upper_grammar.specs.declared.labels.NumberLabel.{NumberLabel}
-use Rattle.vf_upper_grammar.specs.Forms.{◌>>=◌, constructed, due, Due, each, exactly, Field, found_name, found_number, has_tag, in_order, integer, is_allowed, is_allowed_name, is_known, lacking, leading, leads, object_identifier, ordered, Finding, sequence, sequence_of, set, step, Tags}
+use Rattle.vf_upper_grammar.specs.Forms.{◌>>=◌, constructed, due, Due, each, exactly, Field, found_name, found_number, has_tag, in_order, integer, is_allowed, is_allowed_name, is_known, lacking, leading, leads, object_identifier, ordered, Form, sequence, sequence_of, set, step, Tags}
 use Rattle.vf_upper_grammar.specs.Marks.{Found, Mark, name, number, value}
 use Rattle.vf_upper_grammar.specs.Parts.{ends, is_constructed, next, number_of, Part, Parts, parts_of, Text}
-use Rattle.vf_upper_grammar.specs.Texts.{Cargo, carried, carried_by, explicit_held, front, Held, held_in, landed, nothing, one, segments, then_read, typed, typed_by, unless}
+use Rattle.vf_upper_grammar.specs.Texts.{OctetForm, carried, carried_by, explicit_held, prefix, Held, held_in, located, nothing, one, segments, then_read, typed, typed_by, unless}
 use Rattle.vf_upper_grammar.specs.Types.{explicit, required}
 
 -- ---- trees within the limits, and their parts
@@ -57,12 +57,12 @@ low-trees (tree ∷ ts) low =
 -- ---- what readings find, whatever was found before
 
 -- in a part that is the tree's
-pub record Reads (read : Finding) (tree : Tree) (marks : List Mark) : Type 0 where
+pub record Reads (read : Form) (tree : Tree) (marks : List Mark) : Type 0 where
   pub finds : (part : Part) (found : List Mark) → IsSound tree → IsPart tree part → read part found ≡ Ok (found ++ marks)
 
 -- in its octets
-pub record ReadsOctets (cargo : Cargo) (tree : Tree) (marks : List Mark) : Type 0 where
-  pub finds : (found : List Mark) → IsSound tree → cargo (spell tree) found ≡ Ok (found ++ marks)
+pub record ReadsOctets (form : OctetForm) (tree : Tree) (marks : List Mark) : Type 0 where
+  pub finds : (found : List Mark) → IsSound tree → form (spell tree) found ≡ Ok (found ++ marks)
 
 -- in parts that are those of trees in turn
 pub record ReadsParts (read : Parts → List Mark → Found) (ts : List Tree) (marks : List Mark) : Type 0 where
@@ -91,7 +91,7 @@ no_more {left} none = record { finds = ends-found }
         ap (λ some. lacking some place found) none ∙ lacks place found ∙ ap Ok (sym (append-nil found))
     ends-found skips fields (next part parts) found sound are = absurd are
 
--- the field that is due at the first tree reads it, and the fields behind it read the others
+-- the field that is due at the first tree reads it, and the fields after it read the others
 pub then_field : {field : Field} {left after : List Field} {tree : Tree} {ts : List Tree} {marks others : List Mark}
     → due (first_of tree) left ≡ Some (record { field = field; left = after }) → Reads field.read tree marks → Orders after ts others
     → Orders left (tree ∷ ts) (marks ++ others)
@@ -120,12 +120,12 @@ last_field {field} {left} {after} {tree} {marks} is_due none reads = record { fi
 abbrev due_if : Bool → Field → Option Due
 due_if b field = if b then Some (record { field = field; left = [] }) else None
 
-due-one : (tags : Tags) (read : Finding) (first : ℕ) → has_tag tags first ≡ true → due first (required tags read ∷ []) ≡ Some (record { field = required tags read; left = [] })
+due-one : (tags : Tags) (read : Form) (first : ℕ) → has_tag tags first ≡ true → due first (required tags read ∷ []) ≡ Some (record { field = required tags read; left = [] })
 due-one tags read first has = ap (λ b. due_if b (required tags read)) has
 
 -- ---- values in turn
 
-each-found : {X : Type 0} (P : X → Type 0) (tags : Tags) (read : Finding) (tree : X → Tree) (marks : X → List Mark)
+each-found : {X : Type 0} (P : X → Type 0) (tags : Tags) (read : Form) (tree : X → Tree) (marks : X → List Mark)
     → ((x : X) → has_tag tags (first_of (tree x)) ≡ true) → ((x : X) → P x → Reads read (tree x) (marks x)) → (xs : List X) → All P xs
     → (parts : Parts) (found : List Mark) → AreSound (map tree xs) → AreParts (map tree xs) parts → each parts tags read found ≡ Ok (found ++ flat_map marks xs)
 each-found P tags read tree marks tag reads [] all (ends place) found sound are = ap Ok (sym (append-nil found))
@@ -169,12 +169,12 @@ pub exactly-reads : {fields : List Field} {tag : Tag} {ts : List Tree} {marks : 
     → is_constructed (first_of (holding tag ts)) ≡ true → are_low ts ≡ true → Orders fields ts marks → Reads (exactly fields) (holding tag ts) marks
 exactly-reads {fields} {tag} {ts} {marks} built low orders = constructed-reads built low (in_order-reads false fields ts marks orders)
 
-pub explicit-reads : (tags : Tags) (read : Finding) {tag : Tag} {tree : Tree} {marks : List Mark}
+pub explicit-reads : (tags : Tags) (read : Form) {tag : Tag} {tree : Tree} {marks : List Mark}
     → is_constructed (first_of (holding tag (tree ∷ []))) ≡ true → is_low (root tree) ≡ true → has_tag tags (first_of tree) ≡ true → Reads read tree marks
     → Reads (explicit tags read) (holding tag (tree ∷ [])) marks
 explicit-reads tags read {tag} {tree} {marks} built low has reads = exactly-reads built (ap (λ b. b && true) low) (last_field (due-one tags read (first_of tree) has) refl reads)
 
-pub sequence_of-reads : {X : Type 0} (P : X → Type 0) (tags : Tags) (read : Finding) (tree : X → Tree) (marks : X → List Mark) {tag : Tag} (xs : List X)
+pub sequence_of-reads : {X : Type 0} (P : X → Type 0) (tags : Tags) (read : Form) (tree : X → Tree) (marks : X → List Mark) {tag : Tag} (xs : List X)
     → is_constructed (first_of (holding tag (map tree xs))) ≡ true → ((x : X) → is_low (root (tree x)) ≡ true) → ((x : X) → has_tag tags (first_of (tree x)) ≡ true)
     → ((x : X) → P x → Reads read (tree x) (marks x)) → All P xs
     → Reads (sequence_of tags read) (holding tag (map tree xs)) (flat_map marks xs)
@@ -258,10 +258,10 @@ one-found tree found sound =
 pub one-reads : {tree : Tree} → ReadsOctets one tree (value tree ∷ [])
 one-reads {tree} = record { finds = one-found tree }
 
-abbrev behind_if : Bool → ℕ → Option ℕ
-behind_if b n = if b then None else Some n
+abbrev after_if : Bool → ℕ → Option ℕ
+after_if b n = if b then None else Some n
 
-typed-found : (tags : Tags) (read : Finding) (tree : Tree) (marks : List Mark) → has_tag tags (first_of tree) ≡ true → is_low (root tree) ≡ true → Reads read tree marks
+typed-found : (tags : Tags) (read : Form) (tree : Tree) (marks : List Mark) → has_tag tags (first_of tree) ≡ true → is_low (root tree) ≡ true → Reads read tree marks
     → (found : List Mark) → IsSound tree → typed tags read (spell tree) found ≡ Ok (found ++ marks)
 unfolding typed
 typed-found tags read tree marks has low reads found sound =
@@ -269,13 +269,13 @@ typed-found tags read tree marks has low reads found sound =
     let n = length octets in
     let fields = required tags read ∷ [] in
     let orders : Orders fields (tree ∷ []) marks = last_field (due-one tags read (first_of tree) has) refl reads in
-    ap (λ v. typed_by tags read (front octets v) found) (reading-alone tree sound.is_tree sound.small)
-    ∙ ap (λ o. in_order (parts_of (text_of o 0 true)) false fields fields found >>= unless (behind_if (nat_eq n n) n)) (take_all n octets (omega arith))
-    ∙ ap (λ y. y >>= unless (behind_if (nat_eq n n) n))
+    ap (λ v. typed_by tags read (prefix octets v) found) (reading-alone tree sound.is_tree sound.small)
+    ∙ ap (λ o. in_order (parts_of (text_of o 0 true)) false fields fields found >>= unless (after_if (nat_eq n n) n)) (take_all n octets (omega arith))
+    ∙ ap (λ y. y >>= unless (after_if (nat_eq n n) n))
     (orders.finds false fields (parts_of (text_of octets 0 true)) found (sound, tt) (value-octets tree 0 (low-by tree low) (small-spelled tree sound.small)))
-    ∙ ap (λ b. unless (behind_if b n) (found ++ marks)) (eq-eqb n n refl)
+    ∙ ap (λ b. unless (after_if b n) (found ++ marks)) (eq-eqb n n refl)
 
-pub typed-reads : (tags : Tags) (read : Finding) {tree : Tree} {marks : List Mark} → has_tag tags (first_of tree) ≡ true → is_low (root tree) ≡ true → Reads read tree marks
+pub typed-reads : (tags : Tags) (read : Form) {tree : Tree} {marks : List Mark} → has_tag tags (first_of tree) ≡ true → is_low (root tree) ≡ true → Reads read tree marks
     → ReadsOctets (typed tags read) tree marks
 typed-reads tags read {tree} {marks} has low reads = record { finds = typed-found tags read tree marks has low reads }
 
@@ -285,18 +285,18 @@ abbrev held_by : Part → ℕ → Option Held
 held_by part first =
     if nat_eq (number_of first) 0
     then (if is_constructed first then Some (explicit_held part.contents) else None)
-    else (if is_constructed first then Some (segments part.behind part.contents) else Some (held_in part.contents part.behind))
+    else (if is_constructed first then Some (segments part.after part.contents) else Some (held_in part.contents part.after))
 
-carried-found : (cargo : Cargo) (tree : Tree) (marks : List Mark) → ReadsOctets cargo tree marks → (part : Part) (found : List Mark)
-    → IsSound (holding (context 0) (tree ∷ [])) → IsPart (holding (context 0) (tree ∷ [])) part → carried cargo part found ≡ Ok (found ++ marks)
-carried-found cargo tree marks reads part found sound is =
+carried-found : (form : OctetForm) (tree : Tree) (marks : List Mark) → ReadsOctets form tree marks → (part : Part) (found : List Mark)
+    → IsSound (holding (context 0) (tree ∷ [])) → IsPart (holding (context 0) (tree ∷ [])) part → carried form part found ≡ Ok (found ++ marks)
+carried-found form tree marks reads part found sound is =
     let all : List ℕ = spell tree ++ [] in
     let seen : Held = explicit_held (text_of all part.contents.at true) in
     let parts = sound-parts (context 0) (tree ∷ []) sound in
-    ap (λ first. carried_by cargo part.at found (held_by part first)) is.first
-    ∙ ap (λ text. carried_by cargo part.at found (Some (explicit_held text))) (text-is part.contents all is.octets is.whole)
-    ∙ ap (λ o. landed seen (cargo o found)) (append-nil (spell tree))
-    ∙ ap (landed seen) (reads.finds found parts.0)
+    ap (λ first. carried_by form part.at found (held_by part first)) is.first
+    ∙ ap (λ text. carried_by form part.at found (Some (explicit_held text))) (text-is part.contents all is.octets is.whole)
+    ∙ ap (λ o. located seen (form o found)) (append-nil (spell tree))
+    ∙ ap (located seen) (reads.finds found parts.0)
 
-pub carried-reads : {cargo : Cargo} {tree : Tree} {marks : List Mark} → ReadsOctets cargo tree marks → Reads (carried cargo) (holding (context 0) (tree ∷ [])) marks
-carried-reads {cargo} {tree} {marks} reads = record { finds = carried-found cargo tree marks reads }
+pub carried-reads : {form : OctetForm} {tree : Tree} {marks : List Mark} → ReadsOctets form tree marks → Reads (carried form) (holding (context 0) (tree ∷ [])) marks
+carried-reads {form} {tree} {marks} reads = record { finds = carried-found form tree marks reads }

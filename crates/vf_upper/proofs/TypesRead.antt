@@ -17,16 +17,16 @@ use Rattle.vf_upper.proofs.WrittenTrees.{one_fits, two_fits, zero_fits}
 use Rattle.vf_upper_grammar.specs.declared.labels.NameLabel.TheVariants.{Abstract, Application, Stated, Transfer}
 use Rattle.vf_upper_grammar.specs.declared.labels.NumberLabel.{NumberLabel}
 use Rattle.vf_upper_grammar.specs.declared.labels.NumberLabel.TheVariants.{AcseContext, AnyContext, Fixed, Outcome, PciContext, Proposal}
-use Rattle.vf_upper_grammar.specs.Forms.{Field, has_tag, in_order, Finding, sequence_of, Tags}
+use Rattle.vf_upper_grammar.specs.Forms.{Field, has_tag, in_order, Form, sequence_of, Tags}
 use Rattle.vf_upper_grammar.specs.Marks.{Found, Mark, name, number, value}
-use Rattle.vf_upper_grammar.specs.Parts.{ends, is_constructed, next, number_of, Part, Parts}
+use Rattle.vf_upper_grammar.specs.Parts.{ends, next, number_of, Part, Parts}
 use Rattle.vf_upper_grammar.specs.Syntaxes as syntaxes
-use Rattle.vf_upper_grammar.specs.Texts.{Cargo, carried, carried_data, one, some, typed}
+use Rattle.vf_upper_grammar.specs.Texts.{OctetForm, carried, carried_data, one, some, typed}
 use Rattle.vf_upper_grammar.specs.Types as types
 
 -- ---- values in contexts
 
-pdv_list-reads : (label : NumberLabel) (read : Finding) (id : ℤ) (tree : Tree) (marks : List Mark) → IsIdentifier id → Reads read (holding (context 0) (tree ∷ [])) marks
+pdv_list-reads : (label : NumberLabel) (read : Form) (id : ℤ) (tree : Tree) (marks : List Mark) → IsIdentifier id → Reads read (holding (context 0) (tree ∷ [])) marks
     → Reads (types.pdv_list label read) (pdv_list id tree) (number label id ∷ marks)
 pdv_list-reads label read id tree marks fits reads = exactly-reads refl refl (then_field refl (integer-reads None label refl refl fits) (last_field refl refl reads))
 
@@ -47,9 +47,9 @@ all_data-reads values are =
     sequence_of-reads IsCarried (types.universal 16) (types.pdv_list AnyContext carried_data) carried_list (carried_marks AnyContext) values refl (λ v. refl) (λ v. refl)
     (λ v is. pdv_list-reads AnyContext carried_data v.context v.tree (value v.tree ∷ []) is.0 (carried_data-reads v.tree)) are
 
-one_data-reads : (label : NumberLabel) (cargo : Cargo) (id : ℤ) (tree : Tree) (marks : List Mark) → IsIdentifier id → ReadsOctets cargo tree marks
-    → Reads (types.one_data label cargo) (user_data (pdv_list id tree ∷ [])) (number label id ∷ marks)
-one_data-reads label cargo id tree marks fits reads = exactly-reads refl refl (last_field refl refl (pdv_list-reads label (carried cargo) id tree marks fits (carried-reads reads)))
+one_data-reads : (label : NumberLabel) (form : OctetForm) (id : ℤ) (tree : Tree) (marks : List Mark) → IsIdentifier id → ReadsOctets form tree marks
+    → Reads (types.one_data label form) (user_data (pdv_list id tree ∷ [])) (number label id ∷ marks)
+one_data-reads label form id tree marks fits reads = exactly-reads refl refl (last_field refl refl (pdv_list-reads label (carried form) id tree marks fits (carried-reads reads)))
 
 external-reads : (label : NumberLabel) (v : Carried) → IsCarried v → Reads (types.external label) (external v) (carried_marks label v)
 external-reads label v is = exactly-reads refl refl (then_field refl (integer-reads None label refl refl is.0) (last_field refl refl (carried-reads one-reads)))
@@ -84,7 +84,7 @@ rlre-reads v is = sequence-reads refl refl (last_field refl refl (user_informati
 abrt-reads : (v : Carried) → IsCarried v → Reads types.abrt (abrt (v ∷ [])) (number Fixed (pos 0) ∷ values_marks AnyContext (v ∷ []))
 abrt-reads v is = sequence-reads refl refl (then_field refl (integer-reads (Some 0) Fixed refl refl zero_fits) (last_field refl refl (user_information-reads AnyContext v is)))
 
-pub acse_data-reads : (tags : Tags) (read : Finding) (contexts : List ContextEntry) (tree : Tree) (marks : List Mark) → IsIdentifier (acse_id contexts)
+pub acse_data-reads : (tags : Tags) (read : Form) (contexts : List ContextEntry) (tree : Tree) (marks : List Mark) → IsIdentifier (acse_id contexts)
     → has_tag tags (first_of tree) ≡ true → is_low (root tree) ≡ true → Reads read tree marks → Reads (types.acse_data tags read) (acse_data contexts tree) (acse_marks contexts marks)
 acse_data-reads tags read contexts tree marks fits has low reads = one_data-reads AcseContext (typed tags read) (acse_id contexts) tree marks fits (typed-reads tags read has low reads)
 
@@ -107,7 +107,7 @@ abbrev fields_if : Bool → List Field
 fields_if b = if b then types.refused_outcome else types.accepted_outcome
 
 abbrev refuses_if : Bool → Part → Bool
-refuses_if b part = if b then false else types.is_two part.contents.octets
+refuses_if b part = if b then types.is_two part.contents.octets else false
 
 -- its outcome is told by the first field's octets
 outcome-by : (refused : Bool) (octets : List ℕ) (ts : List Tree) (marks : List Mark) → types.is_two octets ≡ refused → are_low ts ≡ true
@@ -118,9 +118,9 @@ outcome-by refused octets ts marks two low orders = constructed-reads {ts = plai
         → in_order parts true (types.outcome_fields parts) (types.outcome_fields parts) found ≡ Ok (found ++ marks)
     outcome-found (ends place) found sound are = absurd are
     outcome-found (next part parts) found sound are =
-        let first = leading-first types.refused_outcome part parts (first_of (plain (context 0) octets)) are.0.first refl in
+        let first = leading-first types.accepted_outcome part parts (first_of (plain (context 0) octets)) are.0.first refl in
         let told : types.refuses (Some part) ≡ refused =
-        ap (λ b. refuses_if b part) (ap is_constructed are.0.first) ∙ ap types.is_two are.0.octets ∙ two in
+        ap (λ first. refuses_if (nat_eq first 128) part) are.0.first ∙ ap types.is_two are.0.octets ∙ two in
         let same : types.outcome_fields (next part parts) ≡ fields_if refused = ap (λ p. fields_if (types.refuses p)) first ∙ ap fields_if told in
         ap (λ o. in_order (next part parts) true o o found) same ∙ orders.finds true (fields_if refused) (next part parts) found sound are
 

@@ -1,21 +1,26 @@
 -- What was written is read as the primitive again.
-use Rattle.std.specs.Prelude.{◌≡◌, ℤ, List, [], ◌∷◌, Ok}
+use Rattle.std.specs.Prelude.{◌≡◌, ℕ, ◌+◌, ◌*◌, ◌≤◌, ℤ, true, false, List, [], ◌∷◌, length, MatchOption, Result, Ok, Err}
 use Rattle.std.specs.Int.{w64}
 use Rattle.std.specs.Int.RustNames.{FitsSigned}
 use Rattle.std.specs.List.{All}
 use Rattle.vf_base.specs.Oid.{IsOid}
+use Rattle.vf_base.specs.declared.limits.TheConstants.{MOST_VALUE_OCTETS}
 use Rattle.vf_base.specs.declared.spdu_kind.SpduKind.{SpduKind}
 use Rattle.vf_base.specs.declared.spdu_kind.SpduKind.TheVariants.{CN, AC, RF, FN, DN, AB, DT, RS, RA}
 use Rattle.vf_ber.specs.Limits.{IsTooLarge}
 use Rattle.vf_ber.specs.Spelling.{spell}
 use Rattle.vf_ber.specs.Tags.{IsTree}
+use Rattle.vf_ber.specs.Tree.{depth}
 use Rattle.vf_upper.specs.declared.contexts.ContextEntry.{ContextEntry}
 use Rattle.vf_upper.specs.declared.contexts.Offer.{Offer}
 use Rattle.vf_upper.specs.declared.primitive.Primitive.{Primitive}
 use Rattle.vf_upper.specs.declared.primitive.Primitive.TheVariants.{Associate, Accepted, Refused, Release, Released, Data, Abort}
+use Rattle.vf_upper.specs.declared.errors.UpperError.{UpperError}
+use Rattle.vf_upper.specs.declared.errors.UpperError.TheVariants.{Grammar}
 use Rattle.vf_upper.specs.CarriedCode.{Carried}
-use Rattle.vf_upper.specs.Primitives.{answered, reading, Standing, syntax_of}
-use Rattle.vf_upper.specs.Written.{accepted, holding, IsWritable, universal, user_octets, written}
+use Rattle.vf_upper.specs.Primitives.{admitted, answered, is_bare, Negotiated, negotiated_in, reading, refusal, syntax_of}
+use Rattle.vf_upper_grammar.specs.Modules.{meaning_of, meant}
+use Rattle.vf_upper.specs.Written.{accepted, holding, is_placed, IsWritable, universal, user_octets, written}
 
 abbrev pub carrier_of : Primitive → SpduKind
 carrier_of (Associate offers values) = CN
@@ -54,7 +59,7 @@ AreContexts contexts = All (λ entry. IsIdentifier entry.id) contexts
 
 -- ---- the law
 
-abbrev pub SameContexts : List Standing → List Standing → Type 0
+abbrev pub SameContexts : List Negotiated → List Negotiated → Type 0
 SameContexts a b = (id : ℤ) → syntax_of id a ≡ syntax_of id b
 
 -- The contexts that the reading end hands in: those of its proposals that the results accept are the contexts with
@@ -83,3 +88,44 @@ IsReadInSequence kind =
 
 abbrev pub IsReadInResynchronizations : Type 0
 IsReadInResynchronizations = IsReadInSequence RS × IsReadInSequence RA
+
+-- ---- room
+
+abbrev pub carried_in : Primitive → List Carried
+carried_in (Associate offers values) = values
+carried_in (Accepted results values) = values
+carried_in (Refused results values) = values
+carried_in (Release values) = values
+carried_in (Released values) = values
+carried_in (Data values) = values
+carried_in (Abort values) = values
+
+-- how many contexts it proposes or answers
+abbrev pub contexts_in : Primitive → ℕ
+contexts_in (Associate offers values) = length offers
+contexts_in (Accepted results values) = length results
+contexts_in (Refused results values) = length results
+contexts_in primitive = 0
+
+-- A primitive with one value in contexts that suit it is writable where the value is at most 23 deep and leaves 128 octets,
+-- and as many for each context that is proposed or answered.
+abbrev pub HasRoom : Type 0
+HasRoom =
+    (primitive : Primitive) (contexts : List ContextEntry) (value : Carried) → IsPrimitive primitive → carried_in primitive ≡ value ∷ []
+    → is_placed primitive contexts ≡ true → depth value.tree ≤ 23 → 128 * (contexts_in primitive + 1) + length (spell value.tree) ≤ MOST_VALUE_OCTETS
+    → IsWritable primitive contexts
+
+-- ---- what user data mean
+
+-- a fault of the form
+abbrev pub IsGrammar : Result Primitive UpperError → Type 0
+IsGrammar (Ok primitive) = ⊥
+IsGrammar (Err (Grammar at)) = Unit {0}
+IsGrammar (Err error) = ⊥
+
+-- User data that aren't absent and are one value of the type of their SPDU are answered by what this value means in the
+-- words of both modules, with its contexts; all others have a fault of the form.
+abbrev pub IsAnswered : Type 0
+IsAnswered =
+    (kind : SpduKind) (contexts : List ContextEntry) (octets : List ℕ) → is_bare kind octets ≡ false
+    → MatchOption (meant (meaning_of kind) octets) (IsGrammar (reading kind contexts octets)) (λ marks. reading kind contexts octets ≡ admitted kind marks (refusal (negotiated_in kind contexts marks) marks))

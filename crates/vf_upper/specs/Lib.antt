@@ -3,4 +3,5 @@ pub mod CarriedCode
 pub mod Conclusions
 pub mod Laws
 pub mod Primitives
+pub mod Sizes
 pub mod Written

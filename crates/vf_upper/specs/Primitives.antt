@@ -17,7 +17,7 @@ use Rattle.vf_upper.specs.CarriedCode.{Carried}
 use Rattle.vf_upper_grammar.specs.Forms.{are_arcs}
 use Rattle.vf_upper_grammar.specs.Marks.{Mark, number, name, value, Found}
 use Rattle.vf_upper_grammar.specs.Syntaxes as syntaxes
-use Rattle.vf_upper_grammar.specs.Types.{cargo_of, found_in}
+use Rattle.vf_upper_grammar.specs.Types.{user_data_of, found_in}
 
 -- ---- what was found
 
@@ -74,7 +74,7 @@ results_of (number label n ∷ marks) = if is_outcome label then int_eq n (pos 0
 results_of (name label arcs ∷ marks) = results_of marks
 results_of (value tree ∷ marks) = results_of marks
 
--- the values, each in the last context in front of it
+-- the values, each in the last context before it
 abbrev pub values_from : ℤ → List Mark → List Carried
 values_from context [] = []
 values_from context (number label n ∷ marks) = values_from (if is_context label then n else context) marks
@@ -87,35 +87,35 @@ values_of marks = values_from (pos 0) marks
 -- ---- contexts
 
 -- a context, and its abstract syntax where it is accepted
-pub record Standing : Type 0 where
+pub record Negotiated : Type 0 where
   pub id : ℤ
   pub syntax : Option (List ℕ)
 
 -- a called end accepts its own syntaxes in the basic encoding rules
-abbrev pub offered : Offer → Standing
+abbrev pub offered : Offer → Negotiated
 offered offer = record { id = offer.id; syntax = if offer.ber && syntaxes.is_ours offer.syntax then Some offer.syntax else None }
 
-abbrev pub stands : Bool → ContextEntry → Standing
-stands accepted entry = record { id = entry.id; syntax = if accepted then Some entry.syntax else None }
+abbrev pub with_result : Bool → ContextEntry → Negotiated
+with_result accepted entry = record { id = entry.id; syntax = if accepted then Some entry.syntax else None }
 
 -- proposals with their results: those without one aren't accepted, and further results tell nothing
-abbrev pub answered : List ContextEntry → List Bool → List Standing
+abbrev pub answered : List ContextEntry → List Bool → List Negotiated
 answered [] results = []
-answered (entry ∷ entries) [] = stands false entry ∷ answered entries []
-answered (entry ∷ entries) (result ∷ results) = stands result entry ∷ answered entries results
+answered (entry ∷ entries) [] = with_result false entry ∷ answered entries []
+answered (entry ∷ entries) (result ∷ results) = with_result result entry ∷ answered entries results
 
 -- The contexts of the values: of a CN those that it proposes, of an AC or RF those that the other end had proposed, by
 -- their results, of others those that are accepted.
-abbrev pub standing_in : SpduKind → List ContextEntry → List Mark → List Standing
-standing_in CN contexts marks = map offered (offers_of marks)
-standing_in AC contexts marks = answered contexts (results_of marks)
-standing_in RF contexts marks = answered contexts (results_of marks)
-standing_in kind contexts marks = map (stands true) contexts
+abbrev pub negotiated_in : SpduKind → List ContextEntry → List Mark → List Negotiated
+negotiated_in CN contexts marks = map offered (offers_of marks)
+negotiated_in AC contexts marks = answered contexts (results_of marks)
+negotiated_in RF contexts marks = answered contexts (results_of marks)
+negotiated_in kind contexts marks = map (with_result true) contexts
 
 -- of two with one identifier the first counts
-abbrev pub syntax_of : ℤ → List Standing → Option (List ℕ)
+abbrev pub syntax_of : ℤ → List Negotiated → Option (List ℕ)
 syntax_of id [] = None
-syntax_of id (standing ∷ others) = if int_eq standing.id id then standing.syntax else syntax_of id others
+syntax_of id (negotiated ∷ others) = if int_eq negotiated.id id then negotiated.syntax else syntax_of id others
 
 -- An ACSE value stands in a context of ACSE, and the PDU of an AARQ or AARE in one of FTAM PCI (profile).
 abbrev pub suits : NumberLabel → List ℕ → Bool
@@ -127,22 +127,22 @@ abbrev pub is_suited : NumberLabel → Option (List ℕ) → Bool
 is_suited label None = false
 is_suited label (Some syntax) = suits label syntax
 
--- why one of the things that are found isn't taken, if so
-abbrev pub refused : List Standing → Mark → Option UpperError
-refused standing (number label n) =
-    if is_context label then (if is_suited label (syntax_of n standing) then None else Some (errors.Context n)) else None
-refused standing (name label arcs) =
+-- why one of the things that are found isn't admitted, if so
+abbrev pub refused : List Negotiated → Mark → Option UpperError
+refused negotiated (number label n) =
+    if is_context label then (if is_suited label (syntax_of n negotiated) then None else Some (errors.Context n)) else None
+refused negotiated (name label arcs) =
     if is_application label then (if are_arcs arcs syntaxes.ftam then None else Some errors.Application) else None
-refused standing (value tree) = None
+refused negotiated (value tree) = None
 
 abbrev pub first_of : Option UpperError → Option UpperError → Option UpperError
 first_of None other = other
 first_of (Some error) other = Some error
 
--- The first reason in the order of octets why what is found isn't taken.
-abbrev pub refusal : List Standing → List Mark → Option UpperError
-refusal standing [] = None
-refusal standing (mark ∷ marks) = first_of (refused standing mark) (refusal standing marks)
+-- The first reason in the order of octets why what is found isn't admitted.
+abbrev pub refusal : List Negotiated → List Mark → Option UpperError
+refusal negotiated [] = None
+refusal negotiated (mark ∷ marks) = first_of (refused negotiated mark) (refusal negotiated marks)
 
 -- ---- primitives
 
@@ -155,12 +155,12 @@ primitive_of DN marks = primitives.Released (values_of marks)
 primitive_of AB marks = primitives.Abort (values_of marks)
 primitive_of kind marks = primitives.Data (values_of marks)
 
-abbrev pub taken : SpduKind → List Mark → Option UpperError → Result Primitive UpperError
-taken kind marks None = Ok (primitive_of kind marks)
-taken kind marks (Some error) = Err error
+abbrev pub admitted : SpduKind → List Mark → Option UpperError → Result Primitive UpperError
+admitted kind marks None = Ok (primitive_of kind marks)
+admitted kind marks (Some error) = Err error
 
 abbrev pub concluded : SpduKind → List ContextEntry → Found → Result Primitive UpperError
-concluded kind contexts (Ok marks) = taken kind marks (refusal (standing_in kind contexts marks) marks)
+concluded kind contexts (Ok marks) = admitted kind marks (refusal (negotiated_in kind contexts marks) marks)
 concluded kind contexts (Err place) = Err (errors.Grammar place)
 
 -- A refusal or an abort may have no user data, and then has no values.
@@ -176,4 +176,4 @@ is_bare kind (octet ∷ octets) = false
 -- the primitive that the user data of an SPDU of this kind are, or why they aren't any
 abbrev pub reading : SpduKind → List ContextEntry → List ℕ → Result Primitive UpperError
 reading kind contexts octets =
-    if is_bare kind octets then Ok (primitive_of kind []) else concluded kind contexts (found_in (cargo_of kind) octets)
+    if is_bare kind octets then Ok (primitive_of kind []) else concluded kind contexts (found_in (user_data_of kind) octets)

@@ -14,7 +14,7 @@ use Rattle.vf_upper.specs.declared.primitive.Primitive.{Primitive}
 use Rattle.vf_upper.specs.declared.primitive.Primitive.TheVariants.{Associate, Accepted, Refused, Release, Released, Data, Abort}
 use Rattle.vf_upper.specs.CarriedCode.{Carried}
 use Rattle.vf_upper_grammar.specs.Forms.{are_arcs}
-use Rattle.vf_upper.specs.Primitives.{is_suited, offered, Standing, stands, syntax_of}
+use Rattle.vf_upper.specs.Primitives.{is_suited, offered, Negotiated, with_result, syntax_of}
 use Rattle.vf_upper_grammar.specs.Syntaxes as syntaxes
 
 -- ---- values
@@ -101,8 +101,8 @@ abrt values = holding (application 4) (plain (context 0) (integer_octets (pos 0)
 
 -- ---- contexts
 
-abbrev pub accepted : List ContextEntry → List Standing
-accepted contexts = map (stands true) contexts
+abbrev pub accepted : List ContextEntry → List Negotiated
+accepted contexts = map (with_result true) contexts
 
 abbrev pub has_syntax : List ℕ → Option (List ℕ) → Bool
 has_syntax syntax None = false
@@ -153,14 +153,14 @@ user_octets primitive contexts = if is_empty primitive then [] else spell (writt
 
 -- ---- which primitives have user data
 
-abbrev pub suits_in : List Standing → NumberLabel → ℤ → Bool
-suits_in standing label id = is_suited label (syntax_of id standing)
+abbrev pub suits_in : List Negotiated → NumberLabel → ℤ → Bool
+suits_in negotiated label id = is_suited label (syntax_of id negotiated)
 
 -- there is a context of ACSE and one value, both in contexts that suit them
-abbrev pub has_pdu : List Standing → List ContextEntry → NumberLabel → List Carried → Bool
-has_pdu standing contexts label [] = false
-has_pdu standing contexts label (value ∷ []) = suits_in standing AcseContext (acse_id contexts) && suits_in standing label value.context
-has_pdu standing contexts label (value ∷ other ∷ values) = false
+abbrev pub has_pdu : List Negotiated → List ContextEntry → NumberLabel → List Carried → Bool
+has_pdu negotiated contexts label [] = false
+has_pdu negotiated contexts label (value ∷ []) = suits_in negotiated AcseContext (acse_id contexts) && suits_in negotiated label value.context
+has_pdu negotiated contexts label (value ∷ other ∷ values) = false
 
 -- Its values stand in contexts that suit them. Of an association request these are the contexts that it offers, each in
 -- the basic encoding rules.

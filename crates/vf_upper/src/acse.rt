@@ -5,8 +5,8 @@ ghost use Rattle.vf_upper.specs.Carried.{carried_of};
 ghost use Rattle.vf_upper.specs.Written.{aare as aare_tree, aarq as aarq_tree, application as application_tag, abrt as abrt_tree, acse_data as data_tree, application_context_name as name_tree, external as external_tree, holding as held, source as source_tree, user_information as information_tree};
 
 use crate::holding::{application, context, holding, holding_two, integer, number, universal};
+use crate::negotiated::acse_id;
 use crate::presentation::pdv_list;
-use crate::standing::acse_id;
 use crate::{CarriedValue, CarriedValues, ContextEntry};
 use std::alloc::Global;
 use vf_base::NoMemory;

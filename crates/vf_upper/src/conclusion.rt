@@ -1,11 +1,11 @@
-//! The primitive that is made of what is found, or why it isn't taken.
+//! The primitive that is made of what is found, or why it isn't admitted.
 ghost use Rattle.std.specs.Prelude.{◌≡◌, IfOk, Ok, map, false};
 ghost use Rattle.std.specs.Option.{option_copied};
-ghost use Rattle.vf_upper.specs.Conclusions.{Answers, having, is_associated, IsTaken, standing_of};
+ghost use Rattle.vf_upper.specs.Conclusions.{Answers, having, is_associated, IsAdmitted, negotiated_of};
 ghost use Rattle.vf_upper_grammar.specs.MarkViews.{mark_of, marks_of};
-ghost use Rattle.vf_upper.specs.Primitives.{concluded as conclusion, is_abstract as abstract_test, is_application as application_test, is_context as context_test, is_outcome as outcome_test, is_proposal as proposal_test, is_suited as suited_test, is_transfer as transfer_test, offers_ber as ber_offered, offers_of as offers_in, refusal as first_refusal, refused as refused_by, results_of as results_in, syntax_of, values_of as values_in};
+ghost use Rattle.vf_upper.specs.Primitives.{concluded as conclusion, is_abstract as abstract_test, is_application as application_test, is_context as context_test, is_outcome as outcome_test, is_proposal as proposal_test, is_suited as suited_test, is_transfer as transfer_test, offers_ber as ber_offered, offers_of as offers_in, refusal as first_refusal, refused as objection, results_of as results_in, syntax_of, values_of as values_in};
 
-use crate::standing::{accepted_syntax, answered_syntax, offered_syntax};
+use crate::negotiated::{accepted_syntax, answered_syntax, offered_syntax};
 use crate::{
     CarriedValue, CarriedValues, ContextEntry, Offer, Offers, Primitive, Results, UpperError,
 };
@@ -15,7 +15,7 @@ use vf_upper_grammar::{Mark, Marks, NameLabel, NumberLabel, is_acse, is_ber, is_
 
 /// The contexts in which values stand.
 #[derive(Clone, Copy)]
-pub(crate) enum Standing<'a> {
+pub(crate) enum Negotiated<'a> {
     /// Those that a request proposes.
     Offered(&'a [Offer]),
     /// Those that were proposed, by their results.
@@ -163,7 +163,7 @@ fn results_of(alloc: Global, marks: &[Mark]) -> Result<Results, NoMemory>
     Ok(made)
 }
 
-/// The values, each in the last context in front of it.
+/// The values, each in the last context before it.
 fn values_of(alloc: Global, marks: Marks) -> Result<CarriedValues, NoMemory>
     ensures { IfOk result (λ made. made ≡ values_in (marks_of marks)) }
 {
@@ -184,13 +184,13 @@ fn values_of(alloc: Global, marks: Marks) -> Result<CarriedValues, NoMemory>
 }
 
 /// The abstract syntax of the context with this identifier.
-pub(crate) fn syntax_in(standing: Standing<'_>, id: i64) -> Option<&Oid>
-    ensures { option_copied result ≡ syntax_of id (standing_of standing.entry) }
+pub(crate) fn syntax_in(negotiated: Negotiated<'_>, id: i64) -> Option<&Oid>
+    ensures { option_copied result ≡ syntax_of id (negotiated_of negotiated.entry) }
 {
-    match standing {
-        Standing::Offered(offers) => offered_syntax(offers, id),
-        Standing::Answered(contexts, results) => answered_syntax(contexts, results, id),
-        Standing::Accepted(contexts) => accepted_syntax(contexts, id),
+    match negotiated {
+        Negotiated::Offered(offers) => offered_syntax(offers, id),
+        Negotiated::Answered(contexts, results) => answered_syntax(contexts, results, id),
+        Negotiated::Accepted(contexts) => accepted_syntax(contexts, id),
     }
 }
 
@@ -211,13 +211,13 @@ pub(crate) fn is_suited(label: NumberLabel, syntax: Option<&Oid>) -> bool
     }
 }
 
-/// Why one of the things that are found isn't taken, if so.
-fn refused(standing: Standing<'_>, mark: &Mark) -> Option<UpperError>
-    ensures { result ≡ refused_by (standing_of standing.entry) (mark_of mark.now) }
+/// Why one of the things that are found isn't admitted, if so.
+fn refused(negotiated: Negotiated<'_>, mark: &Mark) -> Option<UpperError>
+    ensures { result ≡ objection (negotiated_of negotiated.entry) (mark_of mark.now) }
 {
     match mark {
         Mark::Number { label, n } => {
-            if is_context(*label) && !is_suited(*label, syntax_in(standing, *n)) {
+            if is_context(*label) && !is_suited(*label, syntax_in(negotiated, *n)) {
                 return Some(UpperError::Context { id: *n });
             }
             None
@@ -232,13 +232,13 @@ fn refused(standing: Standing<'_>, mark: &Mark) -> Option<UpperError>
     }
 }
 
-/// The first reason in the order of octets why what is found isn't taken.
-fn refusal(standing: Standing<'_>, marks: &[Mark]) -> Option<UpperError>
-    ensures { result ≡ first_refusal (standing_of standing.entry) (map mark_of marks.now) }
+/// The first reason in the order of octets why what is found isn't admitted.
+fn refusal(negotiated: Negotiated<'_>, marks: &[Mark]) -> Option<UpperError>
+    ensures { result ≡ first_refusal (negotiated_of negotiated.entry) (map mark_of marks.now) }
 {
     let mut rest = marks;
     while let Some((mark, others)) = rest.split_first() {
-        if let Some(error) = refused(standing, mark) {
+        if let Some(error) = refused(negotiated, mark) {
             return Some(error);
         }
         rest = others;
@@ -247,10 +247,14 @@ fn refusal(standing: Standing<'_>, marks: &[Mark]) -> Option<UpperError>
 }
 
 /// The values, where their contexts allow them.
-fn taken(alloc: Global, standing: Standing<'_>, found: Marks) -> Result<CarriedValues, UpperError>
-    ensures { IsTaken (standing_of standing.entry) (marks_of found) result }
+fn admitted(
+    alloc: Global,
+    negotiated: Negotiated<'_>,
+    found: Marks,
+) -> Result<CarriedValues, UpperError>
+    ensures { IsAdmitted (negotiated_of negotiated.entry) (marks_of found) result }
 {
-    if let Some(error) = refusal(standing, found.items.as_slice()) {
+    if let Some(error) = refusal(negotiated, found.items.as_slice()) {
         return Err(error);
     }
     let values = values_of(alloc, found)?;
@@ -266,7 +270,7 @@ fn associate(
 {
     let _ = contexts;
     let offers = offers_of(alloc, found.items.as_slice())?;
-    match taken(alloc, Standing::Offered(offers.as_slice()), found) {
+    match admitted(alloc, Negotiated::Offered(offers.as_slice()), found) {
         Ok(values) => Ok(Primitive::Associate { offers, values }),
         Err(error) => Err(error),
     }
@@ -276,9 +280,9 @@ fn accepted(alloc: Global, contexts: &[ContextEntry], found: Marks) -> Result<Pr
     ensures { Answers result (conclusion SpduKind.AC contexts.now (Ok (marks_of found))) }
 {
     let results = results_of(alloc, found.items.as_slice())?;
-    match taken(
+    match admitted(
         alloc,
-        Standing::Answered(contexts, results.as_slice()),
+        Negotiated::Answered(contexts, results.as_slice()),
         found,
     ) {
         Ok(values) => Ok(Primitive::Accepted { results, values }),
@@ -294,9 +298,9 @@ fn refused_answer(
     ensures { Answers result (conclusion SpduKind.RF contexts.now (Ok (marks_of found))) }
 {
     let results = results_of(alloc, found.items.as_slice())?;
-    match taken(
+    match admitted(
         alloc,
-        Standing::Answered(contexts, results.as_slice()),
+        Negotiated::Answered(contexts, results.as_slice()),
         found,
     ) {
         Ok(values) => Ok(Primitive::Refused { results, values }),
@@ -340,7 +344,7 @@ fn in_accepted(
     requires { is_associated carrier ≡ false }
     ensures { Answers result (conclusion carrier contexts.now (Ok (marks_of found))) }
 {
-    match taken(alloc, Standing::Accepted(contexts), found) {
+    match admitted(alloc, Negotiated::Accepted(contexts), found) {
         Ok(values) => Ok(with_values(carrier, values)),
         Err(error) => Err(error),
     }

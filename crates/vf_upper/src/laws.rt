@@ -1,5 +1,12 @@
 //! Laws of writing and reading, each the contract of a function that does nothing.
-ghost use Rattle.vf_upper.specs.Laws.{IsReadAgain, IsReadInResynchronizations};
+ghost use Rattle.vf_upper.specs.Laws.{HasRoom, IsAnswered, IsReadAgain, IsReadInResynchronizations};
+
+/// User data are answered by what they mean: where they are one value of the type of their SPDU, in whatever spelling, by
+/// the numbers, names and values that this value holds by the modules of presentation (ISO 8823) and ACSE (ISO 8650-1);
+/// else by a fault of the form.
+pub fn what_is_read_is_meant()
+    ensures { IsAnswered }
+{}
 
 /// The user data that are written for a primitive within the limits are read as this primitive. An acceptance or a
 /// refusal is read with the contexts that were proposed, other primitives but an association request with those that
@@ -11,4 +18,10 @@ pub fn written_is_read_again()
 /// Data of one value within the SEQUENCE of a resynchronization or of its response are read as these data.
 pub fn resynchronizations_are_read_again()
     ensures { IsReadInResynchronizations }
+{}
+
+/// A primitive with one value in contexts that suit it can be written where the value is at most 23 deep and leaves 128
+/// of the 1,048,576 octets, and as many for each context that the primitive proposes or answers.
+pub fn small_values_have_room()
+    ensures { HasRoom }
 {}

@@ -7,24 +7,25 @@ mod contexts;
 mod errors;
 mod holding;
 mod laws;
+mod negotiated;
 mod placed;
 mod presentation;
 mod primitive;
 mod reading;
 mod results;
-mod standing;
+mod sizes;
 mod values;
 mod writing;
 
 pub use contexts::{ContextEntry, Contexts, Offer, Offers};
 pub use errors::UpperError;
-pub use laws::{resynchronizations_are_read_again, written_is_read_again};
+pub use laws::{
+    resynchronizations_are_read_again, small_values_have_room, what_is_read_is_meant,
+    written_is_read_again,
+};
 pub use placed::is_writable;
 pub use primitive::Primitive;
 pub use reading::read;
 pub use results::Results;
 pub use values::{CarriedValue, CarriedValues};
 pub use writing::write;
-
-#[cfg(test)]
-mod tests;

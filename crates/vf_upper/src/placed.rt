@@ -1,39 +1,36 @@
 //! Which primitives have user data to write.
-ghost use Rattle.std.specs.Prelude.{◌≡◌, ◌↔◌, IfOk, IsTrue, map};
+ghost use Rattle.std.specs.Prelude.{◌≡◌, ◌↔◌, IsTrue, map};
 ghost use Rattle.std.specs.List.{list_all};
 ghost use Rattle.vf_upper.specs.Carried.{carried_of};
-ghost use Rattle.vf_upper.specs.Conclusions.{standing_of};
+ghost use Rattle.vf_upper.specs.Conclusions.{negotiated_of};
 ghost use Rattle.vf_upper.specs.Written.{accepted, has_pdu as pdu_test, is_placed as placed_test, IsWritable, suits_in as suits_test};
 
-use crate::conclusion::{Standing, is_suited, syntax_in};
-use crate::standing::acse_id;
-use crate::writing::value_of;
+use crate::conclusion::{Negotiated, is_suited, syntax_in};
+use crate::negotiated::acse_id;
+use crate::sizes::size_of;
 use crate::{CarriedValue, CarriedValues, ContextEntry, Contexts, Offer, Offers, Primitive};
-use std::alloc::Global;
-use vf_base::NoMemory;
-use vf_ber::WriteError;
 use vf_upper_grammar::NumberLabel;
 
-fn suits_in(standing: Standing<'_>, label: NumberLabel, id: i64) -> bool
-    ensures { result ≡ suits_test (standing_of standing.entry) label id }
+fn suits_in(negotiated: Negotiated<'_>, label: NumberLabel, id: i64) -> bool
+    ensures { result ≡ suits_test (negotiated_of negotiated.entry) label id }
 {
-    is_suited(label, syntax_in(standing, id))
+    is_suited(label, syntax_in(negotiated, id))
 }
 
 /// There is a context of ACSE and one value, both in contexts that suit them.
 fn has_pdu(
-    standing: Standing<'_>,
+    negotiated: Negotiated<'_>,
     contexts: &[ContextEntry],
     label: NumberLabel,
     values: &[CarriedValue],
 ) -> bool
-    ensures { result ≡ pdu_test (standing_of standing.entry) contexts.now label (map carried_of values.now) }
+    ensures { result ≡ pdu_test (negotiated_of negotiated.entry) contexts.now label (map carried_of values.now) }
 {
     match values {
         [] => false,
         [value] => {
-            suits_in(standing, NumberLabel::AcseContext, acse_id(contexts))
-                && suits_in(standing, label, value.context)
+            suits_in(negotiated, NumberLabel::AcseContext, acse_id(contexts))
+                && suits_in(negotiated, label, value.context)
         }
         [_, _, ..] => false,
     }
@@ -58,7 +55,7 @@ fn all_suit(contexts: &[ContextEntry], values: &[CarriedValue]) -> bool
     let mut rest = values;
     while let Some((value, others)) = rest.split_first() {
         if !suits_in(
-            Standing::Accepted(contexts),
+            Negotiated::Accepted(contexts),
             NumberLabel::AnyContext,
             value.context,
         ) {
@@ -74,7 +71,7 @@ fn is_request_placed(offers: &Offers, values: &CarriedValues, contexts: &[Contex
 {
     all_offer_ber(offers.as_slice())
         && has_pdu(
-            Standing::Offered(offers.as_slice()),
+            Negotiated::Offered(offers.as_slice()),
             contexts,
             NumberLabel::PciContext,
             values.as_slice(),
@@ -85,12 +82,12 @@ fn is_request_placed(offers: &Offers, values: &CarriedValues, contexts: &[Contex
 fn is_placed(primitive: &Primitive, contexts: &[ContextEntry]) -> bool
     ensures { result ≡ placed_test primitive.now contexts.now }
 {
-    let standing = Standing::Accepted(contexts);
+    let negotiated = Negotiated::Accepted(contexts);
     match primitive {
         Primitive::Associate { offers, values } => is_request_placed(offers, values, contexts),
         Primitive::Accepted { values, .. } => {
             has_pdu(
-                standing,
+                negotiated,
                 contexts,
                 NumberLabel::PciContext,
                 values.as_slice(),
@@ -99,7 +96,7 @@ fn is_placed(primitive: &Primitive, contexts: &[ContextEntry]) -> bool
         Primitive::Refused { results, values } => {
             results.as_slice().is_empty() && values.as_slice().is_empty()
                 || has_pdu(
-                    standing,
+                    negotiated,
                     contexts,
                     NumberLabel::PciContext,
                     values.as_slice(),
@@ -107,7 +104,7 @@ fn is_placed(primitive: &Primitive, contexts: &[ContextEntry]) -> bool
         }
         Primitive::Release { values } => {
             has_pdu(
-                standing,
+                negotiated,
                 contexts,
                 NumberLabel::AnyContext,
                 values.as_slice(),
@@ -115,7 +112,7 @@ fn is_placed(primitive: &Primitive, contexts: &[ContextEntry]) -> bool
         }
         Primitive::Released { values } => {
             has_pdu(
-                standing,
+                negotiated,
                 contexts,
                 NumberLabel::AnyContext,
                 values.as_slice(),
@@ -125,7 +122,7 @@ fn is_placed(primitive: &Primitive, contexts: &[ContextEntry]) -> bool
         Primitive::Abort { values } => {
             values.as_slice().is_empty()
                 || has_pdu(
-                    standing,
+                    negotiated,
                     contexts,
                     NumberLabel::AnyContext,
                     values.as_slice(),
@@ -136,22 +133,9 @@ fn is_placed(primitive: &Primitive, contexts: &[ContextEntry]) -> bool
 
 /// Whether the primitive may be given to `write` with these contexts: its values stand in contexts that suit them, an
 /// association request offers BER in each of its contexts and is asked by these, and the user data are within the
-/// limits of a value, a depth of 32 and 1,048,576 octets.
-pub fn is_writable(
-    alloc: Global,
-    primitive: &Primitive,
-    contexts: &Contexts,
-) -> Result<bool, NoMemory>
-    ensures { IfOk result (λ yes. IsTrue yes ↔ IsWritable primitive.now contexts.now) }
+/// limits of a value, a depth of 32 and 1,048,576 octets. It takes no memory.
+pub fn is_writable(primitive: &Primitive, contexts: &Contexts) -> bool
+    ensures { IsTrue result ↔ IsWritable primitive.now contexts.now }
 {
-    if !is_placed(primitive, contexts.as_slice()) {
-        return Ok(false);
-    }
-    let value = value_of(alloc, primitive, contexts.as_slice())?;
-    let mut spelled = Vec::new(alloc);
-    match vf_ber::write(alloc, &value, &mut spelled) {
-        Ok(()) => Ok(true),
-        Err(WriteError::TooLarge) => Ok(false),
-        Err(WriteError::NoMemory) => Err(NoMemory),
-    }
+    is_placed(primitive, contexts.as_slice()) && size_of(primitive, contexts.as_slice()).is_some()
 }

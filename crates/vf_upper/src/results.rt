@@ -29,7 +29,7 @@ impl Results {
         }
     }
 
-    /// Puts a result behind the others; without memory the list stays as it is.
+    /// Puts a result after the others; without memory the list stays as it is.
     pub fn push(&mut self, accepted: bool) -> Result<(), NoMemory>
         ensures ok { OnOk result (self.new ≡ self.old ++ accepted ∷ []) }
         ensures err { OnErr result (self.new ≡ self.old) }

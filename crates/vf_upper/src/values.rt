@@ -57,7 +57,7 @@ impl CarriedValues {
         }
     }
 
-    /// Puts a value behind the others; without memory the list stays as it is.
+    /// Puts a value after the others; without memory the list stays as it is.
     pub fn push(&mut self, value: CarriedValue) -> Result<(), NoMemory>
         ensures ok { OnOk result (self.new ≡ self.old ++ carried_of value ∷ []) }
         ensures err { OnErr result (self.new ≡ self.old) }

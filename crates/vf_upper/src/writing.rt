@@ -165,8 +165,7 @@ pub fn write(
     let value = value_of(alloc, primitive, contexts.as_slice())?;
     match vf_ber::write(alloc, &value, out) {
         Ok(()) => Ok(()),
-        // A writable primitive is not too large.
-        Err(WriteError::TooLarge) => Err(NoMemory),
+        Err(WriteError::TooLarge) => unreachable!(),
         Err(WriteError::NoMemory) => Err(NoMemory),
     }
 }

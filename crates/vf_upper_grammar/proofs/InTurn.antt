@@ -9,14 +9,14 @@ use Rattle.vf_ber.proofs.OneTree.{spelling_long}
 use Rattle.vf_ber.proofs.Plain.{reading_found}
 use Rattle.vf_upper_grammar.specs.declared.marks.Stop.{Stop}
 use Rattle.vf_upper_grammar.specs.declared.marks.Stop.TheVariants.{At, NoMemory}
-use Rattle.vf_upper_grammar.specs.CargoViews.{IsNext}
+use Rattle.vf_upper_grammar.specs.ValueViews.{IsNext}
 use Rattle.vf_upper_grammar.specs.MarkViews.{Stops}
 use Rattle.vf_upper_grammar.specs.Marks.{Mark, Found}
 use Rattle.vf_upper_grammar.specs.Texts.{go_on, some, some_in, then_read}
 use Rattle.vf_upper_grammar.proofs.Readings.{Others}
 
 -- a value takes an octet at least
-abbrev Takes : List ℕ → Reading → Type 0
+abbrev pub Takes : List ℕ → Reading → Type 0
 Takes octets (Read tree n) = (0 < n) × (n ≤ length octets)
 Takes octets other = Unit {0}
 
@@ -30,7 +30,7 @@ takes_by octets (Bad at) is = tt
 takes_by octets (Deep at) is = tt
 takes_by octets (Long at) is = tt
 
-takes : (octets : List ℕ) → Takes octets (reading octets)
+pub takes : (octets : List ℕ) → Takes octets (reading octets)
 takes octets = takes_by octets (reading octets) (reading_found octets)
 
 -- equal on shorter octets
@@ -83,15 +83,15 @@ go-left at [] found = refl
 go-left at (octet ∷ octets) found =
     let some : nat_lt 0 (length (octet ∷ octets)) ≡ true = grind (arith, nat_tests) in ap (λ b. left b at (octet ∷ octets) found) (sym some)
 
--- something is behind a place where this is in front of the end
-behind_place : (at : ℕ) (octets : List ℕ) → nat_lt 0 (length (drop at octets)) ≡ nat_lt at (length octets)
-behind_place at octets = let long = length-drop at octets in grind (arith, nat_tests)
+-- something is after a place where this is before the end
+after_place : (at : ℕ) (octets : List ℕ) → nat_lt 0 (length (drop at octets)) ≡ nat_lt at (length octets)
+after_place at octets = let long = length-drop at octets in grind (arith, nat_tests)
 
 pub left_next : (at n : ℕ) (octets : List ℕ) (old new : List Mark) → IsNext at (drop at octets) old (Ok n) new
     → left true at (drop at octets) old ≡ left (nat_lt (at + n) (length octets)) (at + n) (drop (at + n) octets) new
 left_next at n octets old new next =
     some-step at (drop at octets) old ∙ next (go_on some_at) ∙ ap (λ o. go_on some_at (at + n) o new) (drop-drop n at octets) ∙ go-left (at + n) (drop (at + n) octets) new
-    ∙ ap (λ b. left b (at + n) (drop (at + n) octets) new) (behind_place (at + n) octets)
+    ∙ ap (λ b. left b (at + n) (drop (at + n) octets) new) (after_place (at + n) octets)
 
 pub left_stops : (at : ℕ) (rest : List ℕ) (old new : List Mark) (stop : Stop) (all : Found) → all ≡ left true at rest old → IsNext at rest old (Err stop) new → Stops stop all
 left_stops at rest old new (At place) all same next = same ∙ some-step at rest old ∙ next (go_on some_at)

@@ -1,10 +1,17 @@
+pub mod Agreeing
 mod Apdus
-mod Ends
+pub mod Chosen
+pub mod Ends
+pub mod HeldMeant
 mod InTurn
-mod Landings
+mod Locations
 mod Numbers
+pub mod Ordered
 mod Readings
-mod SegmentTurns
+pub mod SegmentTurns
+pub mod Spelled
 mod Stopping
 mod Turns
+pub mod TypesMeant
+pub mod ValuesMeant
 mod Walks

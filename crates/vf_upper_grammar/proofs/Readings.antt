@@ -13,7 +13,7 @@ use Rattle.vf_ber.proofs.Plain.{reading_found}
 use Rattle.vf_ber.proofs.Readings.{one_reading}
 use Rattle.vf_upper_grammar.specs.declared.marks.Stop.{Stop}
 use Rattle.vf_upper_grammar.specs.declared.marks.Stop.TheVariants.{At, NoMemory}
-use Rattle.vf_upper_grammar.specs.CargoViews.{IsMisread, IsNext, IsSmall, IsValueIn}
+use Rattle.vf_upper_grammar.specs.ValueViews.{IsMisread, IsNext, IsSmall, IsValueIn}
 use Rattle.vf_upper_grammar.specs.MarkViews.{Stops}
 use Rattle.vf_upper_grammar.specs.Marks.{Mark, Found}
 use Rattle.vf_upper_grammar.specs.Texts.{nothing, one, then_read}
@@ -21,7 +21,7 @@ use Rattle.vf_upper_grammar.specs.Texts.{nothing, one, then_read}
 pub reading_is : (octets : List ℕ) (v : Reading) → IsReading octets v → reading octets ≡ v
 reading_is octets v is = one_reading octets (reading octets) v (reading_found octets) is
 
--- a fault stands within the limit of a value, since some value begins in front of it
+-- a fault stands within the limit of a value, since some value begins before it
 fault_small : (octets : List ℕ) (at : ℕ) → IsFirstFault octets at → IsSmall at (length octets)
 fault_small octets at f =
     let there = f.there in

@@ -3,20 +3,20 @@ use Rattle.std.proofs.Common.{◌≡◌, ℕ, zero, suc, ◌+◌, ◌-◌, ◌<�
 use Rattle.std.specs.Prelude.{nat_eq, nat_lt, Option, None, Some, if◌then◌else◌}
 use Rattle.std.proofs.lemmas.Bool.Decides.{nat_tests}
 use Rattle.std.proofs.lemmas.List.{length-append, length-drop, get_or_append_left, get_or-append_right}
-use Rattle.vf_upper_grammar.specs.Parts.{Header, header_at, Taken, taken, Text}
+use Rattle.vf_upper_grammar.specs.Parts.{Header, header_at, FirstPart, first_part, Text}
 use Rattle.vf_upper_grammar.specs.HeldViews.{broken_at}
 use Rattle.vf_upper_grammar.specs.SegmentViews.{no_segment, none_held}
 use Rattle.vf_upper_grammar.specs.Texts.{constructed_segment, cut_to, Held, held_in, nothing_held, place_of, places_from, primitive_segment, segment, segments, segments_in, then_held}
 use Rattle.vf_upper_grammar.proofs.Ends.{header-more, header-within, HeaderWithin}
-use Rattle.vf_upper_grammar.proofs.Turns.{taken-within, TakenWithin}
+use Rattle.vf_upper_grammar.proofs.Turns.{first_part-within, FirstPartWithin}
 
 -- equal on shorter texts
 abbrev pub Agree : ℕ → (Text → Held) → (Text → Held) → Type 0
 Agree n f g = (text : Text) → length text.octets < n → f text ≡ g text
 
-primitive-same : (n : ℕ) (f g : Text → Held) (end : ℕ) (o : Option Taken) → Agree n f g → TakenWithin n o → primitive_segment f end o ≡ primitive_segment g end o
+primitive-same : (n : ℕ) (f g : Text → Held) (end : ℕ) (o : Option FirstPart) → Agree n f g → FirstPartWithin n o → primitive_segment f end o ≡ primitive_segment g end o
 primitive-same n f g end None agree w = refl
-primitive-same n f g end (Some taken) agree w = ap (then_held taken.part.contents) (agree taken.rest (omega arith))
+primitive-same n f g end (Some first_part) agree w = ap (then_held first_part.part.contents) (agree first_part.rest (omega arith))
 
 constructed-same : (n : ℕ) (f g : Text → Held) (text : Text) (end : ℕ) (h : Option Header) → Agree n f g → HeaderWithin n h
     → constructed_segment f text end h ≡ constructed_segment g text end h
@@ -35,8 +35,8 @@ segment-same f g text end (first ∷ octets) e agree =
     let bound : suc (length octets) ≤ length text.octets = omega arith in
     if-same (nat_eq first 0) (f (cut_to text (drop 1 octets))) (g (cut_to text (drop 1 octets))) _ _
     (agree (cut_to text (drop 1 octets)) (omega (arith, n, length-drop 1 octets)))
-    (if-same (nat_eq first 4) (primitive_segment f end (taken text)) (primitive_segment g end (taken text)) _ _
-    (primitive-same (length text.octets) f g end (taken text) agree (taken-within text))
+    (if-same (nat_eq first 4) (primitive_segment f end (first_part text)) (primitive_segment g end (first_part text)) _ _
+    (primitive-same (length text.octets) f g end (first_part text) agree (first_part-within text))
     (if-same (nat_eq first 36) (constructed_segment f text end (header_at (first ∷ octets))) (constructed_segment g text end (header_at (first ∷ octets))) _ _
     (constructed-same (length text.octets) f g text end (header_at (first ∷ octets)) agree
     (header-more (suc (length octets)) (length text.octets) (header_at (first ∷ octets)) bound (header-within (first ∷ octets))))
@@ -49,17 +49,17 @@ turns-same (suc t) zero end text a b = absurd (omega arith)
 turns-same (suc t) (suc u) end text a b =
     segment-same (segments_in t end) (segments_in u end) text end text.octets refl (λ other lt. turns-same t u end other (omega arith) (omega arith))
 
--- the octets of segments are those of the first and of those behind it
+-- the octets of segments are those of the first and of those after it
 pub segments-step : (end : ℕ) (text : Text) → segments end text ≡ segment (segments end) text end text.octets
 unfolding segments segments_in
 segments-step end text =
     segment-same (segments_in (length text.octets) end) (segments end) text end text.octets refl
     (λ other lt. turns-same (length text.octets) (suc (length other.octets)) end other lt (omega arith))
 
--- what the first octets and those behind them are, or nothing
-pub segments-next : (end : ℕ) (text contents behind : Text) → ((others : Text → Held) (end : ℕ) → segment others text end text.octets ≡ then_held contents (others behind))
-    → segments end text ≡ then_held contents (segments end behind)
-segments-next end text contents behind piece = segments-step end text ∙ piece (segments end) end
+-- what the first octets and those after them are, or nothing
+pub segments-next : (end : ℕ) (text contents after : Text) → ((others : Text → Held) (end : ℕ) → segment others text end text.octets ≡ then_held contents (others after))
+    → segments end text ≡ then_held contents (segments end after)
+segments-next end text contents after piece = segments-step end text ∙ piece (segments end) end
 
 pub segments-none : (end : ℕ) (text : Text) → ((others : Text → Held) (end : ℕ) → segment others text end text.octets ≡ none_held text end)
     → segments end text ≡ none_held text end
@@ -111,10 +111,10 @@ pub place-inside : (text : Text) (end o : ℕ) → o < length text.octets → pl
 place-inside text end o lt =
     ap (λ b. if_nat b (get_or (places_from text.at text.octets) o 0) end) (lt-true o (length text.octets) lt) ∙ places-at text.at text.octets o lt
 
-pub place-behind : (text : Text) (end o : ℕ) → length text.octets ≤ o → place_of (held_in text end) o ≡ end
-place-behind text end o le = ap (λ b. if_nat b (get_or (places_from text.at text.octets) o 0) end) (lt-false o (length text.octets) le)
+pub place-after : (text : Text) (end o : ℕ) → length text.octets ≤ o → place_of (held_in text end) o ≡ end
+place-after text end o le = ap (λ b. if_nat b (get_or (places_from text.at text.octets) o 0) end) (lt-false o (length text.octets) le)
 
--- a place in a first segment, and behind it
+-- a place in a first segment, and after it
 pub place-first : (text : Text) (held : Held) (o : ℕ) → o < length text.octets → place_of (then_held text held) o ≡ text.at + o
 place-first text held o lt =
     let inside : o < length (text.octets ++ held.octets) = omega (arith, length-append text.octets held.octets) in

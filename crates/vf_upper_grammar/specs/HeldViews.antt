@@ -7,7 +7,7 @@ use Rattle.vf_upper_grammar.specs.declared.marks.Stop.{Stop}
 use Rattle.vf_upper_grammar.specs.Marks.{Mark, Found}
 use Rattle.vf_upper_grammar.specs.MarkViews.{Gives}
 use Rattle.vf_upper_grammar.specs.Parts.{Part, Text}
-use Rattle.vf_upper_grammar.specs.Texts.{Held, held, landed, place_of, segments}
+use Rattle.vf_upper_grammar.specs.Texts.{Held, held, located, place_of, segments}
 
 abbrev pub octets_of : code.Held → List ℕ
 octets_of (Contents octets) = octets.now
@@ -34,6 +34,6 @@ abbrev pub BreaksHeld : Part → Option ℕ → Type 0
 BreaksHeld part place = (h : Held) → held part ≡ Some h → broken_at h ≡ place
 
 -- what is found in held octets, with places in the user data
-abbrev pub IsLanded : Part → ℕ → Result Unit Stop → Result Unit Stop → Type 0
-IsLanded part len read result =
-    (h : Held) → held part ≡ Some h → length h.octets ≡ len → (marks : List Mark) (found : Found) → Gives read marks found → Gives result marks (landed h found)
+abbrev pub IsLocated : Part → ℕ → Result Unit Stop → Result Unit Stop → Type 0
+IsLocated part len read result =
+    (h : Held) → held part ≡ Some h → length h.octets ≡ len → (marks : List Mark) (found : Found) → Gives read marks found → Gives result marks (located h found)

@@ -1,8 +1,11 @@
-pub mod CargoViews
+pub mod ValueViews
 pub mod Forms
 pub mod HeldViews
 pub mod MarkViews
 pub mod Marks
+pub mod Meanings
+pub mod Meant
+pub mod Modules
 pub mod Parts
 pub mod Rows
 pub mod SegmentViews

@@ -8,8 +8,8 @@ use Rattle.vf_upper_grammar.specs.declared.form.Pair.{Pair}
 use Rattle.vf_upper_grammar.specs.declared.form.Pair.TheVariants as pairs
 use Rattle.vf_upper_grammar.specs.declared.form.Listing.{Listing}
 use Rattle.vf_upper_grammar.specs.declared.form.Listing.TheVariants as listings
-use Rattle.vf_upper_grammar.specs.declared.form.Cargo.{Cargo}
-use Rattle.vf_upper_grammar.specs.declared.form.Cargo.TheVariants as cargos
+use Rattle.vf_upper_grammar.specs.declared.form.DataValues.{DataValues}
+use Rattle.vf_upper_grammar.specs.declared.form.DataValues.TheVariants as data_values
 use Rattle.vf_upper_grammar.specs.declared.form.Form.{Form}
 use Rattle.vf_upper_grammar.specs.declared.form.Form.TheVariants as forms
 use Rattle.vf_upper_grammar.specs.declared.form.Field.{Field}
@@ -20,7 +20,7 @@ use Rattle.vf_upper_grammar.specs.Forms as grammar
 use Rattle.vf_upper_grammar.specs.Syntaxes.{ber}
 use Rattle.vf_upper_grammar.specs.Texts.{carried, carried_data, one, some, typed}
 use Rattle.vf_upper_grammar.specs.Texts as texts
-use Rattle.vf_upper_grammar.specs.Types.{aare, aarq, abrt, acse_data, all_data, application, application_context_name, cargo_of, context, explicit, external, fixed, mode_selector, one_data, outcome, pdv_list, proposal, release, required, resynchronization, transfer_syntaxes, universal, user_information}
+use Rattle.vf_upper_grammar.specs.Types.{aare, aarq, abrt, acse_data, all_data, application, application_context_name, user_data_of, context, explicit, external, fixed, mode_selector, one_data, outcome, pdv_list, proposal, release, required, resynchronization, transfer_syntaxes, universal, user_information}
 
 -- ---- what the SPDU decides
 
@@ -50,7 +50,7 @@ apdu_type FN = types.Release
 apdu_type DN = types.Release
 apdu_type kind = types.Abrt
 
-abbrev pub apdu_in : SpduKind → grammar.Finding
+abbrev pub apdu_in : SpduKind → grammar.Form
 apdu_in CN = aarq
 apdu_in AC = aare 0
 apdu_in RF = aare 1
@@ -60,7 +60,7 @@ apdu_in kind = abrt
 
 -- ---- names and types
 
-abbrev pub type_of : SpduKind → TypeName → grammar.Finding
+abbrev pub type_of : SpduKind → TypeName → grammar.Form
 type_of kind types.Mode = mode_selector
 type_of kind types.Parameters = grammar.sequence (
     required (context 4) (grammar.sequence_of (universal 16) proposal) ∷
@@ -108,39 +108,39 @@ skips types.Release = true
 skips types.Abrt = true
 skips kind = false
 
-abbrev pub pair_of : SpduKind → Pair → grammar.Finding
+abbrev pub pair_of : SpduKind → Pair → grammar.Form
 pair_of kind pairs.Cp = grammar.set (required (context 0) mode_selector) (required (context 2) (type_of kind types.Parameters))
 pair_of kind pairs.Cpa = grammar.set (required (context 0) mode_selector) (required (context 2) (type_of kind types.Response))
 
-abbrev pub cargo_read : SpduKind → Cargo → grammar.Finding
-cargo_read kind cargos.One = carried one
-cargo_read kind cargos.Some = carried_data
-cargo_read kind cargos.Apdu = carried (typed (apdu_tags kind) (apdu_in kind))
+abbrev pub values_read : SpduKind → DataValues → grammar.Form
+values_read kind data_values.One = carried one
+values_read kind data_values.Some = carried_data
+values_read kind data_values.Apdu = carried (typed (apdu_tags kind) (apdu_in kind))
 
 -- what octets are within [0] or [1], by its number
-abbrev pub cargo_within : SpduKind → Cargo → ℕ → texts.Cargo
-cargo_within kind cargos.One number = one
-cargo_within kind cargos.Some number = if nat_eq number 0 then one else some
-cargo_within kind cargos.Apdu number = typed (apdu_tags kind) (apdu_in kind)
+abbrev pub values_within : SpduKind → DataValues → ℕ → texts.OctetForm
+values_within kind data_values.One number = one
+values_within kind data_values.Some number = if nat_eq number 0 then one else some
+values_within kind data_values.Apdu number = typed (apdu_tags kind) (apdu_in kind)
 
-abbrev pub listing_of : Listing → grammar.Finding
+abbrev pub listing_of : Listing → grammar.Form
 listing_of listings.Proposals = grammar.sequence_of (universal 16) proposal
 listing_of listings.Transfers = transfer_syntaxes
 listing_of listings.Outcomes = grammar.sequence_of (universal 16) outcome
 listing_of listings.Data = all_data
 
-abbrev pub read_of : SpduKind → Form → grammar.Finding
+abbrev pub read_of : SpduKind → Form → grammar.Form
 read_of kind (forms.Number only label) = grammar.integer only label
 read_of kind forms.AareResult = fixed (result_in kind)
 read_of kind forms.PduContext = grammar.integer None (label_in kind)
 read_of kind (forms.Name label) = grammar.object_identifier None label
 read_of kind forms.Ber = grammar.object_identifier (Some ber) Stated
-read_of kind forms.Anything = grammar.anything
+read_of kind forms.Skipped = grammar.skipped
 read_of kind (forms.Fields name) = type_of kind name
 read_of kind (forms.Set pair) = pair_of kind pair
 read_of kind (forms.Each listing) = listing_of listing
 read_of kind forms.Outcome = outcome
-read_of kind (forms.Carried cargo) = cargo_read kind cargo
+read_of kind (forms.Carried values) = values_read kind values
 
 abbrev pub tags_of : Field → grammar.Tags
 tags_of field = record { class = field.class; from = field.from; to = field.to }
@@ -149,14 +149,14 @@ abbrev pub field_of : SpduKind → Field → grammar.Field
 field_of kind field = record { tags = tags_of field; is_required = field.is_required; read = read_of kind field.form }
 
 -- a type by its fields
-abbrev pub fields_read : TypeName → List grammar.Field → grammar.Finding
+abbrev pub fields_read : TypeName → List grammar.Field → grammar.Form
 fields_read name fields = if skips name then grammar.sequence fields else grammar.exactly fields
 
 -- ---- what the user data of each SPDU is
 
 abbrev pub IsUserData : SpduKind → Option Field → Type 0
-IsUserData kind None = cargo_of kind ≡ None
-IsUserData kind (Some field) = cargo_of kind ≡ Some (typed (tags_of field) (read_of kind field.form))
+IsUserData kind None = user_data_of kind ≡ None
+IsUserData kind (Some field) = user_data_of kind ≡ Some (typed (tags_of field) (read_of kind field.form))
 
 -- ---- how deep types nest
 
@@ -189,17 +189,17 @@ listing_rank listings.Transfers = 1
 listing_rank listings.Outcomes = 3
 listing_rank listings.Data = 2
 
-abbrev pub cargo_rank : Cargo → ℕ
-cargo_rank cargos.One = 0
-cargo_rank cargos.Some = 0
-cargo_rank cargos.Apdu = 4
+abbrev pub values_rank : DataValues → ℕ
+values_rank data_values.One = 0
+values_rank data_values.Some = 0
+values_rank data_values.Apdu = 4
 
 abbrev pub rank : Form → ℕ
 rank (forms.Fields name) = type_rank name
 rank (forms.Set pair) = 8
 rank (forms.Each listing) = listing_rank listing
 rank forms.Outcome = 2
-rank (forms.Carried cargo) = cargo_rank cargo
+rank (forms.Carried values) = values_rank values
 rank form = 0
 
 abbrev pub are_below : ℕ → List Field → Bool

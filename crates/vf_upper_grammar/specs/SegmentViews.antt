@@ -3,7 +3,7 @@ use Rattle.std.specs.Prelude.{◌≡◌, ℕ, ◌+◌, ◌<◌, Bool, true, fals
 use Rattle.vf_upper_grammar.specs.declared.segments.Segment.{Segment}
 use Rattle.vf_upper_grammar.specs.declared.segments.Segment.TheVariants.{Octets, Bound, Nothing}
 use Rattle.vf_upper_grammar.specs.declared.text.Text as declared
-use Rattle.vf_upper_grammar.specs.Parts.{header_at, taken, Text}
+use Rattle.vf_upper_grammar.specs.Parts.{header_at, first_part, Text}
 use Rattle.vf_upper_grammar.specs.Texts.{constructed_segment, Held, nothing_held, primitive_segment, segment, then_held}
 use Rattle.vf_upper_grammar.specs.Views.{text_of}
 
@@ -21,12 +21,12 @@ held_by others text end (Octets contents rest) = then_held (text_of contents) (o
 held_by others text end (Bound rest) = others (text_of rest)
 held_by others text end Nothing = none_held text end
 
--- the octets of all segments are those that it has, and those behind it
+-- the octets of all segments are those that it has, and those after it
 abbrev pub IsStep : Text → Segment → Type 0
 IsStep text step = (others : Text → Held) (end : ℕ) → segment others text end text.octets ≡ held_by others text end step
 
 abbrev pub IsPrimitive : Text → Segment → Type 0
-IsPrimitive text step = (others : Text → Held) (end : ℕ) → primitive_segment others end (taken text) ≡ held_by others text end step
+IsPrimitive text step = (others : Text → Held) (end : ℕ) → primitive_segment others end (first_part text) ≡ held_by others text end step
 
 abbrev pub IsConstructed : Text → Segment → Type 0
 IsConstructed text step = (others : Text → Held) (end : ℕ) → constructed_segment others text end (header_at text.octets) ≡ held_by others text end step
@@ -37,7 +37,7 @@ Shortens n (Octets contents rest) = length contents.octets.now + length rest.oct
 Shortens n (Bound rest) = length rest.octets.now < n
 Shortens n Nothing = Unit {0}
 
--- the octets of all segments are these and those behind them
+-- the octets of all segments are these and those after them
 abbrev pub IsPiece : Text → Option (declared.Text × declared.Text) → Type 0
 IsPiece text (Some x) = (others : Text → Held) (end : ℕ) → segment others text end text.octets ≡ then_held (text_of x.0) (others (text_of x.1))
 IsPiece text None = (others : Text → Held) (end : ℕ) → segment others text end text.octets ≡ none_held text end

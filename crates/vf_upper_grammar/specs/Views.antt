@@ -9,13 +9,13 @@ abbrev pub text_of : Text → parts.Text
 text_of text = record { octets = text.octets.now; at = text.at; whole = text.whole }
 
 abbrev pub part_of : Part → parts.Part
-part_of part = record { at = part.at; first = part.first; contents = text_of part.contents; behind = part.behind }
+part_of part = record { at = part.at; first = part.first; contents = text_of part.contents; after = part.after }
 
 abbrev pub header_of : Header → parts.Header
 header_of header = record { count = header.count; rest = header.rest.now }
 
-abbrev pub taken_of : Part × Text → parts.Taken
-taken_of taken = record { part = part_of taken.0; rest = text_of taken.1 }
+abbrev pub first_part_of : Part × Text → parts.FirstPart
+first_part_of first_part = record { part = part_of first_part.0; rest = text_of first_part.1 }
 
 abbrev pub piece_of : Piece → parts.Piece
 piece_of piece = record { octets = piece.octets.now; whole = piece.whole; rest = piece.rest.now }

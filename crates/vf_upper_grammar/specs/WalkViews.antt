@@ -25,7 +25,7 @@ abbrev pub IsLacking : SpduKind → List Field → Text → Result Unit Stop →
 IsLacking carrier fields text result =
     (found : List Mark) → Gives result found (forms.lacking (list_any (λ field. field.is_required) (fields_of carrier fields)) (closing text) found)
 
--- what is found behind a part, by the fields that may still come
+-- what is found after a part, by the fields that may still come
 abbrev pub StepsTo : SpduKind → Bool → List Field → List Field → Part → List Mark → List Field → List Mark → Type 0
 StepsTo carrier skips fields left part old next new =
     (others : forms.Walk) → forms.step skips (fields_of carrier fields) part others (fields_of carrier left) old (forms.due part.first (fields_of carrier left)) ≡ others (fields_of carrier next) new

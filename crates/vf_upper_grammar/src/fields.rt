@@ -11,7 +11,7 @@ ghost use Rattle.vf_upper_grammar.specs.WalkViews.{due_of, IsLacking, most};
 
 use crate::form::Field;
 use crate::marks::Stop;
-use crate::parts::{is_constructed, taken};
+use crate::parts::first_part;
 use crate::text::{Part, Text};
 use vf_base::SpduKind;
 
@@ -22,7 +22,7 @@ pub(crate) fn has_tag(field: Field, first: u8) -> bool
     first / 64 == field.class && field.from <= number && number <= field.to
 }
 
-/// The field of this tag, where no required one is due in front of it, and those behind it.
+/// The field of this tag, where no required one is due before it, and those after it.
 pub(crate) fn due(carrier: SpduKind, first: u8, fields: &[Field]) -> Option<(Field, &[Field])>
     ensures due { option_map (λ x. due_of carrier x.0 x.1.now) result ≡ due_field first (map (field_of carrier) fields.now) }
     ensures rank { IfSome result (λ x. rank x.0.form < most fields.now) }
@@ -87,11 +87,11 @@ pub(crate) fn leading<'a>(carrier: SpduKind, fields: &[Field], text: Text<'a>) -
     ensures { option_map part_of result ≡ leading_part (map (field_of carrier) fields.now) (parts_of (text_of text.entry)) }
 {
     let mut rest = text;
-    while let Some((part, behind)) = taken(rest) {
+    while let Some((part, after)) = first_part(rest) {
         if is_known(carrier, fields, part.first) {
             return Some(part);
         }
-        rest = behind;
+        rest = after;
     }
     None
 }
@@ -113,7 +113,8 @@ pub(crate) fn refuses(part: Option<Part<'_>>) -> bool
     let Some(part) = part else {
         return false;
     };
-    if is_constructed(part.first) {
+    // a primitive [0]
+    if part.first != 128 {
         return false;
     }
     match part.contents.octets {

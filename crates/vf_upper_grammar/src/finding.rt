@@ -1,7 +1,7 @@
 //! Finding of user data.
 ghost use Rattle.std.specs.Prelude.{◌≡◌, []};
 ghost use Rattle.vf_upper_grammar.specs.MarkViews.{Gives, marks_of};
-ghost use Rattle.vf_upper_grammar.specs.Types.{cargo_of, found_in};
+ghost use Rattle.vf_upper_grammar.specs.Types.{user_data_of, found_in};
 
 use crate::marks::{Marks, Stop};
 use crate::table::user_data;
@@ -11,10 +11,10 @@ use vf_base::SpduKind;
 
 /// Finds what the user data of an SPDU of this kind say (ISO 8823, 8.2; ISO 8650-1, 9; profile), in the order of
 /// octets. `At` is the place of the first octet that is a fault of the form; where it is given, or memory is wanting,
-/// what was found in front of it may be among the marks.
+/// what was found before it may be among the marks.
 pub fn find(alloc: Global, carrier: SpduKind, octets: &[u8], found: &mut Marks) -> Result<(), Stop>
     requires { marks_of found.old ≡ [] }
-    ensures { Gives result (marks_of found.new) (found_in (cargo_of carrier) octets.now) }
+    ensures { Gives result (marks_of found.new) (found_in (user_data_of carrier) octets.now) }
 {
     let Some(field) = user_data(carrier) else {
         return Err(Stop::At(0));

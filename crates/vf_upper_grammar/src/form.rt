@@ -63,7 +63,7 @@ pub(crate) enum Listing {
 
 /// What stands within the [0] or [1] of a PDV-list or an EXTERNAL.
 #[derive(Clone, Copy, Debug, PartialEq, Eq)]
-pub(crate) enum Cargo {
+pub(crate) enum DataValues {
     /// One value.
     One,
     /// One value or more.
@@ -84,13 +84,14 @@ pub(crate) enum Form {
     Name(NameLabel),
     /// The object identifier of BER.
     Ber,
-    Anything,
+    /// A list of which nothing is used.
+    Skipped,
     Fields(TypeName),
     Set(Pair),
     Each(Listing),
     /// An entry of the result list.
     Outcome,
-    Carried(Cargo),
+    Carried(DataValues),
 }
 
 /// A field: its class, its number or its numbers, whether it is required, and how it is read.

@@ -1,7 +1,7 @@
 //! The octets that a part with tag \[0\] or \[1\] holds.
 ghost use Rattle.std.specs.Prelude.{◌≡◌, ◌<◌, ◌≤◌, ◌^◌, IfOk, IfSome, length};
 ghost use Rattle.std.specs.Option.{option_map};
-ghost use Rattle.vf_upper_grammar.specs.HeldViews.{BreaksHeld, IsLanded, octets_in, octets_of, PlacesHeld};
+ghost use Rattle.vf_upper_grammar.specs.HeldViews.{BreaksHeld, IsLocated, octets_in, octets_of, PlacesHeld};
 ghost use Rattle.vf_upper_grammar.specs.Parts.{number_of as number_in};
 ghost use Rattle.vf_upper_grammar.specs.Texts.{explicit_in as explicit_octets, held as held_by, is_begun_end as begun_end};
 ghost use Rattle.vf_upper_grammar.specs.Views.{part_of, text_of};
@@ -87,7 +87,7 @@ pub(crate) fn octets_held<'a>(alloc: Global, part: &Part<'a>) -> Result<Option<H
     Ok(Some(Held::Segments(octets)))
 }
 
-/// The place of an octet of what a part holds, by its offset; behind the last the place where they end.
+/// The place of an octet of what a part holds, by its offset; after the last the place where they end.
 fn place_in(part: &Part<'_>, len: usize, offset: u32) -> u32
     ensures { PlacesHeld (part_of part.now) len offset result }
 {
@@ -96,12 +96,12 @@ fn place_in(part: &Part<'_>, len: usize, offset: u32) -> u32
         return contents.at + (offset as usize).min(len).min(contents.octets.len()) as u32;
     }
     if is_constructed(part.first) {
-        return place_among(contents, part.behind, offset as usize);
+        return place_among(contents, part.after, offset as usize);
     }
     if (offset as usize) < contents.octets.len() {
         contents.at + offset
     } else {
-        part.behind
+        part.after
     }
 }
 
@@ -116,8 +116,8 @@ fn broken_in(part: &Part<'_>) -> Option<u32>
 }
 
 /// What the reading of the octets that a part holds comes to: its places are offsets in them.
-pub(crate) fn landed(part: &Part<'_>, len: usize, read: Result<(), Stop>) -> Result<(), Stop>
-    ensures { IsLanded (part_of part.now) len read result }
+pub(crate) fn located(part: &Part<'_>, len: usize, read: Result<(), Stop>) -> Result<(), Stop>
+    ensures { IsLocated (part_of part.now) len read result }
 {
     match read {
         Ok(()) => match broken_in(part) {

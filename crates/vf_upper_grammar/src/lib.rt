@@ -2,12 +2,12 @@
 //! profile restates it: the identifiers, names and values in the order of octets, or the place of the first fault.
 #![tactic(auto)]
 
-mod cargo;
 mod fields;
 mod finding;
 mod form;
 mod held;
 mod labels;
+mod laws;
 mod leaf;
 mod marks;
 mod parts;
@@ -15,12 +15,11 @@ mod segments;
 mod syntaxes;
 mod table;
 mod text;
+mod values;
 mod walk;
 
 pub use finding::find;
 pub use labels::{NameLabel, NumberLabel};
+pub use laws::what_is_found_is_meant;
 pub use marks::{Mark, Marks, Stop};
 pub use syntaxes::{is_acse, is_ber, is_ftam, is_ours, is_pci};
-
-#[cfg(test)]
-mod tests;

@@ -1,5 +1,5 @@
 //! What is found in user data.
-ghost use Rattle.std.specs.Prelude.{◌≡◌, ◌++◌, [], ◌∷◌, OnOk};
+ghost use Rattle.std.specs.Prelude.{◌≡◌, ◌++◌, [], ◌∷◌, OnErr, OnOk};
 ghost use Rattle.vf_upper_grammar.specs.MarkViews.{mark_of, marks_of};
 
 use crate::labels::{NameLabel, NumberLabel};
@@ -30,8 +30,10 @@ impl Marks {
         }
     }
 
+    /// Puts a mark after the others; without memory the marks stay as they are.
     pub fn push(&mut self, mark: Mark) -> Result<(), NoMemory>
-        ensures { OnOk result (marks_of self.new ≡ marks_of self.old ++ mark_of mark ∷ []) }
+        ensures ok { OnOk result (marks_of self.new ≡ marks_of self.old ++ mark_of mark ∷ []) }
+        ensures err { OnErr result (marks_of self.new ≡ marks_of self.old) }
     {
         self.items.push(mark)?;
         Ok(())

@@ -3,8 +3,8 @@ ghost use Rattle.std.specs.Prelude.{◌≡◌, [], ◌∷◌, MatchOption, None,
 ghost use Rattle.std.specs.Option.{option_copied, option_map};
 ghost use Rattle.vf_ber.specs.Spellings.{number_in};
 ghost use Rattle.vf_ber.specs.Steps.{grown};
-ghost use Rattle.vf_upper_grammar.specs.Parts.{behind_contents, behind_end as ended_behind, behind_identifier as identified, behind_length as measured, behind_one as stripped, behind_value as valued, behind_number as numbered, cut_piece as cut_off, part_with as part_by, piece_of as piece_by, header_at as header_read, long_form as long_form_of, is_constructed as constructed_test, taken as taken_from};
-ghost use Rattle.vf_upper_grammar.specs.Views.{header_of, piece_of as pieces, taken_of, text_of};
+ghost use Rattle.vf_upper_grammar.specs.Parts.{after_contents, after_end as ended_after, after_identifier as identified, after_length as measured, after_one as stripped, after_value as valued, after_number as numbered, cut_piece as cut_off, part_with as part_by, piece_of as piece_by, header_at as header_read, long_form as long_form_of, is_constructed as constructed_test, first_part as first_part_from};
+ghost use Rattle.vf_upper_grammar.specs.Views.{header_of, piece_of as pieces, first_part_of, text_of};
 
 use crate::text::{Header, Part, Piece, Text};
 
@@ -15,17 +15,17 @@ pub(crate) fn is_constructed(first: u8) -> bool
     first / 32 % 2 == 1
 }
 
-/// The first octet and those behind it.
+/// The first octet and those after it.
 pub(crate) fn first_of(octets: &[u8]) -> Option<(u8, &[u8])>
     ensures { MatchOption result (octets.now ≡ []) (λ x. octets.now ≡ x.0 ∷ x.1.now) }
 {
     match octets {
         [] => None,
-        [first, behind @ ..] => Some((*first, behind)),
+        [first, after @ ..] => Some((*first, after)),
     }
 }
 
-fn behind_one(octets: &[u8]) -> Option<&[u8]>
+fn after_one(octets: &[u8]) -> Option<&[u8]>
     ensures { option_copied result ≡ stripped octets.now }
 {
     match octets {
@@ -34,7 +34,7 @@ fn behind_one(octets: &[u8]) -> Option<&[u8]>
     }
 }
 
-fn behind_number(octets: &[u8]) -> Option<&[u8]>
+fn after_number(octets: &[u8]) -> Option<&[u8]>
     ensures { option_copied result ≡ numbered octets.now }
 {
     match octets {
@@ -43,13 +43,13 @@ fn behind_number(octets: &[u8]) -> Option<&[u8]>
             if *octet < 128 {
                 Some(rest)
             } else {
-                behind_one(rest)
+                after_one(rest)
             }
         }
     }
 }
 
-fn behind_identifier(octets: &[u8]) -> Option<&[u8]>
+fn after_identifier(octets: &[u8]) -> Option<&[u8]>
     ensures { option_copied result ≡ identified octets.now }
 {
     match octets {
@@ -58,7 +58,7 @@ fn behind_identifier(octets: &[u8]) -> Option<&[u8]>
             if *first % 32 < 31 {
                 Some(rest)
             } else {
-                behind_number(rest)
+                after_number(rest)
             }
         }
     }
@@ -90,7 +90,7 @@ fn long_form(count: usize, octets: &[u8]) -> Option<Header<'_>>
     })
 }
 
-fn behind_length(octets: &[u8]) -> Option<Header<'_>>
+fn after_length(octets: &[u8]) -> Option<Header<'_>>
     ensures { option_map header_of result ≡ measured octets.now }
 {
     let [first, rest @ ..] = octets else {
@@ -115,40 +115,40 @@ fn behind_length(octets: &[u8]) -> Option<Header<'_>>
 pub(crate) fn header_at(octets: &[u8]) -> Option<Header<'_>>
     ensures { option_map header_of result ≡ header_read octets.now }
 {
-    let rest = behind_identifier(octets)?;
-    behind_length(rest)
+    let rest = after_identifier(octets)?;
+    after_length(rest)
 }
 
-/// Behind the end of contents, which stands behind values in turn (ISO 8825, 8.1.5).
+/// After the end of contents, which stands after values in turn (ISO 8825, 8.1.5).
 #[cycle(end)]
 #[tactic(auto, using(crate::proofs::Ends::ends))]
-fn behind_end(octets: &[u8]) -> Option<&[u8]>
-    ensures { option_copied result ≡ ended_behind octets.now }
+fn after_end(octets: &[u8]) -> Option<&[u8]>
+    ensures { option_copied result ≡ ended_after octets.now }
 {
     let mut rest = octets;
-    while let Some((first, behind)) = first_of(rest) {
+    while let Some((first, after)) = first_of(rest) {
         if first == 0 {
-            return behind_one(behind);
+            return after_one(after);
         }
-        rest = behind_value(rest)?;
+        rest = after_value(rest)?;
     }
     None
 }
 
-/// Behind a value, where it is whole.
+/// After a value, where it is whole.
 #[cycle(end)]
-fn behind_value(octets: &[u8]) -> Option<&[u8]>
-    ensures { option_copied result ≡ valued ended_behind octets.now }
+fn after_value(octets: &[u8]) -> Option<&[u8]>
+    ensures { option_copied result ≡ valued ended_after octets.now }
 {
     let header = header_at(octets)?;
     match header.count {
-        Some(count) => behind_count(count, header.rest),
-        None => behind_end(header.rest),
+        Some(count) => after_count(count, header.rest),
+        None => after_end(header.rest),
     }
 }
 
-fn behind_count(count: u64, octets: &[u8]) -> Option<&[u8]>
-    ensures { option_copied result ≡ behind_contents ended_behind (Some count) octets.now }
+fn after_count(count: u64, octets: &[u8]) -> Option<&[u8]>
+    ensures { option_copied result ≡ after_contents ended_after (Some count) octets.now }
 {
     if count > octets.len() as u64 {
         return None;
@@ -157,11 +157,11 @@ fn behind_count(count: u64, octets: &[u8]) -> Option<&[u8]>
     Some(rest)
 }
 
-/// What stands behind an identifier and a length.
+/// What stands after an identifier and a length.
 fn piece_of(count: Option<u64>, octets: &[u8]) -> Piece<'_>
     ensures piece { pieces result ≡ piece_by count octets.now }
     ensures inside { length result.octets.now ≤ length octets.now }
-    ensures behind { length result.rest.now ≤ length octets.now }
+    ensures after { length result.rest.now ≤ length octets.now }
 {
     match count {
         Some(count) => counted_piece(count, octets),
@@ -172,7 +172,7 @@ fn piece_of(count: Option<u64>, octets: &[u8]) -> Piece<'_>
 fn counted_piece(count: u64, octets: &[u8]) -> Piece<'_>
     ensures piece { pieces result ≡ piece_by (Some count) octets.now }
     ensures inside { length result.octets.now ≤ length octets.now }
-    ensures behind { length result.rest.now ≤ length octets.now }
+    ensures after { length result.rest.now ≤ length octets.now }
 {
     if count > octets.len() as u64 {
         return cut_piece(octets);
@@ -188,9 +188,9 @@ fn counted_piece(count: u64, octets: &[u8]) -> Piece<'_>
 fn ended_piece(octets: &[u8]) -> Piece<'_>
     ensures piece { pieces result ≡ piece_by None octets.now }
     ensures inside { length result.octets.now ≤ length octets.now }
-    ensures behind { length result.rest.now ≤ length octets.now }
+    ensures after { length result.rest.now ≤ length octets.now }
 {
-    let Some(rest) = behind_end(octets) else {
+    let Some(rest) = after_end(octets) else {
         return cut_piece(octets);
     };
     let len = octets.len().saturating_sub(rest.len()).saturating_sub(2);
@@ -220,7 +220,7 @@ fn place_in(text: Text<'_>, rest: usize) -> u32
     text.at + (text.octets.len() - rest) as u32
 }
 
-/// A part and what is behind it, by its contents and the octets behind it.
+/// A part and what is after it, by its contents and the octets after it.
 fn part_with<'a>(
     text: Text<'a>,
     first: u8,
@@ -229,8 +229,8 @@ fn part_with<'a>(
 ) -> (Part<'a>, Text<'a>)
     requires contents { contents ≤ length text.octets.now }
     requires inside { length piece.octets.now ≤ contents }
-    requires behind { length piece.rest.now ≤ length text.octets.now }
-    ensures { taken_of result ≡ part_by (text_of text.entry) first contents (pieces piece.entry) }
+    requires after { length piece.rest.now ≤ length text.octets.now }
+    ensures { first_part_of result ≡ part_by (text_of text.entry) first contents (pieces piece.entry) }
 {
     let at = place_in(text, piece.rest.len());
     let part = Part {
@@ -241,7 +241,7 @@ fn part_with<'a>(
             at: place_in(text, contents),
             whole: piece.whole,
         },
-        behind: at,
+        after: at,
     };
     let rest = Text {
         octets: piece.rest,
@@ -251,10 +251,10 @@ fn part_with<'a>(
     (part, rest)
 }
 
-/// The first part of a text, and what is behind it. An octet 00 is none.
-#[tactic(auto, unfolding(crate::specs::Parts::taken))]
-pub(crate) fn taken<'a>(text: Text<'a>) -> Option<(Part<'a>, Text<'a>)>
-    ensures { option_map taken_of result ≡ taken_from (text_of text.entry) }
+/// The first part of a text, and what is after it. An octet 00 is none.
+#[tactic(auto, unfolding(crate::specs::Parts::first_part))]
+pub(crate) fn first_part<'a>(text: Text<'a>) -> Option<(Part<'a>, Text<'a>)>
+    ensures { option_map first_part_of result ≡ first_part_from (text_of text.entry) }
 {
     let (first, _) = first_of(text.octets)?;
     if first == 0 {

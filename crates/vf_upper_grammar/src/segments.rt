@@ -5,7 +5,7 @@ ghost use Rattle.vf_upper_grammar.specs.SegmentViews.{IsConstructed, IsPiece, Is
 ghost use Rattle.vf_upper_grammar.specs.Texts.{cut_to as cut, place_of, segments};
 ghost use Rattle.vf_upper_grammar.specs.Views.{text_of};
 
-use crate::parts::{first_of, header_at, taken};
+use crate::parts::{first_of, first_part, header_at};
 use crate::text::Text;
 use std::alloc::Global;
 use vf_base::NoMemory;
@@ -13,9 +13,9 @@ use vf_base::NoMemory;
 /// What stands at a place among segments.
 #[derive(Clone, Copy)]
 pub(crate) enum Segment<'a> {
-    /// Octets, and what is behind them.
+    /// Octets, and what is after them.
     Octets(Text<'a>, Text<'a>),
-    /// Where segments begin or end: what is behind it.
+    /// Where segments begin or end: what is after it.
     Bound(Text<'a>),
     /// No segment.
     Nothing,
@@ -46,11 +46,11 @@ fn next_segment(text: Text<'_>) -> Segment<'_>
     ensures step { IsStep (text_of text.entry) result }
     ensures shorter { Shortens (length text.entry.octets.now) result }
 {
-    let Some((first, behind)) = first_of(text.octets) else {
+    let Some((first, after)) = first_of(text.octets) else {
         return Segment::Nothing;
     };
     if first == 0 {
-        return Segment::Bound(cut_to(text, without_first(behind)));
+        return Segment::Bound(cut_to(text, without_first(after)));
     }
     if first == 4 {
         return primitive(text);
@@ -66,7 +66,7 @@ fn primitive(text: Text<'_>) -> Segment<'_>
     ensures step { IsPrimitive (text_of text.entry) result }
     ensures shorter { Shortens (length text.entry.octets.now) result }
 {
-    match taken(text) {
+    match first_part(text) {
         Some((part, rest)) => Segment::Octets(part.contents, rest),
         None => Segment::Nothing,
     }
@@ -83,7 +83,7 @@ fn constructed(text: Text<'_>) -> Segment<'_>
     }
 }
 
-/// The next octets, none where segments begin or end, and what is behind them; `None` where nothing or no segment
+/// The next octets, none where segments begin or end, and what is after them; `None` where nothing or no segment
 /// follows.
 fn next_octets(text: Text<'_>) -> Option<(Text<'_>, Text<'_>)>
     ensures piece { IsPiece (text_of text.entry) result }
@@ -96,7 +96,7 @@ fn next_octets(text: Text<'_>) -> Option<(Text<'_>, Text<'_>)>
     }
 }
 
-/// No octets in front of a text.
+/// No octets before a text.
 fn empty(text: Text<'_>) -> Text<'_>
     ensures { text_of result ≡ record { octets = []; at = text.entry.at; whole = text.entry.whole } }
 {
@@ -131,9 +131,9 @@ pub(crate) fn gathered(alloc: Global, text: Text<'_>) -> Result<Vec<u8>, NoMemor
 {
     let mut octets = Vec::new(alloc);
     let mut rest = text;
-    while let Some((contents, behind)) = next_octets(rest) {
+    while let Some((contents, after)) = next_octets(rest) {
         append(&mut octets, contents.octets)?;
-        rest = behind;
+        rest = after;
     }
     Ok(octets)
 }
@@ -143,24 +143,24 @@ pub(crate) fn wrong_among(text: Text<'_>) -> Option<u32>
     ensures { Breaks (text_of text.entry) result }
 {
     let mut rest = text;
-    while let Some((_contents, behind)) = next_octets(rest) {
-        rest = behind;
+    while let Some((_contents, after)) = next_octets(rest) {
+        rest = after;
     }
     if is_wrong(rest) { Some(rest.at) } else { None }
 }
 
-/// The place of an octet of the segments of a text, by its offset; behind the last the place where they end.
+/// The place of an octet of the segments of a text, by its offset; after the last the place where they end.
 pub(crate) fn place_among(text: Text<'_>, end: u32, offset: usize) -> u32
     ensures { result ≡ place_of (segments end (text_of text.entry)) offset }
 {
     let mut rest = text;
     let mut left = offset;
-    while let Some((contents, behind)) = next_octets(rest) {
+    while let Some((contents, after)) = next_octets(rest) {
         if left < contents.octets.len() {
             return contents.at + left as u32;
         }
         left -= contents.octets.len();
-        rest = behind;
+        rest = after;
     }
     if is_wrong(rest) { rest.at } else { end }
 }

@@ -4,7 +4,7 @@ ghost use Rattle.vf_upper_grammar.specs.Rows.{apdu_in, apdu_tags, are_below, fie
 ghost use Rattle.vf_upper_grammar.specs.Forms.{sequence_of, set};
 ghost use Rattle.vf_upper_grammar.specs.Types.{accepted_outcome as accepted, refused_outcome as refused};
 
-use crate::form::{Cargo, Field, Form, Listing, Pair, TypeName};
+use crate::form::{DataValues, Field, Form, Listing, Pair, TypeName};
 use crate::labels::{NameLabel, NumberLabel};
 use vf_base::SpduKind;
 
@@ -43,13 +43,13 @@ macro_rules! optional {
 
 /// A value within [0] or [1].
 macro_rules! carried {
-    ($cargo:expr) => {
+    ($values:expr) => {
         Field {
             class: CONTEXT,
             from: 0,
             to: 1,
             is_required: true,
-            form: Form::Carried($cargo),
+            form: Form::Carried($values),
         }
     };
 }
@@ -75,7 +75,7 @@ const PROPOSAL: [Field; 3] = [
 const USER_ABORT: [Field; 1] = [required!(APPLICATION, 1, Form::Fields(TypeName::AcseData))];
 
 const RESYNCHRONIZATION: [Field; 2] = [
-    optional!(CONTEXT, 0, Form::Anything),
+    optional!(CONTEXT, 0, Form::Skipped),
     required!(APPLICATION, 1, Form::Fields(TypeName::OneData)),
 ];
 
@@ -84,7 +84,7 @@ const ACSE_DATA: [Field; 1] = [required!(UNIVERSAL, 16, Form::Fields(TypeName::A
 const ACSE_LIST: [Field; 3] = [
     optional!(UNIVERSAL, 6, Form::Name(NameLabel::Stated)),
     required!(UNIVERSAL, 2, Form::Number(None, NumberLabel::AcseContext)),
-    carried!(Cargo::Apdu),
+    carried!(DataValues::Apdu),
 ];
 
 const ONE_DATA: [Field; 1] = [required!(UNIVERSAL, 16, Form::Fields(TypeName::OneList))];
@@ -92,13 +92,13 @@ const ONE_DATA: [Field; 1] = [required!(UNIVERSAL, 16, Form::Fields(TypeName::On
 const ONE_LIST: [Field; 3] = [
     optional!(UNIVERSAL, 6, Form::Name(NameLabel::Stated)),
     required!(UNIVERSAL, 2, Form::Number(None, NumberLabel::AnyContext)),
-    carried!(Cargo::One),
+    carried!(DataValues::One),
 ];
 
 const DATA_LIST: [Field; 3] = [
     optional!(UNIVERSAL, 6, Form::Name(NameLabel::Stated)),
     required!(UNIVERSAL, 2, Form::Number(None, NumberLabel::AnyContext)),
-    carried!(Cargo::Some),
+    carried!(DataValues::Some),
 ];
 
 const AARQ: [Field; 2] = [
@@ -132,7 +132,7 @@ const INFORMATION: [Field; 1] = [required!(UNIVERSAL, 8, Form::Fields(TypeName::
 
 const EXTERNAL: [Field; 2] = [
     required!(UNIVERSAL, 2, Form::PduContext),
-    carried!(Cargo::One),
+    carried!(DataValues::One),
 ];
 
 const REFUSED_OUTCOME: [Field; 1] = [required!(

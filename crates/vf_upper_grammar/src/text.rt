@@ -10,23 +10,23 @@ pub(crate) struct Text<'a> {
     ghost within: { at + length octets.now < 2 ^ 32 },
 }
 
-/// A value: the place of its first octet, this octet, its contents, and the place behind it.
+/// A value: the place of its first octet, this octet, its contents, and the place after it.
 #[derive(Clone, Copy)]
 pub(crate) struct Part<'a> {
     pub at: u32,
     pub first: u8,
     pub contents: Text<'a>,
-    pub behind: u32,
+    pub after: u32,
 }
 
-/// A length, `None` where it is indefinite, and the octets behind it.
+/// A length, `None` where it is indefinite, and the octets after it.
 #[derive(Clone, Copy)]
 pub(crate) struct Header<'a> {
     pub count: Option<u64>,
     pub rest: &'a [u8],
 }
 
-/// The octets of contents, whether they are all, and the octets behind their value.
+/// The octets of contents, whether they are all, and the octets after their value.
 #[derive(Clone, Copy)]
 pub(crate) struct Piece<'a> {
     pub octets: &'a [u8],

@@ -1,25 +1,26 @@
 //! The walk over the parts of user data.
-ghost use Rattle.std.specs.Prelude.{◌≡◌, ◌<◌, ◌≤◌, ◌^◌, IfErr, IfOk, length, map, true};
-ghost use Rattle.vf_upper_grammar.specs.Forms.{each as each_read, in_order as fields_read};
+ghost use Rattle.std.specs.Prelude.{◌≡◌, ◌<◌, ◌≤◌, ◌^◌, IfErr, IfOk, length, List, map, true};
+ghost use Rattle.vf_upper_grammar.specs.Forms.{each as each_read, in_order as fields_read, skipped as skipped_form};
 ghost use Rattle.vf_upper_grammar.specs.HeldViews.{octets_of};
+ghost use Rattle.vf_upper_grammar.specs.Marks.{Mark};
 ghost use Rattle.vf_upper_grammar.specs.MarkViews.{Gives, marks_of};
 ghost use Rattle.vf_upper_grammar.specs.Parts.{parts_of};
-ghost use Rattle.vf_upper_grammar.specs.Rows.{cargo_read, cargo_within, field_of, label_in, listing_of, pair_of, read_of, result_in, tags_of, type_of};
+ghost use Rattle.vf_upper_grammar.specs.Rows.{values_read, values_within, field_of, label_in, listing_of, pair_of, read_of, result_in, tags_of, type_of};
 ghost use Rattle.vf_upper_grammar.specs.Texts.{typed as typed_by};
 ghost use Rattle.vf_upper_grammar.specs.Types.{outcome as outcome_form};
 ghost use Rattle.vf_upper_grammar.specs.Views.{part_of, text_of};
 ghost use Rattle.vf_upper_grammar.specs.WalkViews.{most, StepsTo, StepStops};
 
-use crate::cargo::{one, seen, some};
 use crate::fields::{due, has_tag, is_known, lacking, leading, leads, refuses};
-use crate::form::{Cargo, Field, Form, Listing, Pair, TypeName};
-use crate::held::{Held, landed, number_of, octets_held};
+use crate::form::{DataValues, Field, Form, Listing, Pair, TypeName};
+use crate::held::{Held, located, number_of, octets_held};
 use crate::labels::{NameLabel, NumberLabel};
 use crate::leaf::{integer, object_identifier};
 use crate::marks::{Marks, Stop};
-use crate::parts::{is_constructed, taken};
+use crate::parts::{first_part, is_constructed};
 use crate::table::{accepted_outcome, apdu, both, element, fields, refused_outcome, skips_others};
 use crate::text::{Part, Text};
+use crate::values::{one, seen, some};
 use std::alloc::Global;
 use vf_base::SpduKind;
 
@@ -77,25 +78,28 @@ pub(crate) fn read_part(
     ensures { Gives result (marks_of found.new) (read_of carrier form (part_of part.now) (marks_of found.old)) }
 {
     match form {
-        Form::Number(only, label) => integer(alloc, only, label, part, found),
-        Form::AareResult => {
-            integer(
-                alloc,
-                Some(result_of(carrier)),
-                NumberLabel::Fixed,
-                part,
-                found,
-            )
-        }
-        Form::PduContext => integer(alloc, None, pdu_context(carrier), part, found),
+        Form::Number(only, label) => integer(only, label, part, found),
+        Form::AareResult => { integer(Some(result_of(carrier)), NumberLabel::Fixed, part, found) }
+        Form::PduContext => integer(None, pdu_context(carrier), part, found),
         Form::Name(label) => object_identifier(alloc, false, label, part, found),
         Form::Ber => object_identifier(alloc, true, NameLabel::Stated, part, found),
-        Form::Anything => Ok(()),
+        Form::Skipped => skipped(part),
         Form::Fields(name) => sequence(alloc, carrier, name, part, found),
         Form::Set(pair) => set(alloc, carrier, pair, part, found),
         Form::Each(listing) => list(alloc, carrier, listing, part, found),
         Form::Outcome => outcome(alloc, carrier, part, found),
-        Form::Carried(cargo) => carried(alloc, carrier, cargo, part, found),
+        Form::Carried(values) => carried(alloc, carrier, values, part, found),
+    }
+}
+
+/// A list of which nothing is used is constructed.
+fn skipped(part: &Part<'_>) -> Result<(), Stop>
+    ensures { (marks : List Mark) → Gives result marks (skipped_form (part_of part.now) marks) }
+{
+    if is_constructed(part.first) {
+        Ok(())
+    } else {
+        Err(Stop::At(part.at))
     }
 }
 
@@ -175,12 +179,12 @@ fn each(
     ensures { Gives result (marks_of found.new) (each_read (parts_of (text_of text.entry)) (tags_of element) (read_of carrier element.form) (marks_of found.old)) }
 {
     let mut rest = text;
-    while let Some((part, behind)) = taken(rest) {
+    while let Some((part, after)) = first_part(rest) {
         if !has_tag(element, part.first) {
             return Err(Stop::At(part.at));
         }
         match read_part(alloc, carrier, element.form, &part, found) {
-            Ok(()) => rest = behind,
+            Ok(()) => rest = after,
             Err(stop) => return Err(stop),
         }
     }
@@ -195,18 +199,18 @@ fn outcome(alloc: Global, carrier: SpduKind, part: &Part<'_>, found: &mut Marks)
     if !is_constructed(part.first) {
         return Err(Stop::At(part.at));
     }
-    let refused = refused_outcome(carrier);
-    if refuses(leading(carrier, refused, part.contents)) {
-        in_order(alloc, carrier, true, refused, part.contents, found)
-    } else {
+    let accepted = accepted_outcome(carrier);
+    if refuses(leading(carrier, accepted, part.contents)) {
         in_order(
             alloc,
             carrier,
             true,
-            accepted_outcome(carrier),
+            refused_outcome(carrier),
             part.contents,
             found,
         )
+    } else {
+        in_order(alloc, carrier, true, accepted, part.contents, found)
     }
 }
 
@@ -215,17 +219,17 @@ fn outcome(alloc: Global, carrier: SpduKind, part: &Part<'_>, found: &mut Marks)
 fn carried(
     alloc: Global,
     carrier: SpduKind,
-    cargo: Cargo,
+    values: DataValues,
     part: &Part<'_>,
     found: &mut Marks,
 ) -> Result<(), Stop>
-    ensures { Gives result (marks_of found.new) (cargo_read carrier cargo (part_of part.now) (marks_of found.old)) }
+    ensures { Gives result (marks_of found.new) (values_read carrier values (part_of part.now) (marks_of found.old)) }
 {
     let Some(held) = octets_held(alloc, part)? else {
         return Err(Stop::At(part.at));
     };
-    let read = within(alloc, carrier, cargo, number_of(part.first), &held, found);
-    landed(part, held.octets().len(), read)
+    let read = within(alloc, carrier, values, number_of(part.first), &held, found);
+    located(part, held.octets().len(), read)
 }
 
 /// Reads octets that are held.
@@ -233,24 +237,24 @@ fn carried(
 fn within(
     alloc: Global,
     carrier: SpduKind,
-    cargo: Cargo,
+    values: DataValues,
     number: u8,
     held: &Held<'_>,
     found: &mut Marks,
 ) -> Result<(), Stop>
     requires { length (octets_of held.now) < 2 ^ 32 }
-    ensures { Gives result (marks_of found.new) (cargo_within carrier cargo number (octets_of held.now) (marks_of found.old)) }
+    ensures { Gives result (marks_of found.new) (values_within carrier values number (octets_of held.now) (marks_of found.old)) }
 {
-    match cargo {
-        Cargo::One => one(alloc, held, found),
-        Cargo::Some => {
+    match values {
+        DataValues::One => one(alloc, held, found),
+        DataValues::Some => {
             if number == 0 {
                 one(alloc, held, found)
             } else {
                 some(alloc, held, found)
             }
         }
-        Cargo::Apdu => typed(alloc, carrier, apdu(carrier), held.octets(), found),
+        DataValues::Apdu => typed(alloc, carrier, apdu(carrier), held.octets(), found),
     }
 }
 
@@ -266,15 +270,15 @@ pub(crate) fn typed(
     requires { field.is_required ≡ true }
     ensures { Gives result (marks_of found.new) (typed_by (tags_of field) (read_of carrier field.form) octets.now (marks_of found.old)) }
 {
-    let front = seen(alloc, octets)?;
-    let (seen, _) = octets.split_at(front.len);
+    let prefix = seen(alloc, octets)?;
+    let (seen, _) = octets.split_at(prefix.len);
     let text = Text {
         octets: seen,
         at: 0,
-        whole: front.whole,
+        whole: prefix.whole,
     };
     match in_order(alloc, carrier, false, &[field], text, found) {
-        Ok(()) => match front.fault {
+        Ok(()) => match prefix.fault {
             Some(place) => Err(Stop::At(place)),
             None => Ok(()),
         },
@@ -296,17 +300,17 @@ fn in_order(
 {
     let mut left = fields;
     let mut rest = text;
-    while let Some((part, behind)) = taken(rest) {
+    while let Some((part, after)) = first_part(rest) {
         match step(alloc, carrier, skips, fields, left, &part, found) {
             Ok(next) => left = next,
             Err(stop) => return Err(stop),
         }
-        rest = behind;
+        rest = after;
     }
     lacking(carrier, left, rest)
 }
 
-/// Reads one part, and gives the fields that may come behind it.
+/// Reads one part, and gives the fields that may come after it.
 #[cycle(walk)]
 fn step<'a>(
     alloc: Global,

@@ -3,7 +3,7 @@ use Rattle.std.specs.Prelude.{min}
 use Rattle.vf_upper_grammar.specs.Parts.{number_of}
 use Rattle.vf_upper_grammar.specs.Texts.{explicit_in, place_of}
 use Rattle.vf_upper_grammar.specs.Views.{part_of, text_of}
-use Rattle.vf_upper_grammar.proofs.Landings.{explicit-place, explicit-within, held-explicit, held-octets, is_other, is_zero}
+use Rattle.vf_upper_grammar.proofs.Locations.{explicit-place, explicit-within, held-explicit, held-octets, is_other, is_zero}
 use Rattle.vf_upper_grammar.proofs.SegmentTurns.{place-inside}
 use Rattle.vf_upper_grammar.proofs.held.place_in.Goals as goal
 
@@ -22,4 +22,4 @@ returns-then-offset-contents c h e len =
     let part = part_of c.args.part.now in
     let text = text_of c.args.part.now.contents in
     let same = held-octets part h (is_other c.number_of.result (number_of part.first) c.number_of.ensures c.if-number_of-eq0.false) (sym c.is_constructed.ensures ∙ c.if-is_constructed.false) e in
-    sym (ap (λ x. place_of x c.args.offset) same ∙ place-inside text part.behind c.args.offset c.if-offset-contents.true)
+    sym (ap (λ x. place_of x c.args.offset) same ∙ place-inside text part.after c.args.offset c.if-offset-contents.true)

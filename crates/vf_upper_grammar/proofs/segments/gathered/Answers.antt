@@ -8,13 +8,13 @@ pub loop-contents-preserved : goal.loop-contents-preserved
 loop-contents-preserved c =
     let rest = text_of c.loop-contents.rest in
     let contents = text_of c.in-Some.contents in
-    let behind = text_of c.in-Some.behind in
+    let after = text_of c.in-Some.after in
     let old = c.loop-contents.octets.items in
     let put = c.in_ok-append.ensures in (
       (λ end.
-          let step : segments end rest ≡ then_held contents (segments end behind) = segments-next end rest contents behind c.in-Some.ensures.piece in
-          c.loop-contents.invariant.0 end ∙ ap (λ h. old ++ h.octets) step ∙ sym (append_assoc old contents.octets (segments end behind).octets)
-          ∙ ap (λ o. o ++ (segments end behind).octets) (sym put)),
+          let step : segments end rest ≡ then_held contents (segments end after) = segments-next end rest contents after c.in-Some.ensures.piece in
+          c.loop-contents.invariant.0 end ∙ ap (λ h. old ++ h.octets) step ∙ sym (append_assoc old contents.octets (segments end after).octets)
+          ∙ ap (λ o. o ++ (segments end after).octets) (sym put)),
       omega (arith, ap length put, length-append old contents.octets, c.in-Some.ensures.shorter),
     )
 

@@ -8,17 +8,17 @@ pub returns-then-left-contents : goal.returns-then-left-contents
 returns-then-left-contents c =
     let end = c.args.end in
     let contents = text_of c.in-Some.contents in
-    let behind = text_of c.in-Some.behind in
-    let step : segments end (text_of c.loop-contents.rest) ≡ then_held contents (segments end behind) = segments-next end (text_of c.loop-contents.rest) contents behind c.in-Some.ensures.piece in
-    sym (c.loop-contents.invariant ∙ ap (λ h. place_of h c.loop-contents.left) step ∙ place-first contents (segments end behind) c.loop-contents.left c.if-left-contents.true)
+    let after = text_of c.in-Some.after in
+    let step : segments end (text_of c.loop-contents.rest) ≡ then_held contents (segments end after) = segments-next end (text_of c.loop-contents.rest) contents after c.in-Some.ensures.piece in
+    sym (c.loop-contents.invariant ∙ ap (λ h. place_of h c.loop-contents.left) step ∙ place-first contents (segments end after) c.loop-contents.left c.if-left-contents.true)
 
 pub loop-contents-preserved : goal.loop-contents-preserved
 loop-contents-preserved c =
     let end = c.args.end in
     let contents = text_of c.in-Some.contents in
-    let behind = text_of c.in-Some.behind in
-    let step : segments end (text_of c.loop-contents.rest) ≡ then_held contents (segments end behind) = segments-next end (text_of c.loop-contents.rest) contents behind c.in-Some.ensures.piece in
-    c.loop-contents.invariant ∙ ap (λ h. place_of h c.loop-contents.left) step ∙ place-next contents (segments end behind) c.loop-contents.left c.if-left-contents.false
+    let after = text_of c.in-Some.after in
+    let step : segments end (text_of c.loop-contents.rest) ≡ then_held contents (segments end after) = segments-next end (text_of c.loop-contents.rest) contents after c.in-Some.ensures.piece in
+    c.loop-contents.invariant ∙ ap (λ h. place_of h c.loop-contents.left) step ∙ place-next contents (segments end after) c.loop-contents.left c.if-left-contents.false
 
 pub returns-then-is_wrong : goal.returns-then-is_wrong
 returns-then-is_wrong c =

@@ -7,7 +7,7 @@ use Rattle.vf_upper_grammar.proofs.segments.wrong_among.Goals as goal
 pub loop-contents-preserved : goal.loop-contents-preserved
 loop-contents-preserved c =
     let rest = text_of c.loop-contents.rest in
-    λ end. c.loop-contents.invariant end ∙ ap broken_at (segments-next end rest (text_of c.in-Some._contents) (text_of c.in-Some.behind) c.in-Some.ensures.piece)
+    λ end. c.loop-contents.invariant end ∙ ap broken_at (segments-next end rest (text_of c.in-Some._contents) (text_of c.in-Some.after) c.in-Some.ensures.piece)
 
 pub returns-then-is_wrong : goal.returns-then-is_wrong
 returns-then-is_wrong c =

@@ -2,7 +2,7 @@ use Rattle.std.proofs.Common.{◌≡◌, ◌+◌, ◌*◌, ◌≤◌, length}
 use Rattle.vf_upper_grammar.specs.Forms.{each, in_order}
 use Rattle.vf_upper_grammar.specs.MarkViews.{marks_of}
 use Rattle.vf_upper_grammar.specs.Parts.{parts_of}
-use Rattle.vf_upper_grammar.specs.Rows.{cargo_rank, listing_rank, rank, read_of, tags_of, type_rank}
+use Rattle.vf_upper_grammar.specs.Rows.{values_rank, listing_rank, rank, read_of, tags_of, type_rank}
 use Rattle.vf_upper_grammar.specs.Views.{text_of}
 use Rattle.vf_upper_grammar.specs.WalkViews.{fields_of, most}
 use Rattle.vf_upper_grammar.proofs.walk.+walk.Given as goal
@@ -26,10 +26,10 @@ abbrev pub decreases-outcome : goal.decreases-outcome
 decreases-outcome l = 22
 
 abbrev pub decreases-carried : goal.decreases-carried
-decreases-carried l = 8 * cargo_rank l.cargo + 6
+decreases-carried l = 8 * values_rank l.values + 6
 
 abbrev pub decreases-within : goal.decreases-within
-decreases-within l = 8 * cargo_rank l.cargo + 5
+decreases-within l = 8 * values_rank l.values + 5
 
 abbrev pub decreases-typed : goal.decreases-typed
 decreases-typed l = 8 * (rank l.field.form + 1) + 2

@@ -1,0 +1,375 @@
+//! Presentation and ACSE: what is found in user data, and primitives read, written and read again.
+use std::alloc::Global;
+use std::test::Fail;
+use vf_base::{Oid, SpduKind};
+use vf_ber::{Tag, Value};
+use vf_upper::{
+    CarriedValue, CarriedValues, ContextEntry, Contexts, Primitive, Results, UpperError,
+    is_writable, read, write,
+};
+use vf_upper_grammar::{
+    Mark, Marks, NameLabel, NumberLabel, Stop, find, is_acse, is_ber, is_ftam, is_ours, is_pci,
+};
+
+/// What one of the things that are found is: its label by a letter, and its number, 0 where it is none.
+fn told(mark: &Mark) -> (u8, i64) {
+    match mark {
+        Mark::Number { label, n } => match label {
+            NumberLabel::Fixed => (b'f', *n),
+            NumberLabel::Proposal => (b'p', *n),
+            NumberLabel::Outcome => (b'o', *n),
+            NumberLabel::AcseContext => (b'a', *n),
+            NumberLabel::PciContext => (b'c', *n),
+            NumberLabel::AnyContext => (b'n', *n),
+        },
+        Mark::Name { label, .. } => match label {
+            NameLabel::Stated => (b'S', 0),
+            NameLabel::Abstract => (b'A', 0),
+            NameLabel::Transfer => (b'T', 0),
+            NameLabel::Application => (b'N', 0),
+        },
+        Mark::Value { .. } => (b'v', 0),
+    }
+}
+
+/// Whether these things are found in user data, in this order.
+fn finds(alloc: Global, carrier: SpduKind, octets: &[u8], things: &[(u8, i64)]) -> bool {
+    let mut found = Marks::new(alloc);
+    if find(alloc, carrier, octets, &mut found).is_err() || found.items.len() != things.len() {
+        return false;
+    }
+    for (mark, thing) in found.items.iter().zip(things) {
+        if told(mark) != *thing {
+            return false;
+        }
+    }
+    true
+}
+
+/// User data of an SPDU, and what is found in them: a label and a number.
+type Found = (SpduKind, &'static [u8], &'static [(u8, i64)]);
+
+const FOUND: [Found; 2] = [
+    (
+        SpduKind::CN,
+        &[
+            0x31, 0x4e, 0xa0, 0x03, 0x80, 0x01, 0x01, 0xa2, 0x47, 0xa4, 0x23, 0x30, 0x0f, 0x02,
+            0x01, 0x01, 0x06, 0x04, 0x52, 0x01, 0x00, 0x01, 0x30, 0x04, 0x06, 0x02, 0x51, 0x01,
+            0x30, 0x10, 0x02, 0x01, 0x03, 0x06, 0x05, 0x28, 0xc2, 0x7b, 0x02, 0x01, 0x30, 0x04,
+            0x06, 0x02, 0x51, 0x01, 0x61, 0x20, 0x30, 0x1e, 0x02, 0x01, 0x01, 0xa0, 0x19, 0x60,
+            0x17, 0xa1, 0x07, 0x06, 0x05, 0x28, 0xc2, 0x7b, 0x01, 0x01, 0xbe, 0x0c, 0x28, 0x0a,
+            0x02, 0x01, 0x03, 0xa0, 0x05, 0xa4, 0x03, 0x80, 0x01, 0x61,
+        ],
+        &[
+            (b'f', 1),
+            (b'p', 1),
+            (b'A', 0),
+            (b'T', 0),
+            (b'p', 3),
+            (b'A', 0),
+            (b'T', 0),
+            (b'a', 1),
+            (b'N', 0),
+            (b'c', 3),
+            (b'v', 0),
+        ],
+    ),
+    (
+        SpduKind::DT,
+        &[
+            0x61, 0x0c, 0x30, 0x0a, 0x02, 0x01, 0x03, 0xa0, 0x05, 0xa4, 0x03, 0x80, 0x01, 0x61,
+        ],
+        &[(b'n', 3), (b'v', 0)],
+    ),
+];
+
+#[test]
+fn things_are_found_in_order(rt: HostRuntime) {
+    for (carrier, octets, things) in FOUND {
+        assert!(rt; finds(rt.alloc(), carrier, octets, things));
+    }
+}
+
+/// User data with a fault, and its place.
+const FAULTS: [(SpduKind, &[u8], u32); 5] = [
+    (SpduKind::DT, &[], 0),
+    (SpduKind::DT, &[0x61, 0x03, 0x30, 0x01, 0x00], 3),
+    (
+        SpduKind::DT,
+        &[
+            0x61, 0x0c, 0x30, 0x0a, 0x02, 0x01, 0x03, 0xa0, 0x05, 0xa4, 0x03, 0x80, 0x01,
+        ],
+        13,
+    ),
+    (
+        SpduKind::FN,
+        &[
+            0x61, 0x17, 0x30, 0x15, 0x02, 0x01, 0x01, 0xa0, 0x10, 0x63, 0x0e, 0xbe, 0x0c, 0x28,
+            0x0a, 0x02, 0x01, 0x03, 0xa0, 0x05, 0xa4, 0x03, 0x80, 0x01, 0x61,
+        ],
+        9,
+    ),
+    (SpduKind::GT, &[0x61, 0x00], 0),
+];
+
+#[test]
+fn faults_have_their_places(rt: HostRuntime) {
+    for (carrier, octets, place) in FAULTS {
+        let mut found = Marks::new(rt.alloc());
+        let stop = find(rt.alloc(), carrier, octets, &mut found);
+        assert!(rt; matches!(stop, Err(stop) if stop == Stop::At(place)));
+    }
+}
+
+/// Whether exactly the tests with a 1 hold of an object identifier: ACSE, PCI, FTAM, BER, ours.
+fn has_tests(alloc: Global, arcs: &[u32], digits: &[u8]) -> bool {
+    let Ok(oid) = Oid::of(alloc, arcs) else {
+        return false;
+    };
+    let tests = [
+        is_acse(&oid),
+        is_pci(&oid),
+        is_ftam(&oid),
+        is_ber(&oid),
+        is_ours(&oid),
+    ];
+    for (test, digit) in tests.iter().zip(digits) {
+        if *test != (*digit == b'1') {
+            return false;
+        }
+    }
+    true
+}
+
+#[test]
+fn object_identifiers_are_told_apart(rt: HostRuntime) {
+    let rows: [(&[u32], &[u8]); 6] = [
+        (&[2, 2, 1, 0, 1], b"10001"),
+        (&[1, 0, 8571, 2, 1], b"01001"),
+        (&[1, 0, 8571, 1, 1], b"00100"),
+        (&[2, 1, 1], b"00010"),
+        (&[1, 0, 8571, 2, 4], b"00001"),
+        (&[1, 0, 8571, 2, 5], b"00000"),
+    ];
+    for (arcs, digits) in rows {
+        assert!(rt; has_tests(rt.alloc(), arcs, digits));
+    }
+}
+
+/// A context of this identifier and syntax.
+fn put_context(alloc: Global, contexts: &mut Contexts, id: i64, arcs: &[u32]) {
+    if let Ok(syntax) = Oid::of(alloc, arcs) {
+        let _ = contexts.push(ContextEntry { id, syntax });
+    }
+}
+
+/// ACSE in context 1 and the PDUs of FTAM in context 3.
+fn contexts_of(alloc: Global) -> Contexts {
+    let mut made = Contexts::new(alloc);
+    put_context(alloc, &mut made, 1, &[2, 2, 1, 0, 1]);
+    put_context(alloc, &mut made, 3, &[1, 0, 8571, 2, 1]);
+    made
+}
+
+/// Whether what these octets are read as can be written; it is written into `out`.
+fn again(
+    alloc: Global,
+    carrier: SpduKind,
+    contexts: &Contexts,
+    octets: &[u8],
+    out: &mut Vec<u8>,
+) -> Result<bool, UpperError> {
+    out.clear();
+    let found = read(alloc, carrier, contexts, octets)?;
+    let primitive = found.copy(alloc)?;
+    if !is_writable(&primitive, contexts) {
+        return Ok(false);
+    }
+    write(alloc, &primitive, contexts, out)?;
+    Ok(true)
+}
+
+/// User data of each SPDU, as they are written: a Select in context 3, and for P-DATA a Select and a string.
+const WRITTEN: [(SpduKind, &[u8]); 7] = [
+    (
+        SpduKind::CN,
+        &[
+            0x31, 0x4e, 0xa0, 0x03, 0x80, 0x01, 0x01, 0xa2, 0x47, 0xa4, 0x23, 0x30, 0x0f, 0x02,
+            0x01, 0x01, 0x06, 0x04, 0x52, 0x01, 0x00, 0x01, 0x30, 0x04, 0x06, 0x02, 0x51, 0x01,
+            0x30, 0x10, 0x02, 0x01, 0x03, 0x06, 0x05, 0x28, 0xc2, 0x7b, 0x02, 0x01, 0x30, 0x04,
+            0x06, 0x02, 0x51, 0x01, 0x61, 0x20, 0x30, 0x1e, 0x02, 0x01, 0x01, 0xa0, 0x19, 0x60,
+            0x17, 0xa1, 0x07, 0x06, 0x05, 0x28, 0xc2, 0x7b, 0x01, 0x01, 0xbe, 0x0c, 0x28, 0x0a,
+            0x02, 0x01, 0x03, 0xa0, 0x05, 0xa4, 0x03, 0x80, 0x01, 0x61,
+        ],
+    ),
+    (
+        SpduKind::AC,
+        &[
+            0x31, 0x4e, 0xa0, 0x03, 0x80, 0x01, 0x01, 0xa2, 0x47, 0xa5, 0x17, 0x30, 0x07, 0x80,
+            0x01, 0x00, 0x81, 0x02, 0x51, 0x01, 0x30, 0x07, 0x80, 0x01, 0x00, 0x81, 0x02, 0x51,
+            0x01, 0x30, 0x03, 0x80, 0x01, 0x02, 0x61, 0x2c, 0x30, 0x2a, 0x02, 0x01, 0x01, 0xa0,
+            0x25, 0x61, 0x23, 0xa1, 0x07, 0x06, 0x05, 0x28, 0xc2, 0x7b, 0x01, 0x01, 0xa2, 0x03,
+            0x02, 0x01, 0x00, 0xa3, 0x05, 0xa1, 0x03, 0x02, 0x01, 0x00, 0xbe, 0x0c, 0x28, 0x0a,
+            0x02, 0x01, 0x03, 0xa0, 0x05, 0xa4, 0x03, 0x80, 0x01, 0x61,
+        ],
+    ),
+    (
+        SpduKind::RF,
+        &[
+            0x30, 0x47, 0xa5, 0x17, 0x30, 0x07, 0x80, 0x01, 0x00, 0x81, 0x02, 0x51, 0x01, 0x30,
+            0x07, 0x80, 0x01, 0x00, 0x81, 0x02, 0x51, 0x01, 0x30, 0x03, 0x80, 0x01, 0x02, 0x61,
+            0x2c, 0x30, 0x2a, 0x02, 0x01, 0x01, 0xa0, 0x25, 0x61, 0x23, 0xa1, 0x07, 0x06, 0x05,
+            0x28, 0xc2, 0x7b, 0x01, 0x01, 0xa2, 0x03, 0x02, 0x01, 0x01, 0xa3, 0x05, 0xa1, 0x03,
+            0x02, 0x01, 0x00, 0xbe, 0x0c, 0x28, 0x0a, 0x02, 0x01, 0x03, 0xa0, 0x05, 0xa4, 0x03,
+            0x80, 0x01, 0x61,
+        ],
+    ),
+    (
+        SpduKind::FN,
+        &[
+            0x61, 0x17, 0x30, 0x15, 0x02, 0x01, 0x01, 0xa0, 0x10, 0x62, 0x0e, 0xbe, 0x0c, 0x28,
+            0x0a, 0x02, 0x01, 0x03, 0xa0, 0x05, 0xa4, 0x03, 0x80, 0x01, 0x61,
+        ],
+    ),
+    (
+        SpduKind::DN,
+        &[
+            0x61, 0x17, 0x30, 0x15, 0x02, 0x01, 0x01, 0xa0, 0x10, 0x63, 0x0e, 0xbe, 0x0c, 0x28,
+            0x0a, 0x02, 0x01, 0x03, 0xa0, 0x05, 0xa4, 0x03, 0x80, 0x01, 0x61,
+        ],
+    ),
+    (
+        SpduKind::AB,
+        &[
+            0xa0, 0x1c, 0x61, 0x1a, 0x30, 0x18, 0x02, 0x01, 0x01, 0xa0, 0x13, 0x64, 0x11, 0x80,
+            0x01, 0x00, 0xbe, 0x0c, 0x28, 0x0a, 0x02, 0x01, 0x03, 0xa0, 0x05, 0xa4, 0x03, 0x80,
+            0x01, 0x61,
+        ],
+    ),
+    (
+        SpduKind::DT,
+        &[
+            0x61, 0x17, 0x30, 0x0a, 0x02, 0x01, 0x03, 0xa0, 0x05, 0xa4, 0x03, 0x80, 0x01, 0x61,
+            0x30, 0x09, 0x02, 0x01, 0x03, 0xa0, 0x04, 0x04, 0x02, 0x61, 0x62,
+        ],
+    ),
+];
+
+#[test]
+fn what_is_written_is_read_again(rt: HostRuntime) -> Result<(), Fail> {
+    let contexts = contexts_of(rt.alloc());
+    let mut out = Vec::new(rt.alloc());
+    for (carrier, octets) in WRITTEN {
+        assert!(rt;
+            matches!(
+                again(rt.alloc(), carrier, &contexts, octets, &mut out),
+                Ok(true)
+            )
+        );
+        assert_eq!(rt; out.as_slice(), octets);
+    }
+    Ok(())
+}
+
+/// User data that are refused, and why.
+const REFUSED: [(SpduKind, &[u8], UpperError); 5] = [
+    (
+        SpduKind::DT,
+        &[0x61, 0x03, 0x30, 0x01, 0x00],
+        UpperError::Grammar { at: 3 },
+    ),
+    (
+        SpduKind::DT,
+        &[
+            0x61, 0x0c, 0x30, 0x0a, 0x02, 0x01, 0x05, 0xa0, 0x05, 0xa4, 0x03, 0x80, 0x01, 0x61,
+        ],
+        UpperError::Context { id: 5 },
+    ),
+    (
+        SpduKind::FN,
+        &[
+            0x61, 0x17, 0x30, 0x15, 0x02, 0x01, 0x03, 0xa0, 0x10, 0x62, 0x0e, 0xbe, 0x0c, 0x28,
+            0x0a, 0x02, 0x01, 0x03, 0xa0, 0x05, 0xa4, 0x03, 0x80, 0x01, 0x61,
+        ],
+        UpperError::Context { id: 3 },
+    ),
+    (
+        SpduKind::CN,
+        &[
+            0x31, 0x4e, 0xa0, 0x03, 0x80, 0x01, 0x01, 0xa2, 0x47, 0xa4, 0x23, 0x30, 0x0f, 0x02,
+            0x01, 0x01, 0x06, 0x04, 0x52, 0x01, 0x00, 0x01, 0x30, 0x04, 0x06, 0x02, 0x51, 0x01,
+            0x30, 0x10, 0x02, 0x01, 0x03, 0x06, 0x05, 0x28, 0xc2, 0x7b, 0x02, 0x01, 0x30, 0x04,
+            0x06, 0x02, 0x51, 0x01, 0x61, 0x20, 0x30, 0x1e, 0x02, 0x01, 0x01, 0xa0, 0x19, 0x60,
+            0x17, 0xa1, 0x07, 0x06, 0x05, 0x28, 0xc2, 0x7b, 0x01, 0x02, 0xbe, 0x0c, 0x28, 0x0a,
+            0x02, 0x01, 0x03, 0xa0, 0x05, 0xa4, 0x03, 0x80, 0x01, 0x61,
+        ],
+        UpperError::Application,
+    ),
+    (SpduKind::GT, &[0x61, 0x00], UpperError::Grammar { at: 0 }),
+];
+
+#[test]
+fn what_is_refused_has_its_reason(rt: HostRuntime) {
+    let contexts = contexts_of(rt.alloc());
+    for (carrier, octets, error) in REFUSED {
+        let found = read(rt.alloc(), carrier, &contexts, octets);
+        assert!(rt; matches!(found, Err(reason) if reason == error));
+    }
+}
+
+#[test]
+fn a_refusal_or_an_abort_may_have_no_user_data(rt: HostRuntime) {
+    let contexts = Contexts::new(rt.alloc());
+    let mut out = Vec::new(rt.alloc());
+    for carrier in [SpduKind::RF, SpduKind::AB] {
+        assert!(rt;
+            matches!(
+                again(rt.alloc(), carrier, &contexts, &[], &mut out),
+                Ok(true)
+            )
+        );
+        assert!(rt; out.is_empty());
+    }
+}
+
+#[test]
+fn a_value_in_an_unaccepted_context_is_not_written(rt: HostRuntime) -> Result<(), Fail> {
+    let mut values = CarriedValues::new(rt.alloc());
+    let tag = Tag {
+        class: 0,
+        number: 4,
+    };
+    let value = Value::of_octets(rt.alloc(), tag, &[0x68])?;
+    values.push(CarriedValue { context: 5, value })?;
+    let contexts = contexts_of(rt.alloc());
+    assert!(rt; !is_writable(&Primitive::Data { values }, &contexts));
+    Ok(())
+}
+
+#[test]
+fn lists_give_what_was_pushed(rt: HostRuntime) -> Result<(), Fail> {
+    let mut results = Results::new(rt.alloc());
+    results.push(true)?;
+    results.push(false)?;
+    let copy = results.copy(rt.alloc())?;
+    assert_eq!(rt; copy.as_slice(), [true, false].as_slice());
+    assert_eq!(rt; copy.len(), 2);
+    assert!(rt; copy.get(1) == Some(&false) && copy.get(2).is_none());
+
+    let mut values = CarriedValues::new(rt.alloc());
+    let tag = Tag {
+        class: 0,
+        number: 2,
+    };
+    let value = Value::of_integer(rt.alloc(), tag, 7)?;
+    values.push(CarriedValue { context: 3, value })?;
+    let copy = values.copy(rt.alloc())?;
+    assert_eq!(rt; copy.len(), 1);
+    assert!(rt; copy.get(0).map(|value| value.context) == Some(3) && copy.get(1).is_none());
+    assert!(rt;
+        copy.as_slice()
+            .iter()
+            .all(|value| vf_ber::integer(&value.value) == Some(7))
+    );
+    Ok(())
+}

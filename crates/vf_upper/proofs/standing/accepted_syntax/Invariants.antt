@@ -1,9 +1,0 @@
-use Rattle.std.proofs.Common.{◌≡◌, length, map, true}
-use Rattle.vf_upper.specs.Primitives.{stands, syntax_of}
-use Rattle.vf_upper.proofs.standing.accepted_syntax.Given as goal
-
-abbrev pub invariant-loop-entry : goal.invariant-loop-entry
-invariant-loop-entry l = syntax_of l.fn.id (map (stands true) l.rest) ≡ syntax_of l.fn.id (map (stands true) l.fn.contexts)
-
-abbrev pub decreases-loop-entry : goal.decreases-loop-entry
-decreases-loop-entry l = length l.rest

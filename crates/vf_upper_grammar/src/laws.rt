@@ -1,0 +1,8 @@
+//! Laws of the grammar, each the contract of a function that does nothing.
+ghost use Rattle.vf_upper_grammar.specs.Meant.{IsMeant};
+
+/// Of user data exactly that is found which the value that they are means by the modules of presentation (ISO 8823)
+/// and ACSE (ISO 8650-1), and a fault exactly where they are no value of their type, however values are spelled.
+pub fn what_is_found_is_meant()
+    ensures { IsMeant }
+{}
