@@ -1,29 +1,37 @@
-//! A file of 256 records that is shared or shown over and over, so that bench/file can count what that costs.
+//! A file of 256 records that is shared or shown over and over.
 //!
 //! `share LENGTH TIMES` and `shown LENGTH TIMES` make a sequential flat file of 256 data units, each of one string of
 //! LENGTH octets, and then share it so many times, or show it whole. Written are the octets of the file and the data
 //! elements that were shown.
-#![tactic(auto)]
-
+use bench_base::{Fault, number};
 use std::alloc::Global;
-use std::env;
-use std::process::ExitCode;
-use vf_base::{Constraint, Context, Element, FaduId, NoMemory, Octets, Sequence, Sink, WriteSink};
+use vf_base::{Constraint, Context, Element, FaduId, NoMemory, Octets, Sequence};
 use vf_tree::{Tree, TreeError};
 
-/// What the words ask for.
-#[derive(Drop)]
-enum Command {
+/// What is done with the file.
+#[derive(Clone, Copy)]
+enum Way {
     Share,
-    Shown,
+    Show,
 }
 
-fn command_of(name: &str) -> Option<Command> {
+fn way_of(name: &str) -> Option<Way> {
     match name {
-        "share" => Some(Command::Share),
-        "shown" => Some(Command::Shown),
+        "share" => Some(Way::Share),
+        "shown" => Some(Way::Show),
         _ => None,
     }
+}
+
+pub fn put(alloc: Global, words: &str, out: &mut Vec<u8>) -> Result<(), Fault> {
+    let mut words = words.split(' ');
+    let way = words.next().and_then(way_of).ok_or(Fault::Words)?;
+    let length = number(words.next()).ok_or(Fault::Words)?;
+    let times = number(words.next()).ok_or(Fault::Words)?;
+    let Ok(line) = line_of(alloc, way, length, times) else {
+        return Err(Fault::NoMemory);
+    };
+    bench_base::put(out, line.as_str())
 }
 
 /// A file of 256 units of one string of so many octets.
@@ -68,48 +76,18 @@ fn show(alloc: Global, tree: &Tree, times: u32) -> Result<u64, TreeError> {
     Ok(elements)
 }
 
-fn run(alloc: Global, command: Command, length: u32, times: u32) -> Result<String, TreeError> {
+fn line_of(alloc: Global, way: Way, length: u32, times: u32) -> Result<String, TreeError> {
     let tree = file_of(alloc, length)?;
-    let elements = match command {
-        Command::Share => {
+    let elements = match way {
+        Way::Share => {
             share(&tree, times)?;
             0
         }
-        Command::Shown => show(alloc, &tree, times)?,
+        Way::Show => show(alloc, &tree, times)?,
     };
     let octets = tree.size();
     let Ok(line) = format!(in alloc; "octets {octets} elements {elements}\n") else {
         return Err(TreeError::NoMemory);
     };
     Ok(line)
-}
-
-/// A number of the words.
-fn number_of(word: Option<String>) -> Option<u32> {
-    let word = word?;
-    word.as_str().parse::<u32>().ok()
-}
-
-fn main(rt: HostRuntime) -> ExitCode {
-    let alloc = rt.alloc();
-    let Ok(mut words) = env::args(&rt) else {
-        return ExitCode::from(2);
-    };
-    let Some(name) = words.nth(1) else {
-        return ExitCode::from(2);
-    };
-    let (Some(command), Some(length), Some(times)) = (
-        command_of(name.as_str()),
-        number_of(words.next()),
-        number_of(words.next()),
-    ) else {
-        return ExitCode::from(2);
-    };
-    let Ok(line) = run(alloc, command, length, times) else {
-        return ExitCode::from(9);
-    };
-    match WriteSink::new(rt.stdout()).write(line.as_bytes()) {
-        Ok(()) => ExitCode::from(0),
-        Err(_) => ExitCode::from(4),
-    }
 }
