@@ -1,67 +1,17 @@
-//! User data of presentation and ACSE as a filter of standard input, for what stands in bench/.
+//! User data of presentation and ACSE: a line such as `DT 1a,3p 6100` has an SPDU, contexts, and user data in hexadecimal
+//! digits. A context is an identifier and a letter: `a` ACSE, `p` FTAM PCI, `f` FADU, `t` text, `b` binary, another one
+//! any other syntax; `-` stands for no contexts.
 //!
-//! `read` takes lines such as `DT 1a,3p 6100`: an SPDU, contexts, each an identifier and a letter (`a` ACSE, `p` FTAM
-//! PCI, `f` FADU, `t` text, `b` binary, another one any other syntax), and user data in hexadecimal digits. Of each it
-//! writes what is read: `grammar AT`, `context ID`, `application`, or `ok` with the offers or results, the values, each
-//! behind its context, and the user data that are written for it, `-` where none can be. `parse` takes the user data of
-//! a P-DATA alone, and writes how many values there are; `rewrite` writes them again. `hold` takes any octets and writes
-//! how many there are.
-#![tactic(auto)]
-
-use std::alloc::{AllocError, AllocFailed, Global};
-use std::env;
-use std::process::ExitCode;
-use vf_base::{NoMemory, Oid, ReadSource, Sink, SpduKind, WriteSink, read_up_to};
+//! The answer is `grammar AT`, `context ID`, `application`, or `ok` with the offers or the results, the values, each with
+//! its context before it, and the user data that are written for what was read, `-` where none can be.
+use crate::spelling::put_spelling;
+use bench_base::{Fault, octets_in, put, put_count, put_digits, text_of};
+use std::alloc::Global;
+use vf_base::{NoMemory, Oid, SpduKind};
 use vf_upper::{
     CarriedValues, ContextEntry, Contexts, Offers, Primitive, Results, UpperError, is_writable,
     read, write,
 };
-
-/// The most octets of input.
-const LIMIT: usize = 1 << 26;
-
-#[derive(Clone, Copy)]
-enum Command {
-    Read,
-    Parse,
-    Rewrite,
-    Hold,
-}
-
-/// Why nothing was written.
-#[derive(Clone, Copy)]
-enum Fault {
-    Line,
-    NoMemory,
-}
-
-impl From<NoMemory> for Fault {
-    fn from(_error: NoMemory) -> Fault {
-        Fault::NoMemory
-    }
-}
-
-impl From<AllocError> for Fault {
-    fn from(_error: AllocError) -> Fault {
-        Fault::NoMemory
-    }
-}
-
-impl<T: Drop> From<AllocFailed<T>> for Fault {
-    fn from(_error: AllocFailed<T>) -> Fault {
-        Fault::NoMemory
-    }
-}
-
-fn command_of(name: &str) -> Option<Command> {
-    match name {
-        "read" => Some(Command::Read),
-        "parse" => Some(Command::Parse),
-        "rewrite" => Some(Command::Rewrite),
-        "hold" => Some(Command::Hold),
-        _ => None,
-    }
-}
 
 fn carrier_of(name: &str) -> Option<SpduKind> {
     match name {
@@ -126,11 +76,6 @@ fn contexts_of(alloc: Global, words: &str) -> Result<Contexts, Fault> {
     Ok(made)
 }
 
-fn put(out: &mut Vec<u8>, text: &str) -> Result<(), Fault> {
-    out.extend_from_slice(text.as_bytes())?;
-    Ok(())
-}
-
 fn put_offers(alloc: Global, offers: &Offers, out: &mut Vec<u8>) -> Result<(), Fault> {
     for offer in offers.as_slice() {
         let id = offer.id;
@@ -152,13 +97,9 @@ fn put_results(results: &Results, out: &mut Vec<u8>) -> Result<(), Fault> {
 fn put_values(alloc: Global, values: &CarriedValues, out: &mut Vec<u8>) -> Result<(), Fault> {
     for value in values.as_slice() {
         let context = value.context;
-        let mut spelled = Vec::new(alloc);
-        if vf_ber::write(alloc, &value.value, &mut spelled).is_err() {
-            return Err(Fault::Line);
-        }
-        let digits = hex::encode(alloc, spelled.as_slice())?;
-        let text = format!(in alloc; " {context}:{digits}")?;
+        let text = format!(in alloc; " {context}:")?;
         put(out, text.as_str())?;
+        put_spelling(alloc, &value.value, out)?;
     }
     Ok(())
 }
@@ -222,39 +163,26 @@ fn put_answer(
     put_primitive(alloc, &primitive, out)?;
     match written(alloc, &primitive, contexts)? {
         Some(octets) => {
-            let digits = hex::encode(alloc, octets.as_slice())?;
-            let text = format!(in alloc; " {digits}\n")?;
-            put(out, text.as_str())
+            put(out, " ")?;
+            put_digits(alloc, octets.as_slice(), out)?;
+            put(out, "\n")
         }
         None => put(out, " -\n"),
     }
 }
 
-fn put_line(alloc: Global, line: &str, out: &mut Vec<u8>) -> Result<(), Fault> {
-    let mut words = line.split(' ');
+/// Appends what is read of a line.
+pub fn put_line(alloc: Global, line: &[u8], out: &mut Vec<u8>) -> Result<(), Fault> {
+    let mut words = text_of(line)?.split(' ');
     let carrier = words.next().and_then(carrier_of).ok_or(Fault::Line)?;
     let contexts = contexts_of(alloc, words.next().ok_or(Fault::Line)?)?;
     let digits = words.next().ok_or(Fault::Line)?;
-    let Ok(octets) = hex::decode(alloc, digits.as_bytes()) else {
-        return Err(Fault::Line);
-    };
+    let octets = octets_in(alloc, digits.as_bytes())?;
     put_answer(alloc, carrier, &contexts, octets.as_slice(), out)
 }
 
-/// What the lines are.
-fn answers(alloc: Global, octets: &[u8]) -> Result<Vec<u8>, Fault> {
-    let Ok(text) = std::str::from_utf8(octets) else {
-        return Err(Fault::Line);
-    };
-    let mut out = Vec::new(alloc);
-    for line in text.lines() {
-        put_line(alloc, line, &mut out)?;
-    }
-    Ok(out)
-}
-
 /// The values of a P-DATA: the user data that are written for them where that is asked for, else how many there are.
-fn values(alloc: Global, octets: &[u8], again: bool) -> Result<Vec<u8>, Fault> {
+pub fn whole(alloc: Global, octets: &[u8], again: bool) -> Result<Vec<u8>, Fault> {
     let contexts = contexts_of(alloc, "1a,3p")?;
     let Ok(primitive) = read(alloc, SpduKind::DT, &contexts, octets) else {
         return Err(Fault::Line);
@@ -262,48 +190,10 @@ fn values(alloc: Global, octets: &[u8], again: bool) -> Result<Vec<u8>, Fault> {
     if again {
         return written(alloc, &primitive, &contexts)?.ok_or(Fault::Line);
     }
-    match &primitive {
-        Primitive::Data { values } => total(alloc, values.len()),
-        _ => Err(Fault::Line),
-    }
-}
-
-/// A number in a line.
-fn total(alloc: Global, count: usize) -> Result<Vec<u8>, Fault> {
-    let line = format!(in alloc; "{count}\n")?;
-    Ok(line.into_bytes())
-}
-
-fn run(alloc: Global, command: Command, octets: &[u8]) -> Result<Vec<u8>, Fault> {
-    match command {
-        Command::Read => answers(alloc, octets),
-        Command::Parse => values(alloc, octets, false),
-        Command::Rewrite => values(alloc, octets, true),
-        Command::Hold => total(alloc, octets.len()),
-    }
-}
-
-fn main(rt: HostRuntime) -> ExitCode {
-    let alloc = rt.alloc();
-    let Ok(mut words) = env::args(&rt) else {
-        return ExitCode::from(2);
+    let Primitive::Data { values } = &primitive else {
+        return Err(Fault::Line);
     };
-    let command = match words.nth(1) {
-        Some(name) => command_of(name.as_str()),
-        None => None,
-    };
-    let Some(command) = command else {
-        return ExitCode::from(2);
-    };
-    let Ok(octets) = read_up_to(alloc, &mut ReadSource::new(rt.stdin()), LIMIT) else {
-        return ExitCode::from(3);
-    };
-    match run(alloc, command, octets.as_slice()) {
-        Ok(made) => match WriteSink::new(rt.stdout()).write(made.as_slice()) {
-            Ok(()) => ExitCode::from(0),
-            Err(_) => ExitCode::from(4),
-        },
-        Err(Fault::Line) => ExitCode::from(8),
-        Err(Fault::NoMemory) => ExitCode::from(9),
-    }
+    let mut out = Vec::new(alloc);
+    put_count(alloc, values.len(), &mut out)?;
+    Ok(out)
 }
