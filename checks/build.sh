@@ -1,46 +1,98 @@
 # The proved program and what it was made of, for ./ftam and ./test, which set top to the repository's top.
+#
+# Beside the program stands a stamp: the sum of the sources that it was made of and its own, and the folders of these
+# sources. Where nothing there has changed since the stamp was made, by the times that the system keeps, the program is
+# built, which is told in some milliseconds. Where something has, the sums decide.
 
 # where the toolchain leaves it
 program=$top/crates/ftam/out/ftam
-# the sum of the sources that it was made of, and its own
 stamp=$program.made-of
 
+# The folders of the crates that the program is made of, each after those that it stands on, in one line. The names on
+# the right of crates.txt that are none on its left are libraries of the toolchain.
+folders_of_program() {
+    awk '
+        { sub(/#.*/, "") }
+        $1 ~ /:$/ { name = substr($1, 1, length($1) - 1); known[name] = 1; $1 = ""; below[name] = $0 }
+        function visit(name,    each, count, at) {
+            if (seen[name]++ || !known[name]) return
+            count = split(below[name], each, " ")
+            for (at = 1; at <= count; at++) visit(each[at])
+            printf " crates/%s", name
+        }
+        END { visit("ftam") }
+    ' "$top/crates.txt"
+}
+
+# The sum of the sources of the program: of its crates, and of their lines in crates.txt.
 sum_of_sources() (
     cd -- "$top" || exit
-    {
-        cat crates.txt
-        find crates -name out -prune -o -type f \( -path 'crates/*/src/*' -o -path 'crates/*/specs/*' \
+    folders=$(folders_of_program)
+    for folder in $folders; do
+        grep "^${folder#crates/}[ :]" crates.txt
+        find "$folder" -name out -prune -o -type f \( -path 'crates/*/src/*' -o -path 'crates/*/specs/*' \
             -o -path 'crates/*/proofs/*' \) -exec sha256sum {} + | LC_ALL=C sort
-    } | sha256sum
+    done | sha256sum
 )
 
+# Whether neither a source nor the program has changed since the stamp was made.
+is_untouched() {
+    { read -r _ && read -r _ && read -r folders; } < "$stamp" 2> /dev/null || return
+    # shellcheck disable=SC2086
+    touched=$(cd -- "$top" && find crates.txt crates/ftam/out/ftam $folders \
+        \( -name out -o -name must-fail \) -prune -o -newercm "$stamp" -print -quit 2>&1) && [ -z "$touched" ]
+}
+
 is_built() {
-    [ -x "$program" ] && [ "$({ sum_of_sources && sha256sum < "$program"; } 2>&1)" = "$(cat "$stamp" 2>&1)" ]
+    [ -x "$program" ] && { is_untouched || is_same; }
 }
 
-# Notes that the program was made of sources of this sum, where they haven't changed since.
+# Whether the sums are those of the stamp, which is then made anew.
+is_same() {
+    [ -f "$stamp" ] || return
+    sources=$(sum_of_sources)
+    [ "$(echo "$sources" && sha256sum < "$program")" = "$(head -n 2 "$stamp")" ] && note_built "$sources"
+}
+
+# Notes that the program was made of sources of this sum, where they haven't changed since. The stamp has the time before
+# they are summed, and a tick of the system's clock passes first, so that each later change is a later one by the clock.
 note_built() {
+    : > "$stamp.$$" && sleep 0.05
     if [ "$1" = "$(sum_of_sources)" ]; then
-        { echo "$1" && sha256sum < "$program"; } > "$stamp.$$" && mv -f "$stamp.$$" "$stamp"
+        { echo "$1" && sha256sum < "$program" && folders_of_program && echo; } > "$stamp.$$.all" &&
+            touch -r "$stamp.$$" "$stamp.$$.all" && mv -f "$stamp.$$.all" "$stamp"
     fi
+    rm -f "$stamp.$$"
 }
 
-# Proves and builds the program, and says so on standard error.
+# Proves and builds the program, and says so on standard error, a line for each crate.
 build() {
     rt=${RT:-rt}
     if ! command -v "$rt" > /dev/null; then
         echo "ftam: not built yet, and $rt isn't there to build it: put rt into PATH, or name it in RT" >&2
         return 127
     fi
-    echo "ftam: proving and building the program, which may take many minutes" >&2
     rm -f "$stamp"
     sources=$(sum_of_sources)
-    # Of no input `dialogue` makes nothing and status 0, so that a status 0 says that it is proved and built.
-    if ! said=$(cd -- "$top/crates/ftam" && "$rt" run -- dialogue < /dev/null 2>&1); then
-        printf '%s\n' "$said" | tail -n 40 >&2
-        echo "ftam: the program could not be built" >&2
-        return 126
-    fi
+    # shellcheck disable=SC2046
+    set -- $(folders_of_program)
+    count=$# number=0
+    echo "ftam: proving and building the program, crate by crate, which may take an hour the first time" >&2
+    for folder in "$@"; do
+        number=$((number + 1))
+        echo "ftam: $number of $count: ${folder#crates/}" >&2
+        # Of no input `dialogue` makes nothing and status 0, so that a status 0 says that it is proved and built.
+        case $folder in
+        crates/ftam) words="run -- dialogue" ;;
+        *) words=lib ;;
+        esac
+        # shellcheck disable=SC2086
+        if ! said=$(cd -- "$top/$folder" && "$rt" $words < /dev/null 2>&1); then
+            printf '%s\n' "$said" | tail -n 40 >&2
+            echo "ftam: the program could not be built, for ${folder#crates/} above" >&2
+            return 126
+        fi
+    done
     note_built "$sources"
     echo "ftam: built" >&2
 }
