@@ -4,11 +4,11 @@ ghost use Rattle.vf_files.specs.Files.{file_named};
 ghost use Rattle.vf_attr.specs.Access.{may as may_meant};
 ghost use Rattle.vf_files.specs.Rows.{absent_row, access_row as access_meant, count_row, created, made as made_meant, unit_row};
 
-use crate::{Files, MOST_FILES};
 use crate::numbers::{
     CONTENTS_MISMATCH, NAME_EXISTS, STORE_FULL, UNIT_NOT_AGREED, access_row, includes, plain,
     refused,
 };
+use crate::{Files, MOST_FILES};
 use std::alloc::Global;
 use vf_attr::{File, Stamp, may};
 use vf_base::{Actions, Contents, Diagnostic, Name, NoMemory, Octets, Terms};

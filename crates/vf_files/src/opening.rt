@@ -3,7 +3,9 @@ ghost use Rattle.vf_files.specs.Files.{file_named};
 ghost use Rattle.vf_files.specs.Rows.{mode_row, modes as modes_meant, opened};
 
 use crate::Files;
-use crate::numbers::{NAME_UNKNOWN, NOT_PERMITTED, OUTSIDE_CONSTRAINT_SET, includes, plain, refused};
+use crate::numbers::{
+    NAME_UNKNOWN, NOT_PERMITTED, OUTSIDE_CONSTRAINT_SET, includes, plain, refused,
+};
 use std::alloc::Global;
 use vf_base::{Actions, Constraint, Contents, Diagnostic, Name, NoMemory};
 

@@ -25,7 +25,13 @@ const REPLACE_ACTION: u16 = 4;
 
 /// What refuses the request of a write by replace, of a file that is open in this mode (ISO 8571-3, F-WRITE): 33 without the unit of write, 11 where there is no file of the name, 13 where the mode has
 /// no replace, 18 where the constraint set has none, and 19 where it doesn't take the identity.
-pub fn refused_write(files: &Files, name: &Name, units: u16, mode: u8, fadu: FaduId) -> Option<Diagnostic>
+pub fn refused_write(
+    files: &Files,
+    name: &Name,
+    units: u16,
+    mode: u8,
+    fadu: FaduId,
+) -> Option<Diagnostic>
     ensures { result ≡ write_row (file_named name.now files.now) units mode fadu }
 {
     if !includes(units, WRITE_UNIT) {

@@ -144,7 +144,11 @@ fn files_stand_in_their_order(rt: HostRuntime) -> Result<(), Fail> {
         }
     }
     for (place, name) in ["b", "a", "c"].iter().enumerate() {
-        assert!(rt; files.get(place).is_some_and(|file| file.name.as_slice() == name.as_bytes()));
+        assert!(rt;
+            files
+                .get(place)
+                .is_some_and(|file| file.name.as_slice() == name.as_bytes())
+        );
     }
     assert!(rt; files.get(3).is_none());
     Ok(())

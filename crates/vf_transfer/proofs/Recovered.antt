@@ -69,7 +69,7 @@ recovers start check earlier later known names =
     let counted : start + length (first ++ left.closed) ≡ check + length left.closed
     = omega (arith, length-append first left.closed, cut_length start check earlier known, known.0) in (
       (λ i. joined (rest.closed i) ++ rest.after i)
-      ∙ ap (λ values. values ++ left.after) (joined_append first left.closed)
-      ∙ append_assoc (joined first) (joined left.closed) left.after,
+          ∙ ap (λ values. values ++ left.after) (joined_append first left.closed)
+          ∙ append_assoc (joined first) (joined left.closed) left.after,
       ap (λ closed. start + length closed) rest.closed ∙ counted,
     )

@@ -4,8 +4,8 @@ ghost use Rattle.vf_tree.specs.Identities.{located as located_by, meant as meant
 ghost use Rattle.vf_tree.specs.TreeRefusal.{answered};
 
 use super::Tree;
-use crate::limits::MOST_FILE_PARTS;
 use crate::TreeError;
+use crate::limits::MOST_FILE_PARTS;
 use crate::units::count;
 use vf_base::{Constraint, FaduId};
 

@@ -17,9 +17,11 @@ counted_octets-requires c =
     let files : values_of c.insert.new.by_name.entries ≡ with_file c.args.file (values_of es)
     = ap values_of entries ∙ values-insert_entry c.args.file es c.requires.keyed in
     let less : c.octets_at-less.result ≡ octets_of_option (file_named c.args.file.name (values_of es))
-    = c.octets_at-less.ensures.octets ∙ ap (λ name. octets_of_option (file_named name (values_of es))) c.requires.named in
-    (values_of es, c.requires.count,
-    omega (arith, ap octets_of_files files, replaced_octets c.args.file (values_of es), less, c.octets_of-more.ensures.octets))
+    = c.octets_at-less.ensures.octets ∙ ap (λ name. octets_of_option (file_named name (values_of es))) c.requires.named in (
+      values_of es,
+      c.requires.count,
+      omega (arith, ap octets_of_files files, replaced_octets c.args.file (values_of es), less, c.octets_of-more.ensures.octets),
+    )
 
 pub returns-clause-values : goal.returns-clause-values
 returns-clause-values c =

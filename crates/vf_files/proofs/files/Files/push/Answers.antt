@@ -16,9 +16,11 @@ counted_octets-self-inside-requires c =
     = c.in_ok-insert.ensures.ok ∙ ap (λ name. insert_entry (pointwise nat_eq) es name c.args.file) c.in_ok-name.ensures in
     let files : values_of c.insert.new.by_name.entries ≡ c.args.self.now ++ c.args.file ∷ []
     = ap values_of entries ∙ values-insert_entry c.args.file es c.self.invariant.0 ∙ ap (with_file c.args.file) c.self.view_is
-    ∙ with_file-new c.args.file c.args.self.now c.requires in
-    (c.args.self.now, c.self.invariant.1 ∙ ap counted c.self.view_is,
-    omega (arith, ap octets_of_files files, octets-append c.args.self.now c.args.file, c.octets_of-more.ensures.octets))
+    ∙ with_file-new c.args.file c.args.self.now c.requires in (
+      c.args.self.now,
+      c.self.invariant.1 ∙ ap counted c.self.view_is,
+      omega (arith, ap octets_of_files files, octets-append c.args.self.now c.args.file, c.octets_of-more.ensures.octets),
+    )
 
 pub invariant_of-self-2 : goal.invariant_of-self-2
 invariant_of-self-2 c =
