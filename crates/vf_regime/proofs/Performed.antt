@@ -31,7 +31,7 @@ use Rattle.vf_regime.specs.History.{History, data_end, mode, survivors, transfer
 use Rattle.vf_regime.specs.Represents.{IsAssociated, IsMovement, IsMoving, IsOpen, IsSelected, with_tables}
 use Rattle.vf_regime.specs.State.{State, StandingParty}
 use Rattle.vf_regime.specs.Transfers.{kept_ending}
-use Rattle.vf_regime.specs.Transition.{concludes, created_by, ended_by, ending_in, file_in, given_by, identity_in, joined, mode_in, opened_by, performed, read_by, requested_in, selected_by, stamp_of, units_in}
+use Rattle.vf_regime.specs.Transition.{concludes, created_by, ended_by, ending_in, file_in, given_by, identity_in, ending_diagnostic, mode_in, opened_by, performed, read_by, requested_in, selected_by, stamp_of, units_in}
 use Rattle.vf_regime.proofs.Limits.{values_kept}
 
 refusal_kept : (refused : Option Diagnostic) → refusal_of (given_by refused) ≡ refused
@@ -40,13 +40,13 @@ refusal_kept (Some diagnostic) = refl
 
 -- how a transfer ends, by what is kept of it
 ending_kept : (movement : Movement) (history : History) → IsMovement movement history → (files : List File) (stamp : Stamp) (name : List ℕ)
-    → ending_in (transfer history) files stamp name (joined (data_end history)) (survivors history) ≡ kept_ending movement files stamp name
+    → ending_in (transfer history) files stamp name (ending_diagnostic (data_end history)) (survivors history) ≡ kept_ending movement files stamp name
 ending_kept (movements.Writing write) history r files stamp name =
     let values = values_kept write history r in
-    (λ i. ending_in (r.moved i) files stamp name (joined (r.ended i)) (values i))
-    ∙ ap (λ (refused : Option Diagnostic). write_ending files stamp name refused (joined write.ended) write.fadu write.receiving.values) (refusal_kept write.refused)
+    (λ i. ending_in (r.moved i) files stamp name (ending_diagnostic (r.ended i)) (values i))
+    ∙ ap (λ (refused : Option Diagnostic). write_ending files stamp name refused (ending_diagnostic write.ended) write.fadu write.receiving.values) (refusal_kept write.refused)
 ending_kept (movements.Reading refused) history r files stamp name =
-    (λ i. ending_in (r.moved i) files stamp name (joined (data_end history)) (survivors history))
+    (λ i. ending_in (r.moved i) files stamp name (ending_diagnostic (data_end history)) (survivors history))
     ∙ ap (λ (d : Option Diagnostic). read_ending files stamp name d) r.found
 
 module _ (tables : Tables) (state : State) (party : StandingParty) (moment : ℕ) where
@@ -103,6 +103,6 @@ module _ (tables : Tables) (state : State) (party : StandingParty) (moment : ℕ
       ≡ ended_by ending (with_tables tables state) party moment (messages.Pdu TransferEndRequest)
   finish_performed moving represents ending decides =
       ap (λ e. ended_by e (with_tables tables state) party moment (messages.Pdu TransferEndRequest))
-      ((λ i. ending_in (transfer party.history) tables.files (stamp_of (represents.opened.associated i) moment) (file_in (represents.opened.stands i)) (joined (data_end party.history)) (survivors party.history))
+      ((λ i. ending_in (transfer party.history) tables.files (stamp_of (represents.opened.associated i) moment) (file_in (represents.opened.stands i)) (ending_diagnostic (data_end party.history)) (survivors party.history))
       ∙ ending_kept moving.movement party.history represents.movement tables.files (record { moment = moment; identity = moving.opened.selected.associated.identity }) moving.opened.selected.file
       ∙ decides)

@@ -65,7 +65,7 @@ use Rattle.vf_regime.specs.Built.{is_built}
 use Rattle.vf_regime.specs.History.{History, Move, Reads, Writes, Transfer, agreed, association, data_end, done, mode, position, selection, stage, survivors, transfer, transfers}
 use Rattle.vf_regime.specs.Sayable.{CanServe, GoesOnServing, IsConcluded, IsGiven, IsSayable, IsServable, IsTold, NextCanServe, SaidIsSayable}
 use Rattle.vf_regime.specs.State.{State, StandingParty}
-use Rattle.vf_regime.specs.Transition.{Consequence, abort_where, aborts, after_transition, concludes, created_by, ended_by, ending_by, ending_in, file_in, given_by, identity_in, is_spent, joined, leaves, limit, mode_in, not_built, numbers_spent, opened_by, passes_survivors, performed, read_by, refuses, requested, requested_in, selected_by, stamp_of, taken, too_long, transition, units_in, unless_aborted, wrong_state}
+use Rattle.vf_regime.specs.Transition.{Consequence, abort_where, aborts, after_transition, concludes, created_by, ended_by, ending_by, ending_in, file_in, given_by, identity_in, is_spent, ending_diagnostic, leaves, limit, mode_in, not_built, numbers_spent, opened_by, passes_survivors, performed, read_by, refuses, requested, requested_in, selected_by, stamp_of, accepted, too_long, transition, units_in, unless_aborted, wrong_state}
 use Rattle.vf_regime.proofs.Strings.{AreStrings, AreUnits, IsShown, ShowsGood, shown_good, units_good}
 
 abbrev AreServable : List File → Type 0
@@ -533,7 +533,7 @@ module _ (state : State) (party : StandingParty) (moment : ℕ) (serves : CanSer
   requested_good (DataEnd diagnostic) e = concludes_good (messages.Pdu (DataEnd diagnostic)) [] [] Nothing tt serves.files tt
   requested_good TransferEndRequest e =
       ends_good (messages.Pdu TransferEndRequest) _
-      (ending_good (transfer party.history) state.files (stamp_of (association party.history) moment) (file_in (selection party.history)) (joined (data_end party.history)) (survivors party.history)
+      (ending_good (transfer party.history) state.files (stamp_of (association party.history) moment) (file_in (selection party.history)) (ending_diagnostic (data_end party.history)) (survivors party.history)
       (transfer_good party.history serves.history) serves.files)
   requested_good _ e = quiet state.files serves.files
 
@@ -575,7 +575,7 @@ module _ (state : State) (party : StandingParty) (moment : ℕ) (serves : CanSer
   transition_good message = by (is_built message) refl (takes (stage party.history) message)
     where
       by : (built : Bool) → is_built message ≡ built → (placed : Bool)
-          → IsGood state.files (if not built then aborts not_built else if not placed then aborts wrong_state else taken state party moment message)
+          → IsGood state.files (if not built then aborts not_built else if not placed then aborts wrong_state else accepted state party moment message)
       by false e placed = aborts_good not_built refl
       by true e false = aborts_good wrong_state refl
       by true e true =

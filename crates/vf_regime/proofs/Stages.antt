@@ -1,6 +1,6 @@
 -- The stage of a history, by the state that represents it; and which messages are left of a stage.
 use Rattle.std.proofs.Common.{◌≡◌, ℕ, Bool, true, false, cond, not, Option, None, Some, refl, ap, ◌∙◌}
-use Rattle.std.specs.Prelude.{is_some}
+use Rattle.std.specs.Prelude.{is_some, option_map}
 use Rattle.vf_base.specs.declared.diagnostic.Diagnostic.{Diagnostic}
 use Rattle.vf_elements.specs.Stages.{takes}
 use Rattle.vf_elements.specs.declared.message.Message.{Message}
@@ -17,9 +17,9 @@ use Rattle.vf_regime.specs.declared.selected.Selected.{Selected}
 use Rattle.vf_regime.specs.declared.write.Write.{Write}
 use Rattle.vf_regime.specs.Built.{is_built}
 use Rattle.vf_regime.specs.History.{History, association, data_end, selection, mode, stage, stage_by, was_shown}
-use Rattle.vf_regime.specs.Represents.{IsAssociated, IsIdle, IsMovement, IsOpen, IsReading, IsSelected, IsWriting, Represents, stage_of, stage_of_movement, stage_of_write}
+use Rattle.vf_regime.specs.Represents.{IsAssociated, IsIdle, IsMovement, IsOpen, IsReading, IsSelected, IsWriting, Represents, identity_of, named, stage_of, stage_of_movement, stage_of_write}
 use Rattle.vf_regime.specs.State.{State, StandingParty}
-use Rattle.vf_regime.specs.Transition.{Consequence, aborts, taken, transition, not_built, wrong_state}
+use Rattle.vf_regime.specs.Transition.{Consequence, aborts, accepted, transition, not_built, wrong_state}
 
 module _ (history : History) where
   stage_idle : (idle : Idle) (link : ℕ) → IsIdle idle link history → stage history ≡ stages.Idle
@@ -65,7 +65,7 @@ stage_kept (parties.Moving moving) standing r = stage_moving standing.history mo
 
 module _ (state : State) (standing : StandingParty) (moment : ℕ) (message : Message) where
   decided : (built takes_it : Bool) → Consequence
-  decided built takes_it = cond (not built) (aborts not_built) (cond (not takes_it) (aborts wrong_state) (taken state standing moment message))
+  decided built takes_it = cond (not built) (aborts not_built) (cond (not takes_it) (aborts wrong_state) (accepted state standing moment message))
 
   pub unbuilt_transition : is_built message ≡ false → transition state standing moment message ≡ aborts not_built
   unfolding decided
@@ -79,8 +79,16 @@ module _ (state : State) (standing : StandingParty) (moment : ℕ) (message : Me
       λ i. decided (built i) (refused i)
 
   pub taken_transition : is_built message ≡ true → (here : Stage) → stage standing.history ≡ here → takes here message ≡ true
-      → transition state standing moment message ≡ taken state standing moment message
+      → transition state standing moment message ≡ accepted state standing moment message
   unfolding decided
   taken_transition built here same takes_it =
       let takes_there : takes (stage standing.history) message ≡ true = ap (λ s. takes s message) same ∙ takes_it in
       λ i. decided (built i) (takes_there i)
+
+-- the identity of the association of a party that is represented
+pub identity_kept : (party : Party) (standing : StandingParty) → Represents party standing → option_map named (association standing.history) ≡ identity_of party
+identity_kept (parties.Idle idle) standing r = ap (option_map named) r.associated
+identity_kept (parties.Associated associated) standing r = ap (option_map named) r.stands
+identity_kept (parties.Selected selected) standing r = ap (option_map named) r.associated
+identity_kept (parties.Open opened) standing r = ap (option_map named) r.opened.associated
+identity_kept (parties.Moving moving) standing r = ap (option_map named) r.opened.associated

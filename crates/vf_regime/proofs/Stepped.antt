@@ -16,14 +16,14 @@ use Rattle.vf_regime.specs.declared.step.StepError.{StepError}
 use Rattle.vf_regime.specs.declared.step.StepError.TheVariants as errors
 use Rattle.vf_regime.specs.Built.{is_built}
 use Rattle.vf_regime.specs.History.{History, done, survivors}
-use Rattle.vf_regime.specs.Represents.{IsAnswer, IsAnswered, IsGone, IsNext, IsStep, IsTaken, IsTransition, Meets, MeetsStep, Represents, link_of, stage_of, with_tables}
+use Rattle.vf_regime.specs.Represents.{IsAnswer, IsAnswered, IsGone, IsNext, IsStep, IsAccepted, IsTransition, Meets, MeetsStep, Represents, link_of, stage_of, with_tables}
 use Rattle.vf_regime.specs.State.{State, StandingParty}
-use Rattle.vf_regime.specs.Transition.{Consequence, leaves, limit, performed, taken, unless_aborted}
+use Rattle.vf_regime.specs.Transition.{Consequence, leaves, limit, performed, accepted, unless_aborted}
 use Rattle.vf_regime.proofs.Stages.{stage_kept, taken_transition}
 
 pub taken_performed : (state : State) (standing : StandingParty) (moment : ℕ) (message : Message)
     → limit (survivors standing.history) (done standing.history) message ≡ None
-    → taken state standing moment message ≡ performed state standing moment message
+    → accepted state standing moment message ≡ performed state standing moment message
 taken_performed state standing moment message none =
     ap (λ l. unless_aborted l (performed state standing moment message)) none
 
@@ -34,7 +34,7 @@ pub stepped : {Old New : Type 0} (before : Old → ℕ → History → Type 0) (
     → ((link : ℕ) (next : StandingParty) → after step.state next.link next.history → IsNext link (Some next) (next_party step.state))
     → ((standing : StandingParty) → Represents party standing → limit (survivors standing.history) (done standing.history) message ≡ None)
     → IsStep before after tables old moment message response (Ok step)
-    → IsTaken tables party moment message (Ok (record { party = next_party step.state; said = step.said; changes = step.changes }))
+    → IsAccepted tables party moment message (Ok (record { party = next_party step.state; said = step.said; changes = step.changes }))
 stepped before after party next_party tables old moment message response step into out unlimited is_step = λ state standing represents.
     let meets = is_step state standing (into standing represents) in
     let outcome : Outcome = record { party = next_party step.state; said = step.said; changes = step.changes } in
@@ -51,7 +51,7 @@ pub refused_answer : {Old New : Type 0} (before : Old → ℕ → History → Ty
     → ((standing : StandingParty) → Represents (wrap old) standing → limit (survivors standing.history) (done standing.history) message ≡ None)
     → IsStep {New = New} before after tables old moment message response (Err (back, error)) → back ≡ old → error ≡ errors.Refused diagnostic
     → MatchResult result (IsAnswered (wrap back) (answers.Pdu (response diagnostic) ∷ [])) (λ given. given.0 ≡ wrap back)
-    → IsTaken tables (wrap old) moment message result
+    → IsAccepted tables (wrap old) moment message result
 refused_answer {Old} {New} before after wrap tables old back moment message response error diagnostic (Ok outcome) into out unlimited is_step kept refused answered =
     λ state standing represents.
     let consequence = performed (with_tables tables state) standing moment message in
@@ -84,7 +84,7 @@ gone_answer consequence tables party said (Err back) gone goes = gone
 -- an answer to a message that is built and that its stage takes
 pub taken_answer : (tables : Tables) (party : Party) (moment : ℕ) (message : Message) (result : Result Outcome (Party × NoMemory))
     → is_built message ≡ true → takes (stage_of party) message ≡ true
-    → IsTaken tables party moment message result → IsTransition tables party moment message result
+    → IsAccepted tables party moment message result → IsTransition tables party moment message result
 taken_answer tables party moment message (Ok outcome) built takes_it taken_so = λ state standing represents.
     subst (λ (q : Consequence). Meets standing.link q outcome)
     (sym (taken_transition (with_tables tables state) standing moment message built (stage_of party) (stage_kept party standing represents) takes_it))

@@ -16,7 +16,7 @@ use Rattle.vf_regime.specs.declared.party.Party.{Party}
 use Rattle.vf_regime.specs.declared.party.Party.TheVariants as parties
 use Rattle.vf_regime.specs.declared.write.Write.{Write}
 use Rattle.vf_regime.specs.History.{Writes, transferred}
-use Rattle.vf_regime.specs.Represents.{IsMovement, IsNext, IsTaken, IsWriting, Meets, with_tables}
+use Rattle.vf_regime.specs.Represents.{IsMovement, IsNext, IsAccepted, IsWriting, Meets, with_tables}
 use Rattle.vf_regime.specs.Transition.{Consequence, given_by, passes, performed}
 use Rattle.vf_regime.proofs.After.{value_counts}
 use Rattle.vf_regime.proofs.Limits.{value_limit}
@@ -48,7 +48,7 @@ pub value_taken : (tables : Tables) (moving : Moving) (moment : ℕ) (element : 
     → Takes element old new
     → outcome.said.items ≡ [] → outcome.changes ≡ []
     → outcome.party ≡ parties.Moving (record { opened = moving.opened; movement = movements.Writing new })
-    → IsTaken tables (parties.Moving moving) moment (messages.Element element) (Ok outcome)
+    → IsAccepted tables (parties.Moving moving) moment (messages.Element element) (Ok outcome)
 value_taken tables moving moment element old new outcome is unpassed t says makes party = λ state standing represents.
     let r : IsWriting old standing.history = subst (λ (m : Movement). IsMovement m standing.history) is represents.movement in
     let none = value_limit old standing.history r element false unpassed in
@@ -80,7 +80,7 @@ pub end_taken : (tables : Tables) (moving : Moving) (moment : ℕ) (diagnostic :
     → moving.movement ≡ movements.Writing write
     → outcome.said.items ≡ [] → outcome.changes ≡ []
     → outcome.party ≡ parties.Moving (record { opened = moving.opened; movement = movements.Writing (record write { ended = Some diagnostic }) })
-    → IsTaken tables (parties.Moving moving) moment (messages.Pdu (DataEnd diagnostic)) (Ok outcome)
+    → IsAccepted tables (parties.Moving moving) moment (messages.Pdu (DataEnd diagnostic)) (Ok outcome)
 end_taken tables moving moment diagnostic write outcome is says makes party = λ state standing represents.
     let r : IsWriting write standing.history = subst (λ (m : Movement). IsMovement m standing.history) is represents.movement in (
       says,

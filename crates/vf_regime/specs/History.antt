@@ -30,9 +30,9 @@ abbrev pub History : Type 0
 History = List Entry
 
 -- what the latest entry that decides says: something stands open, or nothing does
-abbrev pub standing : {A : Type 0} → (Message → Given → Option (Option A)) → History → Option A
-standing decides [] = None
-standing decides (entry ∷ earlier) = unwrap_or (decides entry.message entry.given) (standing decides earlier)
+abbrev pub latest : {A : Type 0} → (Message → Given → Option (Option A)) → History → Option A
+latest decides [] = None
+latest decides (entry ∷ earlier) = unwrap_or (decides entry.message entry.given) (latest decides earlier)
 
 -- the functional units that this responder has: read 1, write 2, file access 4, limited management 8
 abbrev pub offered : ℕ
@@ -57,7 +57,7 @@ associates _ given = None
 
 -- the association that stands: the functional units agreed, and who is at the other end
 abbrev pub association : History → Option Association
-association = standing associates
+association = latest associates
 
 pub record Selection : Type 0 where
   pub file : List ℕ
@@ -73,7 +73,7 @@ selects _ given = None
 
 -- the selection that stands: the name of the file, and the actions that were requested
 abbrev pub selection : History → Option Selection
-selection = standing selects
+selection = latest selects
 
 abbrev pub opens : Message → Given → Option (Option ℕ)
 opens (messages.Pdu (OpenRequest mode contents controls activity)) given = Some (Some mode)
@@ -82,7 +82,7 @@ opens _ given = None
 
 -- the mode of the open that stands
 abbrev pub mode : History → Option ℕ
-mode = standing opens
+mode = latest opens
 
 abbrev pub positioned : Message → Given → ℕ → ℕ
 positioned (messages.Pdu (OpenRequest mode contents controls activity)) given before = 0
@@ -111,7 +111,7 @@ transfers _ given = None
 
 -- the transfer that is under way
 abbrev pub transfer : History → Option Transfer
-transfer = standing transfers
+transfer = latest transfers
 
 abbrev pub transferring : Message → List TransferEntry → List TransferEntry
 transferring (messages.Pdu (WriteRequest operation fadu)) earlier = []
@@ -134,7 +134,7 @@ ends _ given = None
 
 -- the end of the values of the last write, with the initiator's diagnostic, if there was one
 abbrev pub data_end : History → Option (Option Diagnostic)
-data_end = standing ends
+data_end = latest ends
 
 abbrev pub has_data_end : List Said → Bool
 has_data_end [] = false

@@ -32,7 +32,7 @@ use Rattle.vf_regime.specs.declared.step.StepError.{StepError}
 use Rattle.vf_regime.specs.declared.step.StepError.TheVariants as errors
 use Rattle.vf_regime.specs.History.{Association, History, Reads, Writes, Selection, association, data_end, done, mode, position, selection, transfer, transferred, was_shown}
 use Rattle.vf_regime.specs.State.{State, StandingParty}
-use Rattle.vf_regime.specs.Transition.{Consequence, given_by, performed, taken, transition}
+use Rattle.vf_regime.specs.Transition.{Consequence, given_by, performed, accepted, transition}
 
 pub record IsIdle (idle : Idle) (link : ℕ) (history : History) : Type 0 where
   pub linked : link ≡ idle.link
@@ -137,6 +137,18 @@ link_of (parties.Selected selected) = selected.associated.link
 link_of (parties.Open opened) = opened.selected.associated.link
 link_of (parties.Moving moving) = moving.opened.selected.associated.link
 
+-- the identity of an association
+abbrev pub named : Association → List ℕ
+named association = association.identity
+
+-- the identity of a party's association
+abbrev pub identity_of : Party → Option (List ℕ)
+identity_of (parties.Idle idle) = None
+identity_of (parties.Associated associated) = Some associated.identity
+identity_of (parties.Selected selected) = Some selected.associated.identity
+identity_of (parties.Open opened) = Some opened.selected.associated.identity
+identity_of (parties.Moving moving) = Some moving.opened.selected.associated.identity
+
 -- the party of a link after a transition: the idle one where it is gone, else one that represents it and isn't idle
 abbrev pub IsNext : ℕ → Option StandingParty → Party → Type 0
 IsNext link None party = party ≡ parties.Idle (record { link = link })
@@ -187,8 +199,8 @@ IsTransition tables party moment message =
     IsAnswer (λ state standing. transition state standing moment message) tables party
 
 -- to a message that is built and that its stage takes
-abbrev pub IsTaken : Tables → Party → (moment : ℕ) → Message → Result Outcome (Party × NoMemory) → Type 0
-IsTaken tables party moment message = IsAnswer (λ state standing. taken state standing moment message) tables party
+abbrev pub IsAccepted : Tables → Party → (moment : ℕ) → Message → Result Outcome (Party × NoMemory) → Type 0
+IsAccepted tables party moment message = IsAnswer (λ state standing. accepted state standing moment message) tables party
 
 -- the initiator's aborts (ISO 8571-4, F-U-ABORT and F-P-ABORT)
 abbrev pub IsAbort : Pdu → Type 0

@@ -6,7 +6,7 @@ use Rattle.vf_base.specs.declared.diagnostic.Diagnostic.{Diagnostic}
 use Rattle.vf_files.specs.Effects.{read_ending, write_ending}
 use Rattle.vf_files.specs.Rows.{Given, Showed}
 use Rattle.vf_files.specs.declared.ending.Ending.{Ending}
-use Rattle.vf_regime.specs.Transition.{joined}
+use Rattle.vf_regime.specs.Transition.{ending_diagnostic}
 use Rattle.vf_regime.specs.declared.moving.Movement.{Movement}
 use Rattle.vf_regime.specs.declared.moving.Movement.TheVariants as movements
 
@@ -18,5 +18,5 @@ position_after _ before = before
 -- how a transfer ends that keeps this
 abbrev pub kept_ending : Movement → List File → Stamp → (name : List ℕ) → Ending
 kept_ending (movements.Writing write) files stamp name =
-    write_ending files stamp name write.refused (joined write.ended) write.fadu write.receiving.values
+    write_ending files stamp name write.refused (ending_diagnostic write.ended) write.fadu write.receiving.values
 kept_ending (movements.Reading refused) files stamp name = read_ending files stamp name refused

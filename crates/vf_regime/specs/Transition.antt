@@ -10,7 +10,7 @@ use Rattle.vf_elements.specs.declared.message.Message.TheVariants as messages
 use Rattle.vf_elements.specs.declared.message.Said.{Said}
 use Rattle.vf_elements.specs.declared.message.Said.TheVariants as answers
 use Rattle.vf_pdu.specs.declared.pdu.Pdu.{Pdu}
-use Rattle.vf_pdu.specs.declared.pdu.Pdu.TheVariants.{InitializeRequest, InitializeResponse, TerminateRequest, TerminateResponse, SelectRequest, SelectResponse, DeselectRequest, DeselectResponse, CreateRequest, CreateResponse, OpenRequest, OpenResponse, CloseRequest, CloseResponse, ReadRequest, WriteRequest, DataEnd, TransferEndRequest, TransferEndResponse}
+use Rattle.vf_pdu.specs.declared.pdu.Pdu.TheVariants.{InitializeRequest, InitializeResponse, TerminateRequest, TerminateResponse, UserAbort, ProviderAbort, SelectRequest, SelectResponse, DeselectRequest, DeselectResponse, CreateRequest, CreateResponse, DeleteRequest, DeleteResponse, ReadAttribRequest, ReadAttribResponse, ChangeAttribRequest, ChangeAttribResponse, OpenRequest, OpenResponse, CloseRequest, CloseResponse, BeginGroupRequest, BeginGroupResponse, EndGroupRequest, EndGroupResponse, RecoverRequest, RecoverResponse, LocateRequest, LocateResponse, EraseRequest, EraseResponse, ReadRequest, WriteRequest, DataEnd, TransferEndRequest, TransferEndResponse, CancelRequest, CancelResponse, RestartRequest, RestartResponse}
 use Rattle.vf_files.specs.Effects.{read_ending, write_ending}
 use Rattle.vf_files.specs.Files.{after_changes, file_named}
 use Rattle.vf_files.specs.Rows.{Given, Nothing, Refused, Showed, created, opened, read_given, refusal_of, select_row, write_given}
@@ -143,9 +143,9 @@ read_said (Refused diagnostic) = answers.Pdu (DataEnd (Some diagnostic)) ∷ []
 read_said (Showed version elements position) = map answers.Element elements ++ answers.Pdu (DataEnd None) ∷ []
 read_said Nothing = []
 
-abbrev pub joined : Option (Option Diagnostic) → Option Diagnostic
-joined None = None
-joined (Some diagnostic) = diagnostic
+abbrev pub ending_diagnostic : Option (Option Diagnostic) → Option Diagnostic
+ending_diagnostic None = None
+ending_diagnostic (Some diagnostic) = diagnostic
 
 -- F-TRANSFER-END
 abbrev pub ending_by : Move → List File → Stamp → (name : List ℕ) (refused ended : Option Diagnostic) → List Element → Ending
@@ -196,24 +196,59 @@ requested state party moment (WriteRequest operation fadu) =
 requested state party moment (DataEnd diagnostic) =
     concludes state party moment (messages.Pdu (DataEnd diagnostic)) [] [] Nothing
 requested state party moment TransferEndRequest =
-    ended_by (ending_in (transfer party.history) state.files (stamp_of (association party.history) moment) (file_in (selection party.history)) (joined (data_end party.history)) (survivors party.history))
+    ended_by (ending_in (transfer party.history) state.files (stamp_of (association party.history) moment) (file_in (selection party.history)) (ending_diagnostic (data_end party.history)) (survivors party.history))
     state party moment (messages.Pdu TransferEndRequest)
-requested state party moment _ = leaves []
+-- the initiator's aborts, which have no answer
+requested state party moment (UserAbort number) = leaves []
+requested state party moment (ProviderAbort number place) = leaves []
+-- requests that aren't built so far
+requested state party moment DeleteRequest = leaves []
+requested state party moment (ReadAttribRequest names) = leaves []
+requested state party moment (ChangeAttribRequest name permitted terms others) = leaves []
+requested state party moment (BeginGroupRequest threshold) = leaves []
+requested state party moment EndGroupRequest = leaves []
+requested state party moment (RecoverRequest activity number point) = leaves []
+requested state party moment (LocateRequest fadu) = leaves []
+requested state party moment (EraseRequest fadu) = leaves []
+requested state party moment (CancelRequest diagnostic) = leaves []
+requested state party moment (RestartRequest point) = leaves []
+-- responses, which no stage takes
+requested state party moment (InitializeResponse diagnostic units window) = leaves []
+requested state party moment TerminateResponse = leaves []
+requested state party moment (SelectResponse diagnostic) = leaves []
+requested state party moment (DeselectResponse diagnostic) = leaves []
+requested state party moment (CreateResponse diagnostic) = leaves []
+requested state party moment (DeleteResponse diagnostic) = leaves []
+requested state party moment (ReadAttribResponse diagnostic attributes) = leaves []
+requested state party moment (ChangeAttribResponse diagnostic) = leaves []
+requested state party moment (OpenResponse diagnostic contents) = leaves []
+requested state party moment (CloseResponse diagnostic) = leaves []
+requested state party moment BeginGroupResponse = leaves []
+requested state party moment EndGroupResponse = leaves []
+requested state party moment (RecoverResponse diagnostic number point moving last) = leaves []
+requested state party moment (LocateResponse diagnostic position) = leaves []
+requested state party moment (EraseResponse diagnostic) = leaves []
+requested state party moment (TransferEndResponse diagnostic) = leaves []
+requested state party moment CancelResponse = leaves []
+requested state party moment (RestartResponse point) = leaves []
 
 -- What a message comes to that no abort refuses. The initiator's aborts are as a break, which has no answer.
 abbrev pub performed : State → StandingParty → (moment : ℕ) → Message → Consequence
 performed state party moment (messages.Pdu request) = requested state party moment request
 performed state party moment (messages.Element element) =
     concludes state party moment (messages.Element element) [] [] Nothing
-performed state party moment _ = leaves []
+performed state party moment messages.Check = leaves []
+performed state party moment (messages.Acknowledge point) = leaves []
+performed state party moment (messages.Restart point) = leaves []
+performed state party moment messages.Break = leaves []
 
 abbrev pub unless_aborted : Option ℕ → Consequence → Consequence
 unless_aborted (Some number) consequence = aborts number
 unless_aborted None consequence = consequence
 
 -- a message that its stage takes
-abbrev pub taken : State → StandingParty → (moment : ℕ) → Message → Consequence
-taken state party moment message =
+abbrev pub accepted : State → StandingParty → (moment : ℕ) → Message → Consequence
+accepted state party moment message =
     unless_aborted (limit (survivors party.history) (done party.history) message) (performed state party moment message)
 
 -- the aborts in their order, and what else the message comes to
@@ -221,7 +256,7 @@ abbrev pub transition : State → StandingParty → (moment : ℕ) → Message �
 transition state party moment message =
     if not (is_built message) then aborts not_built
     else if not (takes (stage party.history) message) then aborts wrong_state
-    else taken state party moment message
+    else accepted state party moment message
 
 -- the state after a transition of the link's party
 abbrev pub after_transition : State → ℕ → Consequence → State

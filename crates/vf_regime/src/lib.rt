@@ -26,6 +26,3 @@ pub use vf_attr::{File, Stamp};
 pub use vf_elements::{Message, Said, Stage};
 pub use vf_files::{Change, Changes, Files, Tables};
 pub use write::Write;
-
-#[cfg(test)]
-mod tests;

@@ -4,7 +4,7 @@ ghost use Rattle.vf_elements.specs.declared.message.Message.TheVariants as messa
 ghost use Rattle.vf_pdu.specs.declared.pdu.Pdu.TheVariants as pdus;
 ghost use Rattle.vf_regime.specs.Represents.{IsMoving, IsOpen, IsStep};
 ghost use Rattle.vf_regime.specs.Transfers.{kept_ending};
-ghost use Rattle.vf_regime.specs.Transition.{joined as joined_meant};
+ghost use Rattle.vf_regime.specs.Transition.{ending_diagnostic as ending_meant};
 
 use crate::step::one_said;
 use crate::{Open, Said, Stamp, Step, StepError, Tables, Write};
@@ -83,7 +83,7 @@ impl Moving {
                 stamp,
                 &selected.file,
                 write.refused,
-                joined(write.ended),
+                ending_diagnostic(write.ended),
                 write.fadu,
                 write.receiving.values(),
             )?,
@@ -96,8 +96,8 @@ impl Moving {
 }
 
 /// The initiator's diagnostic, where the values have ended.
-fn joined(ended: Option<Option<Diagnostic>>) -> Option<Diagnostic>
-    ensures { result ≡ joined_meant ended }
+fn ending_diagnostic(ended: Option<Option<Diagnostic>>) -> Option<Diagnostic>
+    ensures { result ≡ ending_meant ended }
 {
     match ended {
         Some(diagnostic) => diagnostic,

@@ -1,10 +1,10 @@
-ghost use Rattle.std.specs.Prelude.{◌≡◌, true};
+ghost use Rattle.std.specs.Prelude.{◌≡◌, None, option_copied, option_map, true};
 ghost use Rattle.vf_elements.specs.Stages.{takes};
 ghost use Rattle.vf_elements.specs.declared.message.Message.TheVariants as messages;
 ghost use Rattle.vf_elements.specs.declared.stage.Stage.TheVariants as stages;
 ghost use Rattle.vf_regime.specs.Built.{is_built as built_test};
-ghost use Rattle.vf_regime.specs.History.{stage};
-ghost use Rattle.vf_regime.specs.Represents.{IsAbort, IsTaken, IsTransition, Represents, link_of as link_number, stage_of, stage_of_movement};
+ghost use Rattle.vf_regime.specs.History.{association, stage};
+ghost use Rattle.vf_regime.specs.Represents.{IsAbort, IsAccepted, IsTransition, Represents, identity_of, link_of as link_number, named, stage_of, stage_of_movement};
 ghost use Rattle.vf_regime.specs.State.{StandingParty, arrived};
 
 use crate::built::is_built;
@@ -13,7 +13,7 @@ use crate::{
     Associated, Changes, Idle, Message, Movement, Moving, Open, Said, Selected, Stage, Tables,
 };
 use std::alloc::Global;
-use vf_base::{Element, Moment, NoMemory};
+use vf_base::{Element, Moment, Name, NoMemory};
 use vf_pdu::Pdu;
 
 /// The abort of what isn't built so far (profile).
@@ -67,6 +67,33 @@ impl Party {
             Party::Open(_) => Stage::Opened,
             Party::Moving(moving) => stage_of_moving(moving),
         }
+    }
+
+    /// The identity at the other end of the party's association; `None` exactly where there is none.
+    pub fn identity(&self) -> Option<&Name>
+        ensures kept { option_copied result ≡ identity_of self.now }
+        ensures filter { (party : StandingParty) → Represents self.now party → option_copied result ≡ option_map named (association party.history) }
+    {
+        self.kept_identity()
+    }
+
+    fn kept_identity(&self) -> Option<&Name>
+        ensures { option_copied result ≡ identity_of self.now }
+    {
+        match self {
+            Party::Idle(_) => None,
+            Party::Associated(associated) => Some(&associated.identity),
+            Party::Selected(selected) => Some(&selected.associated.identity),
+            Party::Open(opened) => Some(&opened.selected.associated.identity),
+            Party::Moving(moving) => Some(&moving.opened.selected.associated.identity),
+        }
+    }
+
+    /// The activity of the party's open file. `None` so far, since no open with an activity is built.
+    pub fn activity(&self) -> Option<u32>
+        ensures { result ≡ None }
+    {
+        None
     }
 
     /// The number of the party's link.
@@ -136,7 +163,7 @@ fn take_built(
 ) -> Result<Outcome, (Party, NoMemory)>
     requires built { built_test message ≡ true }
     requires taken { takes (stage_of party) message ≡ true }
-    ensures { IsTaken tables.now party setting.moment message result }
+    ensures { IsAccepted tables.now party setting.moment message result }
 {
     match message {
         Message::Pdu(request) => take_request(party, alloc, request, setting, tables),
@@ -156,7 +183,7 @@ fn take_element(
     tables: &Tables,
 ) -> Result<Outcome, (Party, NoMemory)>
     requires { takes (stage_of party) (messages.Element element) ≡ true }
-    ensures { IsTaken tables.now party setting.moment (messages.Element element) result }
+    ensures { IsAccepted tables.now party setting.moment (messages.Element element) result }
 {
     match party {
         Party::Moving(moving) => moves::element(moving, alloc, element, setting, tables),
@@ -176,7 +203,7 @@ fn take_request(
 ) -> Result<Outcome, (Party, NoMemory)>
     requires built { built_test (messages.Pdu request) ≡ true }
     requires taken { takes (stage_of party) (messages.Pdu request) ≡ true }
-    ensures { IsTaken tables.now party setting.moment (messages.Pdu request) result }
+    ensures { IsAccepted tables.now party setting.moment (messages.Pdu request) result }
 {
     match party {
         Party::Idle(idle) => take_idle(idle, alloc, request, setting, tables),
@@ -198,7 +225,7 @@ fn take_idle(
 ) -> Result<Outcome, (Party, NoMemory)>
     requires built { built_test (messages.Pdu request) ≡ true }
     requires taken { takes stages.Idle (messages.Pdu request) ≡ true }
-    ensures { IsTaken tables.now (Party.Idle idle) setting.moment (messages.Pdu request) result }
+    ensures { IsAccepted tables.now (Party.Idle idle) setting.moment (messages.Pdu request) result }
 {
     match request {
         request @ Pdu::InitializeRequest { .. } => regimes::initialize(
@@ -217,7 +244,7 @@ fn take_associated(
 ) -> Result<Outcome, (Party, NoMemory)>
     requires built { built_test (messages.Pdu request) ≡ true }
     requires taken { takes stages.Associated (messages.Pdu request) ≡ true }
-    ensures { IsTaken tables.now (Party.Associated associated) setting.moment (messages.Pdu request) result }
+    ensures { IsAccepted tables.now (Party.Associated associated) setting.moment (messages.Pdu request) result }
 {
     match request {
         request @ Pdu::SelectRequest { .. } => regimes::select(
@@ -248,7 +275,7 @@ fn take_selected(
 ) -> Result<Outcome, (Party, NoMemory)>
     requires built { built_test (messages.Pdu request) ≡ true }
     requires taken { takes stages.Selected (messages.Pdu request) ≡ true }
-    ensures { IsTaken tables.now (Party.Selected selected) setting.moment (messages.Pdu request) result }
+    ensures { IsAccepted tables.now (Party.Selected selected) setting.moment (messages.Pdu request) result }
 {
     match request {
         request @ Pdu::DeselectRequest => regimes::deselect(
@@ -270,7 +297,7 @@ fn take_open(
 ) -> Result<Outcome, (Party, NoMemory)>
     requires built { built_test (messages.Pdu request) ≡ true }
     requires taken { takes stages.Opened (messages.Pdu request) ≡ true }
-    ensures { IsTaken tables.now (Party.Open opened) setting.moment (messages.Pdu request) result }
+    ensures { IsAccepted tables.now (Party.Open opened) setting.moment (messages.Pdu request) result }
 {
     match request {
         request @ Pdu::CloseRequest => regimes::close(opened, alloc, request, setting, tables),
@@ -289,7 +316,7 @@ fn take_moving(
 ) -> Result<Outcome, (Party, NoMemory)>
     requires built { built_test (messages.Pdu request) ≡ true }
     requires taken { takes (stage_of_movement moving.movement) (messages.Pdu request) ≡ true }
-    ensures { IsTaken tables.now (Party.Moving moving) setting.moment (messages.Pdu request) result }
+    ensures { IsAccepted tables.now (Party.Moving moving) setting.moment (messages.Pdu request) result }
 {
     match request {
         request @ Pdu::DataEnd { .. } => moves::data_end(moving, alloc, request, setting, tables),
@@ -307,7 +334,7 @@ fn take_abort(
     tables: &Tables,
 ) -> Result<Outcome, (Party, NoMemory)>
     requires { IsAbort request }
-    ensures { IsTaken tables.now party setting.moment (messages.Pdu request) result }
+    ensures { IsAccepted tables.now party setting.moment (messages.Pdu request) result }
 {
     drop(request);
     Ok(outcomes::end_party(alloc, party, Vec::new(alloc)))

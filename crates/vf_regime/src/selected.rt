@@ -54,7 +54,7 @@ impl Selected {
     /// Takes an OpenRequest that no abort refuses; refused with 11 where the file is gone, 13 where the mode isn't
     /// within the requested actions, and 18 where it isn't within those of the constraint set. The state is given back
     /// as it was with the diagnostic, or without memory.
-    pub fn open_file(
+    pub fn open(
         self,
         alloc: Global,
         request: Pdu,

@@ -17,15 +17,21 @@ pub(crate) fn call<I: Source>(
     input: &mut I,
     failing: Vec<u64>,
 ) -> Result<Printed, NoMemory> {
-    let mut given = Vec::new(alloc);
-    for word in words.split_ascii_whitespace() {
-        given.push(String::from_str(alloc, word)?)?;
-    }
+    let given = words_of(alloc, words)?;
     let mut out = VecSink::new(alloc, failing);
     let status = ftam(alloc, &given, input, &mut out);
     let mut octets = Vec::new(alloc);
     octets.extend_from_slice(out.octets())?;
     Ok(Printed { octets, status })
+}
+
+/// The words, which spaces part.
+pub(crate) fn words_of(alloc: Global, words: &str) -> Result<Vec<String>, NoMemory> {
+    let mut given = Vec::new(alloc);
+    for word in words.split_ascii_whitespace() {
+        given.push(String::from_str(alloc, word)?)?;
+    }
+    Ok(given)
 }
 
 /// One number.

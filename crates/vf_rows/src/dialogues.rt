@@ -1,6 +1,8 @@
 //! What `dialogue` prints, and what words outside the grammar print.
-use crate::call::{call, only};
+use crate::call::{call, only, words_of};
+use crate::sips::Sips;
 use vf_base::{NoMemory, SliceSource};
+use vf_cli::{WordsError, wanted};
 
 #[test]
 fn lines_in_and_out(rt: HostRuntime) -> Result<(), NoMemory> {
@@ -55,6 +57,16 @@ fn lines_in_and_out(rt: HostRuntime) -> Result<(), NoMemory> {
         ("A00680010F830102\n", "A504800200C7\n", 7),
         ("A00380010F\n160161\n", "A10381010F\nA504800200C7\n", 7),
         ("A00380010F\nAC00\n", "A10381010F\nA504800200C7\n", 7),
+        (
+            "A00380010F\nAA0F810161A207800528C27B0503850105\nAC00\n",
+            "A10381010F\nAB00\nA504800200C7\n",
+            7,
+        ),
+        (
+            "A00380010F\nAA0C810162A207800528C27B0501\n",
+            "A10381010F\nA504800200C7\n",
+            7,
+        ),
         // A default that is spelled out is none.
         ("A00680010F830101\nA200\n", "A10381010F\nA300\n", 0),
         (
@@ -70,6 +82,8 @@ fn lines_in_and_out(rt: HostRuntime) -> Result<(), NoMemory> {
         // Messages that their stage doesn't take.
         ("A200\n", "A503800166\n", 7),
         ("A400\n", "A503800166\n", 7),
+        ("A300\n", "A503800166\n", 7),
+        ("040100\n", "A503800166\n", 7),
         ("A00380010F\nA00380010F\n", "A10381010F\nA503800166\n", 7),
         ("A00380010F\nA300\n", "A10381010F\nA503800166\n", 7),
         ("A00380010F\nA800\n", "A10381010F\nA503800166\n", 7),
@@ -86,6 +100,15 @@ fn lines_in_and_out(rt: HostRuntime) -> Result<(), NoMemory> {
         ),
         ("A00380010F\nA503800165\nA200\n", "A10381010F\n", 0),
         // Bad lines, and what was answered before them.
+        ("\n", "bad line 1\n", 11),
+        ("0\n", "bad line 1\n", 11),
+        ("A00\n", "bad line 1\n", 11),
+        ("A0\r\n", "bad line 1\n", 11),
+        ("0aFF\n", "bad line 1\n", 11),
+        ("FG\n", "bad line 1\n", 11),
+        ("0 0A\n", "bad line 1\n", 11),
+        ("A0038001\na2\nA2\n", "bad line 2\n", 11),
+        ("A0\n03\nA6", "bad line 3\n", 11),
         ("A00380010F\na2\n", "A10381010F\nbad line 2\n", 11),
         ("A00380010F\nA2 00\n", "A10381010F\nbad line 2\n", 11),
         ("A00380010F\n\nA200\n", "A10381010F\nbad line 2\n", 11),
@@ -104,10 +127,14 @@ fn lines_in_and_out(rt: HostRuntime) -> Result<(), NoMemory> {
             11,
         ),
     ] {
-        let mut input = SliceSource::new(text.as_bytes(), Vec::new(rt.alloc()));
-        let found = call(rt.alloc(), "dialogue", &mut input, Vec::new(rt.alloc()))?;
-        assert!(rt; found.status == status, "{text}");
-        assert!(rt; found.octets.as_slice() == printed.as_bytes(), "{text}");
+        // Octets come all at once, or few at once, so that a line and a digit's partner are cut anywhere.
+        for most in [1, 2, 3, 64, usize::MAX] {
+            let octets = SliceSource::new(text.as_bytes(), Vec::new(rt.alloc()));
+            let mut input = Sips { octets, most };
+            let found = call(rt.alloc(), "dialogue", &mut input, Vec::new(rt.alloc()))?;
+            assert!(rt; found.status == status, "{text}");
+            assert!(rt; found.octets.as_slice() == printed.as_bytes(), "{text}");
+        }
     }
     Ok(())
 }
@@ -141,15 +168,27 @@ fn words_outside_the_grammar(rt: HostRuntime) -> Result<(), NoMemory> {
         "--",
         "serve",
         "Dialogue",
+        "dialogues",
         "dialogue x",
         "dialogue --",
         "dialogue --port=1",
     ] {
+        let given = words_of(rt.alloc(), words)?;
+        let usage = wanted(rt.alloc(), &given).is_err_and(|error| error == WordsError::Usage);
+        assert!(rt; usage, "{words}");
         // The input isn't read: its first read would fail.
         let mut input = SliceSource::new(b"A2", only(rt.alloc(), 1)?);
         let found = call(rt.alloc(), words, &mut input, Vec::new(rt.alloc()))?;
         assert!(rt; found.status == 2, "{words}");
         assert!(rt; found.octets.as_slice() == "usage\n".as_bytes(), "{words}");
     }
+    Ok(())
+}
+
+#[test]
+fn what_dialogue_wants(rt: HostRuntime) -> Result<(), NoMemory> {
+    let given = words_of(rt.alloc(), "dialogue")?;
+    let idle = wanted(rt.alloc(), &given).map(|wanted| wanted.idle);
+    assert!(rt; idle == Ok(1_000_000));
     Ok(())
 }

@@ -11,7 +11,7 @@ fn a_read_that_fails(rt: HostRuntime) -> Result<(), NoMemory> {
     let reads = text.len() as u64 / 16 + 2;
     for failing in 1..=reads + 1 {
         let octets = SliceSource::new(text.as_bytes(), only(rt.alloc(), failing)?);
-        let mut input = Sips { octets };
+        let mut input = Sips { octets, most: 16 };
         let found = call(rt.alloc(), "dialogue", &mut input, Vec::new(rt.alloc()))?;
         let fails = failing <= reads;
         assert!(rt; found.status == if fails { 3 } else { 0 }, "{failing}");

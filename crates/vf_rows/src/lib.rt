@@ -1,5 +1,5 @@
 //! The worked dialogues: the top call over objects in memory, from its words and its input to what it prints and
-//! its status.
+//! its status; and the calls of one party, message by message.
 #![tactic(auto)]
 
 #[cfg(test)]
@@ -10,5 +10,7 @@ mod contents;
 mod dialogues;
 #[cfg(test)]
 mod faults;
+#[cfg(test)]
+mod regime;
 #[cfg(test)]
 mod sips;

@@ -1,10 +1,13 @@
 //! A source that gives few octets at once.
 use vf_base::{Failed, SliceSource, Source};
 
-/// A source in memory, of which a read gives sixteen octets at most.
+/// A source in memory, of which a read gives so many octets at most.
 #[derive(Drop)]
 pub(crate) struct Sips<'a> {
     pub(crate) octets: SliceSource<'a>,
+    /// One at least.
+    pub(crate) most: usize,
+    ghost some: { 0 < most },
 }
 
 impl<'a> Source for Sips<'a> {
@@ -17,7 +20,7 @@ impl<'a> Source for Sips<'a> {
     ghost plan = { λ source. None };
 
     fn read(&mut self, into: &mut [u8]) -> Result<usize, Failed> {
-        let most = into.len().min(16);
+        let most = into.len().min(self.most);
         self.octets.read(&mut into[..most])
     }
 

@@ -8,7 +8,7 @@ ghost use Rattle.vf_elements.specs.declared.stage.Stage.TheVariants as stages;
 ghost use Rattle.vf_pdu_fields.specs.declared.operation.WriteOperation.TheVariants as operations;
 ghost use Rattle.vf_regime.specs.declared.moving.Movement.TheVariants as movements;
 ghost use Rattle.vf_regime.specs.declared.party.Party.TheVariants as parties;
-ghost use Rattle.vf_regime.specs.Represents.{IsTaken, stage_of_movement};
+ghost use Rattle.vf_regime.specs.Represents.{IsAccepted, stage_of_movement};
 
 use super::{Setting, abort_party};
 use crate::party::{Outcome, Party};
@@ -34,7 +34,7 @@ pub(crate) fn read(
     tables: &Tables,
 ) -> Result<Outcome, (Party, NoMemory)>
     requires { (fadu : Fadu) × (context : AccessContext) × (request ≡ Pdu.ReadRequest fadu context) }
-    ensures { IsTaken tables.now (Party.Open opened) setting.moment (messages.Pdu request) result }
+    ensures { IsAccepted tables.now (Party.Open opened) setting.moment (messages.Pdu request) result }
 {
     let Setting {
         moment,
@@ -63,7 +63,7 @@ pub(crate) fn write(
     tables: &Tables,
 ) -> Result<Outcome, (Party, NoMemory)>
     requires { (fadu : Fadu) × (request ≡ Pdu.WriteRequest operations.Replace fadu) }
-    ensures { IsTaken tables.now (Party.Open opened) setting.moment (messages.Pdu request) result }
+    ensures { IsAccepted tables.now (Party.Open opened) setting.moment (messages.Pdu request) result }
 {
     let Setting {
         moment,
@@ -93,7 +93,7 @@ pub(crate) fn element(
     tables: &Tables,
 ) -> Result<Outcome, (Party, NoMemory)>
     requires { stage_of_movement moving.movement ≡ stages.Writing }
-    ensures { IsTaken tables.now (Party.Moving moving) setting.moment (messages.Element element) result }
+    ensures { IsAccepted tables.now (Party.Moving moving) setting.moment (messages.Element element) result }
 {
     let Moving { opened, movement } = moving;
     let Movement::Writing(mut write) = movement else {
@@ -133,7 +133,7 @@ pub(crate) fn data_end(
 ) -> Result<Outcome, (Party, NoMemory)>
     requires asked { (diagnostic : Option Reason) × (request ≡ Pdu.DataEnd diagnostic) }
     requires stage { stage_of_movement moving.movement ≡ stages.Writing }
-    ensures { IsTaken tables.now (Party.Moving moving) setting.moment (messages.Pdu request) result }
+    ensures { IsAccepted tables.now (Party.Moving moving) setting.moment (messages.Pdu request) result }
 {
     let Pdu::DataEnd { diagnostic } = request else {
         unreachable!()
@@ -159,7 +159,7 @@ pub(crate) fn finish(
     tables: &Tables,
 ) -> Result<Outcome, (Party, NoMemory)>
     requires { request ≡ Pdu.TransferEndRequest }
-    ensures { IsTaken tables.now (Party.Moving moving) setting.moment (messages.Pdu request) result }
+    ensures { IsAccepted tables.now (Party.Moving moving) setting.moment (messages.Pdu request) result }
 {
     let Setting {
         moment,

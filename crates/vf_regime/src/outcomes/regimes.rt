@@ -6,7 +6,7 @@ ghost use Rattle.vf_base.specs.declared.term.Term.{Term as FileTerm};
 ghost use Rattle.vf_elements.specs.declared.message.Message.TheVariants as messages;
 ghost use Rattle.vf_pdu_fields.specs.declared.controls.AttributeControls.{AttributeControls as Controls};
 ghost use Rattle.vf_pdu_fields.specs.declared.controls.ContentControls.{ContentControls as OpenControls};
-ghost use Rattle.vf_regime.specs.Represents.{IsTaken};
+ghost use Rattle.vf_regime.specs.Represents.{IsAccepted};
 
 use super::{Setting, end_party, keep_party};
 use crate::party::{Outcome, Party};
@@ -24,7 +24,7 @@ pub(crate) fn initialize(
     tables: &Tables,
 ) -> Result<Outcome, (Party, NoMemory)>
     requires { (units : ℕ) × (identity : Option (List ℕ)) × (password : Option (List ℕ)) × (window : ℕ) × (request ≡ Pdu.InitializeRequest units identity password window) }
-    ensures { IsTaken tables.now (Party.Idle idle) setting.moment (messages.Pdu request) result }
+    ensures { IsAccepted tables.now (Party.Idle idle) setting.moment (messages.Pdu request) result }
 {
     let Setting {
         moment,
@@ -50,7 +50,7 @@ pub(crate) fn select(
     tables: &Tables,
 ) -> Result<Outcome, (Party, NoMemory)>
     requires { (name : List ℕ) × (requested : ActionSet) × (controls : Option Controls) × (password : Option (List ℕ)) × (request ≡ Pdu.SelectRequest name requested controls password) }
-    ensures { IsTaken tables.now (Party.Associated associated) setting.moment (messages.Pdu request) result }
+    ensures { IsAccepted tables.now (Party.Associated associated) setting.moment (messages.Pdu request) result }
 {
     let Setting {
         moment,
@@ -88,7 +88,7 @@ pub(crate) fn create(
     tables: &Tables,
 ) -> Result<Outcome, (Party, NoMemory)>
     requires { (over : ℕ) × (name : List ℕ) × (contents : FileContents) × (permitted : ActionSet) × (terms : List FileTerm) × (requested : ActionSet) × (controls : Option Controls) × (password : Option (List ℕ)) × (request ≡ Pdu.CreateRequest over name contents permitted terms requested controls password) }
-    ensures { IsTaken tables.now (Party.Associated associated) setting.moment (messages.Pdu request) result }
+    ensures { IsAccepted tables.now (Party.Associated associated) setting.moment (messages.Pdu request) result }
 {
     let Setting {
         moment,
@@ -127,7 +127,7 @@ pub(crate) fn terminate(
     tables: &Tables,
 ) -> Result<Outcome, (Party, NoMemory)>
     requires { request ≡ Pdu.TerminateRequest }
-    ensures { IsTaken tables.now (Party.Associated associated) setting.moment (messages.Pdu request) result }
+    ensures { IsAccepted tables.now (Party.Associated associated) setting.moment (messages.Pdu request) result }
 {
     drop(request);
     let party = Party::Associated(associated);
@@ -145,7 +145,7 @@ pub(crate) fn deselect(
     tables: &Tables,
 ) -> Result<Outcome, (Party, NoMemory)>
     requires { request ≡ Pdu.DeselectRequest }
-    ensures { IsTaken tables.now (Party.Selected selected) setting.moment (messages.Pdu request) result }
+    ensures { IsAccepted tables.now (Party.Selected selected) setting.moment (messages.Pdu request) result }
 {
     let Setting {
         moment,
@@ -171,7 +171,7 @@ pub(crate) fn open_file(
     tables: &Tables,
 ) -> Result<Outcome, (Party, NoMemory)>
     requires { (mode : ℕ) × (contents : Option FileContents) × (controls : Option OpenControls) × (activity : Option ℕ) × (request ≡ Pdu.OpenRequest mode contents controls activity) }
-    ensures { IsTaken tables.now (Party.Selected selected) setting.moment (messages.Pdu request) result }
+    ensures { IsAccepted tables.now (Party.Selected selected) setting.moment (messages.Pdu request) result }
 {
     let Setting {
         moment,
@@ -179,7 +179,7 @@ pub(crate) fn open_file(
         token,
         sync,
     } = setting;
-    match selected.open_file(alloc, request, moment, serial, token, sync, tables) {
+    match selected.open(alloc, request, moment, serial, token, sync, tables) {
         Ok(step) => Ok(Outcome {
             party: Party::Open(step.state),
             said: step.said,
@@ -210,7 +210,7 @@ pub(crate) fn close(
     tables: &Tables,
 ) -> Result<Outcome, (Party, NoMemory)>
     requires { request ≡ Pdu.CloseRequest }
-    ensures { IsTaken tables.now (Party.Open opened) setting.moment (messages.Pdu request) result }
+    ensures { IsAccepted tables.now (Party.Open opened) setting.moment (messages.Pdu request) result }
 {
     let Setting {
         moment,

@@ -6,7 +6,7 @@ use Rattle.vf_regime.specs.declared.party.Outcome.{Outcome}
 use Rattle.vf_regime.specs.declared.party.Party.{Party}
 use Rattle.vf_regime.specs.declared.party.Party.TheVariants as parties
 use Rattle.vf_regime.specs.Represents.{IsGone, IsMovement, with_tables}
-use Rattle.vf_regime.specs.Transition.{performed, taken, too_long, unless_aborted}
+use Rattle.vf_regime.specs.Transition.{performed, accepted, too_long, unless_aborted}
 use Rattle.vf_regime.proofs.Limits.{value_limit}
 use Rattle.vf_regime.proofs.Stepped.{gone_answer}
 use Rattle.vf_regime.proofs.Values.{value_taken}
@@ -18,7 +18,7 @@ returns-then-is_passed_by c =
     let moving = c.args.moving in
     let same : c.writing.result ≡ parties.Moving moving =
     c.writing.ensures ∙ ap (λ (m : Movement). parties.Moving (record { opened = moving.opened; movement = m })) (sym c.in-Writing.is) in
-    gone_answer (λ state standing. taken state standing c.args.setting.moment message) c.args.tables.now (parties.Moving moving)
+    gone_answer (λ state standing. accepted state standing c.args.setting.moment message) c.args.tables.now (parties.Moving moving)
     (answers.Abort too_long 0 ∷ []) c.abort_party.result
     (subst (λ (p : Party). MatchResult c.abort_party.result (IsGone p (answers.Abort too_long 0 ∷ [])) (λ back. back.0 ≡ p)) same c.abort_party.ensures)
     (λ state standing represents.

@@ -7,7 +7,7 @@ use Rattle.vf_pdu.specs.declared.pdu.Pdu.TheVariants.{DataEnd}
 use Rattle.vf_regime.specs.declared.party.Party.TheVariants as parties
 use Rattle.vf_regime.specs.History.{done, survivors}
 use Rattle.vf_regime.specs.Represents.{IsMoving, IsOpen, with_tables}
-use Rattle.vf_regime.specs.Transition.{limit, numbers_spent, performed, taken, unless_aborted}
+use Rattle.vf_regime.specs.Transition.{limit, numbers_spent, performed, accepted, unless_aborted}
 use Rattle.vf_regime.proofs.Limits.{spent, unspent}
 use Rattle.vf_regime.proofs.Stepped.{gone_answer, stepped}
 use Rattle.vf_regime.proofs.outcomes.moves.read.Goals as goal
@@ -17,7 +17,7 @@ response diagnostic = DataEnd (Some diagnostic)
 
 pub returns-then-opened-ge-MOST_TRANSFERS : goal.returns-then-opened-ge-MOST_TRANSFERS
 returns-then-opened-ge-MOST_TRANSFERS c =
-    gone_answer (λ state standing. taken state standing c.args.setting.moment (messages.Pdu c.args.request)) c.args.tables.now (parties.Open c.args.opened)
+    gone_answer (λ state standing. accepted state standing c.args.setting.moment (messages.Pdu c.args.request)) c.args.tables.now (parties.Open c.args.opened)
     (answers.Abort numbers_spent 0 ∷ []) c.abort_party.result c.abort_party.ensures
     (λ state standing represents.
     ap (λ l. unless_aborted l (performed (with_tables c.args.tables.now state) standing c.args.setting.moment (messages.Pdu c.args.request)))

@@ -13,7 +13,7 @@ use Rattle.vf_regime.specs.Represents.{IsOpen, IsSelected, with_tables}
 use Rattle.vf_regime.specs.Transition.{performed}
 use Rattle.vf_regime.proofs.Performed.{open_performed}
 use Rattle.vf_regime.proofs.Steps.{good_step, refused_step}
-use Rattle.vf_regime.proofs.selected.Selected.open_file.Goals as goal
+use Rattle.vf_regime.proofs.selected.Selected.open.Goals as goal
 
 response : Diagnostic → Pdu
 response diagnostic = OpenResponse (Some diagnostic) None
