@@ -42,9 +42,9 @@ shown_silent [] end = refl
 shown_silent (element ∷ elements) end = shown_silent elements end
 
 module _ (state : State) (party : StandingParty) (moment : ℕ) where
-  selects : (message : Message) (row : Option ℕ) → Keeps party (selected_by row state party moment message)
+  selects : (message : Message) (row : Option Diagnostic) → Keeps party (selected_by row state party moment message)
   selects message None = record { silent = refl; linked = refl }
-  selects message (Some number) = record { silent = refl; linked = refl }
+  selects message (Some diagnostic) = record { silent = refl; linked = refl }
 
   creates : (message : Message) (made : Created) → Keeps party (created_by made state party moment message)
   creates message (creations.Refused diagnostic) = record { silent = refl; linked = refl }

@@ -1,9 +1,11 @@
 -- What an input says, line by line.
-use Rattle.std.proofs.Common.{◌≡◌, ◌≢◌, ℕ, suc, ◌+◌, ◌<◌, ◌≤◌, List, [], ◌∷◌, ◌++◌, length, refl, sym, ap, ◌∙◌, arith, subst}
-use Rattle.std.specs.Prelude.{if◌then◌else◌, Some, None}
+use Rattle.std.proofs.Common.{◌≡◌, ◌≢◌, ℕ, suc, ◌+◌, ◌<◌, ◌≤◌, List, [], ◌∷◌, ◌++◌, length, refl, sym, ap, ◌∙◌, arith, subst, append_assoc, length-append, inl, inr}
+use Rattle.std.specs.Prelude.{Bool, true, false, nat_le, ◌⊎◌, if◌then◌else◌, Some, None}
 use Rattle.std.proofs.lemmas.Bool.{ne_eqb, lt-leb}
-use Rattle.std.proofs.lemmas.List.Elements.{All-head, All-tail}
+use Rattle.std.proofs.lemmas.List.Elements.{All-append, All-cons, All-head, All-nil, All-tail}
 use Rattle.vf_cli.specs.Hex.{octets_of}
+use Rattle.vf_cli.specs.Reader.{IsStray}
+use Rattle.vf_cli.proofs.HexLemmas.{octets_of-stray}
 use Rattle.vf_cli.specs.Lines.{line_feed, input_limit, Cut, octet_before, cut, IsInLine, bad_at, piece_before, piece_of, line_before, lines_say, says_from}
 
 head_in_line : (octet : ℕ) (octets : List ℕ) → IsInLine (octet ∷ octets) → octet ≢ line_feed
@@ -80,7 +82,7 @@ pub says_rest : (count number : ℕ) (octets : List ℕ) → IsInLine octets →
 says_rest count number octets in_line some =
     ap (λ (c : Cut). lines_say count number c.lines c.rest) (cut_rest octets in_line) ∙ rest_is_bad count number octets some
 
-long_is_bad : (count : ℕ) (line : List ℕ) → input_limit < count → piece_of count line ≡ None
+pub long_is_bad : (count : ℕ) (line : List ℕ) → input_limit < count → piece_of count line ≡ None
 long_is_bad count [] long = refl
 long_is_bad count (digit ∷ digits) long =
     ap (λ within. if within then octets_of (digit ∷ digits) else None) (lt-leb count input_limit long)
@@ -99,3 +101,62 @@ pub says_long : (count number room : ℕ) (front rest : List ℕ) → IsInLine f
 says_long count number room front rest in_line limit long =
     let within = first_within front rest in_line in
     first_is_long count number room (cut (front ++ rest)).lines (cut (front ++ rest)).rest limit (omega arith)
+
+-- octets within a line are before the first line, or before all
+abbrev before_first : List ℕ → List (List ℕ) → List ℕ → Cut
+before_first front [] rest = record { lines = []; rest = front ++ rest }
+before_first front (line ∷ lines) rest = record { lines = (front ++ line) ∷ lines; rest = rest }
+
+before_more : (octet : ℕ) (front : List ℕ) (lines : List (List ℕ)) (rest : List ℕ)
+    → octet_before octet (before_first front lines rest).lines (before_first front lines rest).rest ≡ before_first (octet ∷ front) lines rest
+before_more octet front [] rest = refl
+before_more octet front (line ∷ lines) rest = refl
+
+before_none : (lines : List (List ℕ)) (rest : List ℕ) → record { lines = lines; rest = rest } ≡ before_first [] lines rest
+before_none [] rest = refl
+before_none (line ∷ lines) rest = refl
+
+cut-append : (front rest : List ℕ) → IsInLine front → cut (front ++ rest) ≡ before_first front (cut rest).lines (cut rest).rest
+cut-append [] rest in_line = before_none (cut rest).lines (cut rest).rest
+cut-append (octet ∷ front) rest in_line =
+    cut_step octet (front ++ rest) (head_in_line octet front in_line)
+    ∙ ap (λ (c : Cut). octet_before octet c.lines c.rest) (cut-append front rest (tail_in_line octet front in_line))
+    ∙ before_more octet front (cut rest).lines (cut rest).rest
+
+pub none_within : (count : ℕ) (line : List ℕ) → octets_of line ≡ None → piece_of count line ≡ None
+none_within count [] bad = refl
+none_within count (digit ∷ digits) bad = by (nat_le count input_limit)
+  where
+    by : (within : Bool) → (if within then octets_of (digit ∷ digits) else None) ≡ None
+    by true = bad
+    by false = refl
+
+-- a line with an octet that is no digit is bad, whatever comes after it
+pub says_stray : (count number : ℕ) (digits : List ℕ) (stray : ℕ) (rest : List ℕ) → IsInLine digits → IsStray stray
+    → says_from count number (digits ++ stray ∷ rest) ≡ bad_at number
+says_stray count number digits stray rest in_line is_stray =
+    let front : List ℕ = digits ++ stray ∷ [] in
+    let feedless : IsInLine front =
+    All-append (λ octet. octet ≢ line_feed) digits (stray ∷ []) in_line (All-cons (λ octet. octet ≢ line_feed) stray [] is_stray.1 (All-nil (λ octet. octet ≢ line_feed))) in
+    ap (λ (l : List ℕ). says_from count number l) (sym (append_assoc digits (stray ∷ []) rest))
+    ∙ ap (λ (c : Cut). lines_say count number c.lines c.rest) (cut-append front rest feedless)
+    ∙ by (cut rest).lines (cut rest).rest
+  where
+    by : (lines : List (List ℕ)) (left : List ℕ)
+        → lines_say count number (before_first (digits ++ stray ∷ []) lines left).lines (before_first (digits ++ stray ∷ []) lines left).rest ≡ bad_at number
+    by [] left = rest_is_bad count number ((digits ++ stray ∷ []) ++ left) (omega (arith, length-append (digits ++ stray ∷ []) left, length-append digits (stray ∷ [])))
+    by (line ∷ lines) left =
+        let whole : List ℕ = (digits ++ stray ∷ []) ++ line in
+        let bad : octets_of whole ≡ None = ap octets_of (append_assoc digits (stray ∷ []) line) ∙ octets_of-stray digits stray line is_stray.0 in
+        ap (λ p. line_before p number (lines_say (count + length whole + 1) (number + 1) lines left)) (none_within (count + length whole + 1) whole bad)
+
+-- the piece of a line whose digits spell octets
+pub piece_of-spelled : (count : ℕ) (line piece : List ℕ) → count ≤ input_limit → 0 < length line → octets_of line ≡ Some piece → piece_of count line ≡ Some piece
+piece_of-spelled count [] piece within some spells = absurd (omega arith)
+piece_of-spelled count (digit ∷ digits) piece within some spells =
+    let fits : nat_le count input_limit ≡ true = grind (arith, within) in
+    ap (λ within. if within then octets_of (digit ∷ digits) else None) fits ∙ spells
+
+pub piece_of-none : (count : ℕ) (line : List ℕ) → (line ≡ []) ⊎ (octets_of line ≡ None) → piece_of count line ≡ None
+piece_of-none count line (inl none) = ap (piece_of count) none
+piece_of-none count line (inr none) = none_within count line none

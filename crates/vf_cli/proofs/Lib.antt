@@ -2,12 +2,13 @@ mod TopLemmas
 mod LineLemmas
 mod PrintedLemmas
 mod ScanLemmas
+mod StreamLemmas
 mod TakenLemmas
 mod ContinuesLemmas
 mod ReceivedLemmas
 mod ReadingLemmas
 mod ConsequenceLemmas
 pub mod HexLemmas
-pub mod LinesLemmas
+pub mod BlockLemmas
 pub mod InputLemmas
 pub mod ReaderLemmas

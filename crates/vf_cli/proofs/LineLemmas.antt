@@ -1,14 +1,18 @@
 -- What comes of one line, by what the reader answered and what the party made of it.
-use Rattle.std.proofs.Common.{ℕ, Bool, true, false, List, [], Option, None, Some, Result, Ok, Err, OnErr, ap, sym, subst, ◌∙◌}
+use Rattle.std.specs.Prelude.{if◌then◌else◌}
+use Rattle.std.proofs.Common.{◌≡◌, ℕ, refl, inl, inr, Bool, true, false, List, [], Option, None, Some, Result, Ok, Err, OnErr, ap, sym, subst, ◌∙◌}
 use Rattle.vf_regime.specs.State.{State}
 use Rattle.vf_cli.specs.declared.conversation.Conversation.{Conversation}
-use Rattle.vf_cli.specs.declared.lines.NextLine.TheVariants.{Piece, Bad}
-use Rattle.vf_cli.specs.Conversation.{IsInterrupted, IsQuiet, TakesPiece}
+use Rattle.vf_cli.specs.declared.conversation.Stream.{Stream}
+use Rattle.vf_cli.specs.declared.conversation.Stream.TheVariants as streams
+use Rattle.vf_cli.specs.declared.lines.NextLine.TheVariants.{Bad, End, Piece}
+use Rattle.vf_cli.specs.Conversation.{Adds, IsInterrupted, IsQuiet, Stands, StandsBy, Steps, TakesReady, Told, behind, is_ready, octets_in}
 use Rattle.vf_cli.specs.Dialogue.{dialogue_from}
 use Rattle.vf_cli.specs.Lines.{Input, bad_line}
-use Rattle.vf_cli.specs.Printed.{WroteFront}
+use Rattle.vf_cli.specs.Printed.{Wrote, WroteFront}
 use Rattle.vf_cli.specs.Reader.{Answers}
-use Rattle.vf_cli.proofs.PrintedLemmas.{dialogue_from-bad, dialogue_from-piece, front-longer, front_nothing}
+use Rattle.vf_cli.proofs.ContinuesLemmas.{quiet_gone, quiet_short}
+use Rattle.vf_cli.proofs.PrintedLemmas.{dialogue_from-bad, dialogue_from-ended, dialogue_from-piece, front-longer, front_nothing, wrote_nothing}
 
 -- what holds anyway holds where there is an error
 pub on_err : {T E : Type 0} (result : Result T E) (P : Type 0) → P → OnErr result P
@@ -19,25 +23,93 @@ pub interrupted_before : (state : State) (pending : List ℕ) (input : Option In
 interrupted_before state pending None taken = tt
 interrupted_before state pending (Some input) taken = front_nothing (dialogue_from state pending input).octets taken
 
-module _ (state : State) (pending : List ℕ) (old new : Option (List ℕ)) where
-  -- a front of the replies is a front of all that would be printed
-  pub line_interrupted : (aborted : Bool) (piece lines : List ℕ) (conversation : Conversation) (old_input new_input : Option Input)
-      → Answers old_input new_input piece (Ok Piece) → TakesPiece state pending piece [] lines conversation aborted → WroteFront lines old new
-      → IsInterrupted state pending old_input old new
-  line_interrupted aborted piece lines conversation None new_input answers takes front = tt
-  line_interrupted true piece lines conversation (Some all) new_input answers takes front =
-      let prints = ap (dialogue_from state pending) answers.2 ∙ dialogue_from-piece state pending piece answers.0 ∙ (takes.2).prints answers.0 in
-      subst (λ l. WroteFront l old new) (takes.1 ∙ (λ i. (sym prints i).octets)) front
-  line_interrupted false piece lines conversation (Some all) new_input answers takes front =
-      let next = (takes.2).0 in
-      let prints = ap (dialogue_from state pending) answers.2 ∙ dialogue_from-piece state pending piece answers.0 ∙ ((takes.2).2).prints answers.0 in
-      subst (λ l. WroteFront l old new) (λ i. (sym prints i).octets)
-      (front-longer takes.0 (dialogue_from next conversation.pending.items answers.0).octets old new (subst (λ l. WroteFront l old new) takes.1 front))
+-- a stream with nothing ready is told nothing more where the input ends
+pub quiet_stands : (conversation : Conversation) (state : State) → is_ready conversation.stream ≡ false → Stands conversation state
+    → IsQuiet state (octets_in conversation.stream)
+quiet_stands conversation state ready stands = by conversation.stream ready stands
+  where
+    by : (stream : Stream) → is_ready stream ≡ false → StandsBy stream conversation.tables state → IsQuiet state (octets_in stream)
+    by streams.Gone ready stands = quiet_gone state [] stands
+    by (streams.Waiting party pending scan) ready stands = quiet_short state pending.items stands.1.short
+    by (streams.Ready party octets) ready stands = absurd cc
 
-  module _ (quiet : IsQuiet state pending) where
-    pub line_bad_interrupted : (number : ℕ) (piece : List ℕ) (old_input new_input : Option Input)
-        → Answers old_input new_input piece (Ok (Bad number)) → WroteFront (bad_line number) old new → IsInterrupted state pending old_input old new
-    line_bad_interrupted number piece None new_input answers front = tt
-    line_bad_interrupted number piece (Some all) new_input answers front =
-        let prints = ap (dialogue_from state pending) answers.1 ∙ dialogue_from-bad state pending quiet number in
-        subst (λ l. WroteFront l old new) (λ i. (sym prints i).octets) front
+module _ (state : State) (before : Conversation) (old new : Option (List ℕ)) where
+  -- a prefix of the replies is a prefix of all that would be printed
+  pub ready_interrupted : (aborted : Bool) (lines : List ℕ) (after : Conversation) → TakesReady state before [] lines after aborted → WroteFront lines old new
+      → (input : Option Input) → IsInterrupted state (octets_in before.stream) input old new
+  ready_interrupted aborted lines after takes front None = tt
+  ready_interrupted true lines after takes front (Some input) =
+      subst (λ l. WroteFront l old new) (takes.1 ∙ (λ i. (sym ((takes.2).prints input) i).octets)) front
+  ready_interrupted false lines after takes front (Some input) =
+      let next = (takes.2).0 in
+      subst (λ l. WroteFront l old new) (λ i. (sym (((takes.2).2).prints input) i).octets)
+      (front-longer takes.0 (dialogue_from next (octets_in after.stream) input).octets old new (subst (λ l. WroteFront l old new) takes.1 front))
+
+  -- the replies are what is printed before what the next state prints, or all
+  pub steps_ready : (aborted : Bool) (lines : List ℕ) (after : Conversation) → TakesReady state before [] lines after aborted → Wrote lines old new
+      → (input : Option Input) → Steps state (octets_in before.stream) input input old new after (if aborted then Some 7 else None)
+  steps_ready true lines after takes wrote input =
+      (takes.0, subst (λ l. Wrote l old new) takes.1 wrote, by input, inr (inl refl))
+    where
+      by : (input : Option Input) → Told input (λ input. dialogue_from state (octets_in before.stream) input ≡ record { octets = takes.0; status = 7 })
+      by None = tt
+      by (Some input) = (takes.2).prints input
+  steps_ready false lines after takes wrote input =
+      ((takes.2).0, takes.0, (takes.2).1, subst (λ l. Wrote l old new) takes.1 wrote, by input)
+    where
+      by : (input : Option Input) → Told input (λ told. (rest : Input) × (input ≡ Some rest)
+          × (dialogue_from state (octets_in before.stream) told ≡ behind takes.0 (dialogue_from (takes.2).0 (octets_in after.stream) rest)))
+      by None = tt
+      by (Some input) = (input, refl, ((takes.2).2).prints input)
+
+module _ (state : State) (before : Conversation) (taken : Option (List ℕ)) (old_input new_input : Option Input) where
+  -- a piece joins the octets that weren't taken
+  pub steps_piece : (piece : List ℕ) (after : Conversation) → Answers old_input new_input piece (Ok Piece) → Adds state before piece after
+      → Steps state (octets_in before.stream) old_input new_input taken taken after None
+  steps_piece piece after answers adds = (state, [], adds.0, wrote_nothing taken, by old_input answers)
+    where
+      by : (old_input : Option Input) → Answers old_input new_input piece (Ok Piece) → Told old_input (λ input. (rest : Input) × (new_input ≡ Some rest)
+          × (dialogue_from state (octets_in before.stream) input ≡ behind [] (dialogue_from state (octets_in after.stream) rest)))
+      by None answers = tt
+      by (Some all) answers = (
+        answers.0,
+        answers.1,
+        ap (dialogue_from state (octets_in before.stream)) answers.2 ∙ dialogue_from-piece state (octets_in before.stream) piece answers.0 ∙ adds.1.prints answers.0,
+      )
+
+  module _ (ready : is_ready before.stream ≡ false) (stands : Stands before state) where
+    -- the end of the input ends the dialogue
+    pub steps_end : (piece : List ℕ) (after : Conversation) → Answers old_input new_input piece (Ok End)
+        → Steps state (octets_in before.stream) old_input new_input taken taken after (Some 0)
+    steps_end piece after answers = ([], wrote_nothing taken, by old_input answers, inl refl)
+      where
+        by : (old_input : Option Input) → Answers old_input new_input piece (Ok End)
+            → Told old_input (λ input. dialogue_from state (octets_in before.stream) input ≡ record { octets = []; status = 0 })
+        by None answers = tt
+        by (Some all) answers =
+            ap (dialogue_from state (octets_in before.stream)) answers.1
+            ∙ dialogue_from-ended state (octets_in before.stream) (quiet_stands before state ready stands)
+
+    bad_printed : (number : ℕ) (piece : List ℕ) (all : Input) → Answers (Some all) new_input piece (Ok (Bad number))
+        → dialogue_from state (octets_in before.stream) all ≡ record { octets = bad_line number; status = 11 }
+    bad_printed number piece all answers =
+        ap (dialogue_from state (octets_in before.stream)) answers.1
+        ∙ dialogue_from-bad state (octets_in before.stream) (quiet_stands before state ready stands) number
+
+    -- a bad line ends the dialogue with its number
+    pub steps_bad : (number : ℕ) (piece : List ℕ) (after : Conversation) (new : Option (List ℕ)) → Answers old_input new_input piece (Ok (Bad number))
+        → Wrote (bad_line number) taken new → Steps state (octets_in before.stream) old_input new_input taken new after (Some 11)
+    steps_bad number piece after new answers wrote = (bad_line number, wrote, by old_input answers, inr (inr refl))
+      where
+        by : (old_input : Option Input) → Answers old_input new_input piece (Ok (Bad number))
+            → Told old_input (λ input. dialogue_from state (octets_in before.stream) input ≡ record { octets = bad_line number; status = 11 })
+        by None answers = tt
+        by (Some all) answers = bad_printed number piece all answers
+
+    pub bad_interrupted : (number : ℕ) (piece : List ℕ) (new : Option (List ℕ)) → Answers old_input new_input piece (Ok (Bad number))
+        → WroteFront (bad_line number) taken new → IsInterrupted state (octets_in before.stream) old_input taken new
+    bad_interrupted number piece new answers front = by old_input answers
+      where
+        by : (old_input : Option Input) → Answers old_input new_input piece (Ok (Bad number)) → IsInterrupted state (octets_in before.stream) old_input taken new
+        by None answers = tt
+        by (Some all) answers = subst (λ l. WroteFront l taken new) (λ i. (sym (bad_printed number piece all answers) i).octets) front

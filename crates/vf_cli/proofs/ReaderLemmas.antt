@@ -1,12 +1,14 @@
 -- What a reader of lines answers at each place where its search ends.
-use Rattle.std.proofs.Common.{◌≡◌, ℕ, ◌+◌, ◌<◌, List, [], ◌∷◌, ◌++◌, Bool, true, length, drop, refl, sym, ap, ◌∙◌, subst, append_assoc, append-nil}
+use Rattle.std.proofs.Common.{◌≡◌, ℕ, ◌+◌, ◌<◌, List, [], ◌∷◌, ◌++◌, length, drop, refl, sym, ap, ◌∙◌, subst, append_assoc, append-nil, inl, inr}
 use Rattle.std.specs.Prelude.{Option, Some, None, option_map, IfSome, Result, Ok}
 use Rattle.vf_cli.specs.Lines.{line_feed, input_limit, IsInLine, Input, piece_of, says_from}
-use Rattle.vf_cli.specs.Reader.{Place, with_front, will_say, Answers, FromFeed, IsPiece}
+use Rattle.vf_cli.specs.Reader.{Place, with_front, will_say, Answers, Finds, Stops}
+use Rattle.vf_cli.specs.declared.block.Stop.TheVariants as stops
+use Rattle.vf_cli.specs.declared.lines.Found.TheVariants as found
 use Rattle.vf_cli.specs.declared.lines.NextLine.{NextLine}
 use Rattle.vf_cli.specs.declared.lines.NextLine.TheVariants.{Piece, Bad, End}
 use Rattle.vf_cli.specs.declared.lines.LineError.{LineError}
-use Rattle.vf_cli.proofs.InputLemmas.{says_piece, says_bad, says_rest, says_long}
+use Rattle.vf_cli.proofs.InputLemmas.{says_piece, says_bad, says_rest, says_long, says_stray}
 
 -- a reader answers what it would have answered before octets were moved
 pub answers_as : (old : Place) (count number : ℕ) (ahead moved : List ℕ) (left left' : Option (List ℕ)) (new : Option Input)
@@ -59,8 +61,28 @@ feed_behind : (line block rest left : List ℕ) → block ≡ line_feed ∷ rest
 feed_behind line block rest left is_block =
     ap (λ (xs : List ℕ). line ++ xs ++ left) is_block ∙ append_assoc line (line_feed ∷ rest) left
 
+pub answers_stray : (count number : ℕ) (digits block : List ℕ) (left : Option (List ℕ)) (piece : List ℕ) → IsInLine digits → Stops stops.Other block
+    → Answers (will_say (record { count = count; number = number; ahead = digits ++ block }) left)
+    (will_say (record { count = count; number = number; ahead = digits ++ block }) left) piece (Ok (Bad number))
+answers_stray count number digits block None piece in_line stray = refl
+answers_stray count number digits block (Some left) piece in_line stray = (
+  refl,
+  ap (says_from count number) (ap (λ (l : List ℕ). digits ++ l ++ left) stray.2 ∙ append_assoc digits (stray.0 ∷ stray.1) left)
+      ∙ says_stray count number digits stray.0 (stray.1 ++ left) in_line stray.3,
+)
+
+-- a line that is found to be bad
+pub answers_found : (count number room : ℕ) (digits block : List ℕ) (left : Option (List ℕ)) (piece : List ℕ) → IsInLine digits → count + room ≡ input_limit
+    → Finds room digits block left found.Bad
+    → Answers (will_say (record { count = count; number = number; ahead = digits ++ block }) left)
+    (will_say (record { count = count; number = number; ahead = digits ++ block }) left) piece (Ok (Bad number))
+answers_found count number room digits block left piece in_line limit (inl long) = answers_long count number room digits block left piece in_line limit long
+answers_found count number room digits block left piece in_line limit (inr (inl stray)) = answers_stray count number digits block left piece in_line stray
+answers_found count number room digits block left piece in_line limit (inr (inr rest)) =
+    answers_rest count number digits block left piece in_line rest.0 (rest.1).0 (rest.1).1
+
 pub answers_bad : (count number : ℕ) (line block : List ℕ) (left : Option (List ℕ)) (piece : List ℕ) →
-    IsInLine line → FromFeed true block → piece_of (count + length line + 1) line ≡ None →
+    IsInLine line → Stops stops.Feed block → piece_of (count + length line + 1) line ≡ None →
     Answers (will_say (record { count = count; number = number; ahead = line ++ block }) left)
     (will_say (record { count = count; number = number; ahead = line ++ block }) left) piece (Ok (Bad number))
 answers_bad count number line block None piece in_line feed bad = refl
@@ -71,7 +93,7 @@ answers_bad count number line block (Some left) piece in_line (rest, is_block) b
 )
 
 pub answers_piece : (count number : ℕ) (line block : List ℕ) (left : Option (List ℕ)) (piece none behind : List ℕ) →
-    IsInLine line → FromFeed true block → piece_of (count + length line + 1) line ≡ Some piece → none ≡ [] → behind ≡ drop 1 block →
+    IsInLine line → Stops stops.Feed block → piece_of (count + length line + 1) line ≡ Some piece → none ≡ [] → behind ≡ drop 1 block →
     Answers (will_say (record { count = count; number = number; ahead = line ++ block }) left)
     (will_say (record { count = count + length line + 1; number = number + 1; ahead = none ++ behind }) left) piece (Ok Piece)
 answers_piece count number line block None piece none behind in_line feed good no_line is_behind = refl
@@ -85,18 +107,8 @@ answers_piece count number line block (Some left) piece none behind in_line (res
           ∙ says_piece count number line (rest ++ left) piece in_line good,
     )
 
--- the piece of a line that is seen through a slice
-pub piece_of_line : (count len : ℕ) (shown line piece : List ℕ) (good : Bool) (says : Bool) →
-    shown ≡ line → len ≡ length line → good ≡ says →
-    IsPiece (piece_of (count + len + 1) shown) piece good → IsPiece (piece_of (count + length line + 1) line) piece says
-piece_of_line count len shown line piece good says is_line is_len is_said is_piece =
-    let P : List ℕ → Type 0 = λ xs. IsPiece (piece_of (count + len + 1) xs) piece good in
-    let Q : ℕ → Type 0 = λ n. IsPiece (piece_of (count + n + 1) line) piece good in
-    let R : Bool → Type 0 = λ b. IsPiece (piece_of (count + length line + 1) line) piece b in
-    subst R is_said (subst Q is_len (subst P is_line is_piece))
-
 pub answers_piece_of : (count number len : ℕ) (line block : List ℕ) (left : Option (List ℕ)) (piece none behind : List ℕ) →
-    IsInLine line → FromFeed true block → len ≡ length line → piece_of (count + length line + 1) line ≡ Some piece →
+    IsInLine line → Stops stops.Feed block → len ≡ length line → piece_of (count + length line + 1) line ≡ Some piece →
     none ≡ [] → behind ≡ drop 1 block →
     Answers (will_say (record { count = count; number = number; ahead = line ++ block }) left)
     (will_say (record { count = count + len + 1; number = number + 1; ahead = none ++ behind }) left) piece (Ok Piece)

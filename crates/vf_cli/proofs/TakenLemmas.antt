@@ -86,7 +86,7 @@ module _ (first state next : State) (octets between rest said : List ℕ) (conse
       (aborts state next between rest consequence.said goes.1 (parties ∙ ap (λ (o : Option StandingParty). option_to_list o ++ []) goes.0) says)
 
 module _ (first state : State) (party : Party) (tables : Tables) (octets said old : List ℕ) (at : ℕ)
-    (holds : Holds (Some party) tables state) (before : Continues first octets said state (drop at octets)) where
+    (holds : Holds party tables state) (before : Continues first octets said state (drop at octets)) where
   pub takes_fault : (place : ℕ) → IsFront (reading (drop at octets)) (Ok (front.Fault place)) → Aborts first octets (said ++ reply (answers.Abort outside place))
   takes_fault place found =
       let rest = drop at octets in

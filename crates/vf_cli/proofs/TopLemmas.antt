@@ -2,7 +2,7 @@
 use Rattle.std.proofs.Common.{◌≡◌, ℕ, List, [], ◌++◌, Option, None, Some, refl, ap, sym, subst, ◌∙◌, append_assoc}
 use Rattle.vf_regime.specs.State.{State}
 use Rattle.vf_cli.specs.declared.conversation.Conversation.{Conversation}
-use Rattle.vf_cli.specs.Conversation.{IsInterrupted, PrintsAll, PrintsFront, Stands, TakesLine, Told, behind}
+use Rattle.vf_cli.specs.Conversation.{IsInterrupted, PrintsAll, PrintsFront, Stands, Steps, Told, behind, octets_in}
 use Rattle.vf_cli.specs.Dialogue.{dialogue, dialogue_from, opened}
 use Rattle.vf_cli.specs.Ftam.{EndsDialogue}
 use Rattle.vf_cli.specs.Lines.{Input, says}
@@ -18,14 +18,14 @@ pub record SoFar (pending : List ℕ) (all now : Option Input) (old new : Option
   pub stands : Stands conversation state
   pub wrote : Wrote front old new
   pub prints : Told all (λ input. (rest : Input) × (now ≡ Some rest)
-      × (dialogue_from opened pending input ≡ behind front (dialogue_from state conversation.pending.items rest)))
+      × (dialogue_from opened pending input ≡ behind front (dialogue_from state (octets_in conversation.stream) rest)))
 
 pub so_far_begins : (conversation : Conversation) (all : Option Input) (taken : Option (List ℕ)) → Stands conversation opened
-    → SoFar conversation.pending.items all all taken taken conversation
+    → SoFar (octets_in conversation.stream) all all taken taken conversation
 so_far_begins conversation all taken stands = record { state = opened; front = []; stands = stands; wrote = wrote_nothing taken; prints = by all }
   where
     by : (all : Option Input) → Told all (λ input. (rest : Input) × (all ≡ Some rest)
-        × (dialogue_from opened conversation.pending.items input ≡ behind [] (dialogue_from opened conversation.pending.items rest)))
+        × (dialogue_from opened (octets_in conversation.stream) input ≡ behind [] (dialogue_from opened (octets_in conversation.stream) rest)))
     by None = tt
     by (Some input) = (input, refl, refl)
 
@@ -33,7 +33,7 @@ module _ (pending : List ℕ) (all now : Option Input) (old between new : Option
     (so_far : SoFar pending all now old between conversation) where
   -- a line that was taken joins what was printed
   pub so_far_goes : (later : Option Input) (after : Conversation)
-      → ((state : State) → Stands conversation state → TakesLine state conversation.pending.items now later between new after None)
+      → ((state : State) → Stands conversation state → Steps state (octets_in conversation.stream) now later between new after None)
       → SoFar pending all later old new after
   so_far_goes later after takes =
       let line = takes so_far.state so_far.stands in
@@ -47,19 +47,19 @@ module _ (pending : List ℕ) (all now : Option Input) (old between new : Option
     where
       by : (all : Option Input)
           → Told all (λ input. (rest : Input) × (now ≡ Some rest)
-          × (dialogue_from opened pending input ≡ behind so_far.front (dialogue_from so_far.state conversation.pending.items rest)))
+          × (dialogue_from opened pending input ≡ behind so_far.front (dialogue_from so_far.state (octets_in conversation.stream) rest)))
           → Told now (λ input. (rest : Input) × (later ≡ Some rest)
-          × (dialogue_from so_far.state conversation.pending.items input
-          ≡ behind (takes so_far.state so_far.stands).1 (dialogue_from (takes so_far.state so_far.stands).0 after.pending.items rest)))
+          × (dialogue_from so_far.state (octets_in conversation.stream) input
+          ≡ behind (takes so_far.state so_far.stands).1 (dialogue_from (takes so_far.state so_far.stands).0 (octets_in after.stream) rest)))
           → Told all (λ input. (rest : Input) × (later ≡ Some rest)
           × (dialogue_from opened pending input
-          ≡ behind (so_far.front ++ (takes so_far.state so_far.stands).1) (dialogue_from (takes so_far.state so_far.stands).0 after.pending.items rest)))
+          ≡ behind (so_far.front ++ (takes so_far.state so_far.stands).1) (dialogue_from (takes so_far.state so_far.stands).0 (octets_in after.stream) rest)))
       by None prints line = tt
       by (Some input) prints line =
           let goes = subst (λ (o : Option Input). Told o (λ input. (rest : Input) × (later ≡ Some rest)
-          × (dialogue_from so_far.state conversation.pending.items input
-          ≡ behind (takes so_far.state so_far.stands).1 (dialogue_from (takes so_far.state so_far.stands).0 after.pending.items rest)))) prints.1 line in
-          let last = dialogue_from (takes so_far.state so_far.stands).0 after.pending.items goes.0 in (
+          × (dialogue_from so_far.state (octets_in conversation.stream) input
+          ≡ behind (takes so_far.state so_far.stands).1 (dialogue_from (takes so_far.state so_far.stands).0 (octets_in after.stream) rest)))) prints.1 line in
+          let last = dialogue_from (takes so_far.state so_far.stands).0 (octets_in after.stream) goes.0 in (
             goes.0,
             goes.1,
             prints.2 ∙ ap (behind so_far.front) goes.2
@@ -68,7 +68,7 @@ module _ (pending : List ℕ) (all now : Option Input) (old between new : Option
 
   -- a line that ends the dialogue ends what is printed
   pub so_far_ends : (later : Option Input) (after : Conversation) (status : ℕ)
-      → ((state : State) → Stands conversation state → TakesLine state conversation.pending.items now later between new after (Some status))
+      → ((state : State) → Stands conversation state → Steps state (octets_in conversation.stream) now later between new after (Some status))
       → (front : List ℕ) × Wrote front old new × Told all (λ input. dialogue_from opened pending input ≡ record { octets = front; status = status })
       × EndsDialogue status
   so_far_ends later after status takes =
@@ -77,30 +77,30 @@ module _ (pending : List ℕ) (all now : Option Input) (old between new : Option
     where
       by : (all : Option Input)
           → Told all (λ input. (rest : Input) × (now ≡ Some rest)
-          × (dialogue_from opened pending input ≡ behind so_far.front (dialogue_from so_far.state conversation.pending.items rest)))
-          → Told now (λ input. dialogue_from so_far.state conversation.pending.items input
+          × (dialogue_from opened pending input ≡ behind so_far.front (dialogue_from so_far.state (octets_in conversation.stream) rest)))
+          → Told now (λ input. dialogue_from so_far.state (octets_in conversation.stream) input
           ≡ record { octets = (takes so_far.state so_far.stands).0; status = status })
           → Told all (λ input. dialogue_from opened pending input
           ≡ record { octets = so_far.front ++ (takes so_far.state so_far.stands).0; status = status })
       by None prints line = tt
       by (Some input) prints line =
-          prints.2 ∙ ap (behind so_far.front) (subst (λ (o : Option Input). Told o (λ input. dialogue_from so_far.state conversation.pending.items input
+          prints.2 ∙ ap (behind so_far.front) (subst (λ (o : Option Input). Told o (λ input. dialogue_from so_far.state (octets_in conversation.stream) input
           ≡ record { octets = (takes so_far.state so_far.stands).0; status = status })) prints.1 line)
 
   -- an interruption leaves a front of what would be printed
-  pub so_far_stops : ((state : State) → Stands conversation state → IsInterrupted state conversation.pending.items now between new)
+  pub so_far_stops : ((state : State) → Stands conversation state → IsInterrupted state (octets_in conversation.stream) now between new)
       → Told all (λ input. WroteFront (dialogue_from opened pending input).octets old new)
   so_far_stops stops = by all so_far.prints (stops so_far.state so_far.stands)
     where
       by : (all : Option Input)
           → Told all (λ input. (rest : Input) × (now ≡ Some rest)
-          × (dialogue_from opened pending input ≡ behind so_far.front (dialogue_from so_far.state conversation.pending.items rest)))
-          → IsInterrupted so_far.state conversation.pending.items now between new
+          × (dialogue_from opened pending input ≡ behind so_far.front (dialogue_from so_far.state (octets_in conversation.stream) rest)))
+          → IsInterrupted so_far.state (octets_in conversation.stream) now between new
           → Told all (λ input. WroteFront (dialogue_from opened pending input).octets old new)
       by None prints stop = tt
       by (Some input) prints stop =
-          let rest = dialogue_from so_far.state conversation.pending.items prints.0 in
-          let front = subst (λ (o : Option Input). IsInterrupted so_far.state conversation.pending.items o between new) prints.1 stop in
+          let rest = dialogue_from so_far.state (octets_in conversation.stream) prints.0 in
+          let front = subst (λ (o : Option Input). IsInterrupted so_far.state (octets_in conversation.stream) o between new) prints.1 stop in
           subst (λ l. WroteFront l old new) (λ i. (sym prints.2 i).octets)
           (wrote-front so_far.front rest.octets old between new so_far.wrote front)
 

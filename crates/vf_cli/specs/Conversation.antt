@@ -1,5 +1,5 @@
 -- What the parts of `dialogue` answer, by what it prints.
-use Rattle.std.specs.Prelude.{◌≡◌, ◌<◌, ◌≤◌, length as length_of, ℕ, Bool, true, false, List, [], ◌∷◌, ◌++◌, Option, None, Some, Result, Ok, Err}
+use Rattle.std.specs.Prelude.{◌≡◌, ◌<◌, ◌≤◌, ◌+◌, ◌-◌, ◌*◌, length as length_of, ℕ, Bool, true, false, List, [], ◌∷◌, ◌++◌, Option, None, Some, Result, Ok, Err}
 use Rattle.std.specs.List.{flat_map, list_any}
 use Rattle.vf_base.specs.declared.errors.NoMemory.{NoMemory}
 use Rattle.vf_ber.specs.Reader.{reading}
@@ -19,12 +19,14 @@ use Rattle.vf_ber_scan.specs.declared.scan.Scan.{Scan}
 use Rattle.vf_cli.specs.declared.conversation.After.{After}
 use Rattle.vf_cli.specs.declared.conversation.After.TheVariants as after
 use Rattle.vf_cli.specs.declared.conversation.Conversation.{Conversation}
+use Rattle.vf_cli.specs.declared.conversation.Stream.{Stream}
+use Rattle.vf_cli.specs.declared.conversation.Stream.TheVariants as stream
 use Rattle.vf_cli.specs.declared.message.Front.{Front}
 use Rattle.vf_cli.specs.declared.message.Front.TheVariants as front
 use Rattle.vf_cli.specs.Dialogue.{dialogue, dialogue_from, received, is_abort, link, reply, said_to}
 use Rattle.vf_cli.specs.declared.lines.NextLine.{NextLine}
 use Rattle.vf_cli.specs.Lines.{Input, input_limit}
-use Rattle.vf_cli.specs.Reader.{Answers}
+use Rattle.vf_cli.specs.Reader.{Answers, Place}
 use Rattle.vf_cli.specs.declared.dialogue.Interruption.{Interruption}
 use Rattle.vf_cli.specs.Ftam.{EndsDialogue}
 use Rattle.vf_cli.specs.Printed.{Printed, Wrote, WroteFront}
@@ -50,32 +52,48 @@ abbrev pub Advances : List ℕ → Result Front NoMemory → Type 0
 Advances octets (Ok (front.Heard message length)) = (0 < length) × (length ≤ length_of octets)
 Advances octets _ = Unit {0}
 
--- A party that goes on, with these tables, stands for the one party of the state. One that is gone stands nowhere.
-abbrev pub Holds : Option Party → Tables → State → Type 0
-Holds (Some party) tables state =
+-- A party that goes on, with these tables, stands for the one party of the state.
+abbrev pub Holds : Party → Tables → State → Type 0
+Holds party tables state =
     (standing : StandingParty) × (state.parties ≡ standing ∷ []) × (standing.link ≡ link) × Represents party standing
     × (state.files ≡ tables.files) × CanServe state standing
-Holds None tables state = state.parties ≡ []
+
+-- the octets that a party hasn't taken; one that is gone takes none
+abbrev pub octets_in : Stream → List ℕ
+octets_in stream.Gone = []
+octets_in (stream.Waiting party pending scan) = pending.items
+octets_in (stream.Ready party octets) = octets
+
+abbrev pub is_ready : Stream → Bool
+is_ready stream.Gone = false
+is_ready (stream.Waiting party pending scan) = false
+is_ready (stream.Ready party octets) = true
+
+-- how much is left to be taken of a stream
+abbrev pub size_of : Stream → ℕ
+size_of stream.Gone = 0
+size_of (stream.Waiting party pending scan) = length_of pending.items
+size_of (stream.Ready party octets) = length_of octets + 1
+
+-- A stream with these tables stands in this state of the filestore. A party that is gone stands nowhere.
+abbrev pub StandsBy : Stream → Tables → State → Type 0
+StandsBy stream.Gone tables state = state.parties ≡ []
+StandsBy (stream.Waiting party pending scan) tables state = Holds party tables state × HasTaken scan pending.items
+StandsBy (stream.Ready party octets) tables state = Holds party tables state
+
+abbrev pub Stands : Conversation → State → Type 0
+Stands conversation state = StandsBy conversation.stream conversation.tables state
 
 -- octets that are no message yet: nothing is said to them
 abbrev pub IsQuiet : State → List ℕ → Type 0
 IsQuiet state pending = said_to state (received pending) ≡ []
 
--- the scan of a party that goes on has taken the octets
-abbrev pub IsScanned : Option Party → Scan → List ℕ → Type 0
-IsScanned (Some party) scan pending = HasTaken scan pending
-IsScanned None scan pending = Unit {0}
-
--- a conversation stands in this state of the filestore
-abbrev pub Stands : Conversation → State → Type 0
-Stands conversation state =
-    Holds conversation.party conversation.tables state × IsQuiet state conversation.pending.items
-    × IsScanned conversation.party conversation.scan conversation.pending.items
-
--- where the party goes on, the octets that are left are a proper front of a message
-abbrev pub IsRest : After → List ℕ → Type 0
-IsRest (after.Goes party) rest = reading rest ≡ Short
-IsRest _ rest = Unit {0}
+-- where the party goes on and no more messages are to be taken, the octets that are left are a proper prefix of one
+abbrev pub IsRest : After → Bool → List ℕ → Type 0
+IsRest (after.Goes party) false rest = reading rest ≡ Short
+IsRest (after.Goes party) true rest = Unit {0}
+IsRest after.Gone more rest = Unit {0}
+IsRest after.Aborted more rest = Unit {0}
 
 -- the same printed behind some octets
 abbrev pub behind : List ℕ → Printed → Printed
@@ -105,9 +123,9 @@ pub record Makes (consequence : Consequence) (old_replies new_replies : List ℕ
 -- what was made of octets in this state: the replies, and the state in which the rest will be received
 abbrev pub Took : State → List ℕ → List ℕ → Tables → After → List ℕ → Type 0
 Took state octets replies tables (after.Goes party) rest =
-    (next : State) × Holds (Some party) tables next × Continues state octets replies next rest
+    (next : State) × Holds party tables next × Continues state octets replies next rest
 Took state octets replies tables after.Gone rest =
-    (next : State) × Holds None tables next × Continues state octets replies next rest
+    (next : State) × (next.parties ≡ []) × Continues state octets replies next rest
 Took state octets replies tables after.Aborted rest = Aborts state octets replies
 
 -- the same, where the replies were appended to others
@@ -115,31 +133,35 @@ abbrev pub Appends : State → List ℕ → List ℕ → List ℕ → Tables →
 Appends state octets old new tables party rest =
     (replies : List ℕ) × (new ≡ old ++ replies) × Took state octets replies tables party rest
 
--- what came of a piece: the replies were appended, and an abort was among them, or the conversation goes on
-abbrev pub TakesPiece : State → List ℕ → List ℕ → List ℕ → List ℕ → Conversation → Bool → Type 0
-TakesPiece state pending piece old new conversation true =
-    (replies : List ℕ) × (new ≡ old ++ replies) × Aborts state (pending ++ piece) replies
-TakesPiece state pending piece old new conversation false =
+-- a piece joins the octets that weren't taken, and nothing is said
+abbrev pub Adds : State → Conversation → List ℕ → Conversation → Type 0
+Adds state old piece new = Stands new state × Continues state (octets_in old.stream ++ piece) [] state (octets_in new.stream)
+
+-- messages were taken: the replies were appended, and an abort was among them, or the conversation goes on
+abbrev pub TakesReady : State → Conversation → List ℕ → List ℕ → Conversation → Bool → Type 0
+TakesReady state old_conversation old new conversation true =
+    (replies : List ℕ) × (new ≡ old ++ replies) × Aborts state (octets_in old_conversation.stream) replies
+TakesReady state old_conversation old new conversation false =
     (replies : List ℕ) × (new ≡ old ++ replies)
-    × ((next : State) × Stands conversation next × Continues state (pending ++ piece) replies next conversation.pending.items)
+    × ((next : State) × Stands conversation next × Continues state (octets_in old_conversation.stream) replies next (octets_in conversation.stream))
 
 -- a fact of what a source still says, where it tells it
 abbrev pub Told : Option Input → (Input → Type 0) → Type 0
 Told None holds = Unit {0}
 Told (Some input) holds = holds input
 
--- What came of the next line. The dialogue goes on in another state behind what was written, or what was written
--- is all, with its status.
-abbrev pub TakesLine : State → List ℕ → Option Input → Option Input → Option (List ℕ) → Option (List ℕ) → Conversation → Option ℕ → Type 0
-TakesLine state pending old_input new_input old new conversation None =
+-- What came of a step. The dialogue goes on in another state after what was written, or what was written is all, with its
+-- status.
+abbrev pub Steps : State → List ℕ → Option Input → Option Input → Option (List ℕ) → Option (List ℕ) → Conversation → Option ℕ → Type 0
+Steps state pending old_input new_input old new conversation None =
     (next : State) × (front : List ℕ) × Stands conversation next × Wrote front old new
     × Told old_input (λ input. (rest : Input) × (new_input ≡ Some rest)
-    × (dialogue_from state pending input ≡ behind front (dialogue_from next conversation.pending.items rest)))
-TakesLine state pending old_input new_input old new conversation (Some status) =
+    × (dialogue_from state pending input ≡ behind front (dialogue_from next (octets_in conversation.stream) rest)))
+Steps state pending old_input new_input old new conversation (Some status) =
     (front : List ℕ) × Wrote front old new × Told old_input (λ input. dialogue_from state pending input ≡ record { octets = front; status = status })
     × EndsDialogue status
 
--- where a line was interrupted, a front of what would be printed was written
+-- where a step was interrupted, a prefix of what would be printed was written
 abbrev pub IsInterrupted : State → List ℕ → Option Input → Option (List ℕ) → Option (List ℕ) → Type 0
 IsInterrupted state pending input old new = Told input (λ input. WroteFront (dialogue_from state pending input).octets old new)
 
@@ -149,9 +171,13 @@ ReadsLine old new piece (Ok next) = Answers old new piece (Ok next)
 ReadsLine None new piece (Err interruption) = new ≡ None
 ReadsLine (Some old) new piece (Err interruption) = new ≡ Some old
 
--- where the dialogue goes on, octets were taken, within the limit
+-- what is left to be read and taken
+abbrev pub left_of : Place → Conversation → ℕ
+left_of reader conversation = 2 * (input_limit - reader.count) + size_of conversation.stream
+
+-- where the dialogue goes on, less is left
 abbrev pub Goes : ℕ → ℕ → Option ℕ → Type 0
-Goes old new None = (old < new) × (new ≤ input_limit)
+Goes old new None = new < old
 Goes old new (Some status) = Unit {0}
 
 -- all that a dialogue prints was written, with its status

@@ -1,11 +1,14 @@
 -- A reader of lines over a source (profile).
-use Rattle.std.specs.Prelude.{◌≡◌, ◌<◌, ◌≤◌, ℕ, ◌++◌, List, [], ◌∷◌, length, Bool, true, false, Option, Some, None, option_map, IfSome, Result, Ok, Err}
-use Rattle.vf_cli.specs.Lines.{Input, line_feed, input_limit, IsInLine, says_from, ended, bad_at, piece_before}
+use Rattle.std.specs.Prelude.{◌≡◌, ◌≢◌, ◌<◌, ◌≤◌, ℕ, ◌+◌, ◌*◌, ◌++◌, ◌⊎◌, List, [], ◌∷◌, length, Bool, true, false, Option, Some, None, option_map, IfSome, Result, Ok, Err}
+use Rattle.vf_cli.specs.Hex.{half_of}
+use Rattle.vf_cli.specs.Lines.{Input, line_feed, input_limit, says_from, ended, bad_at, piece_before}
+use Rattle.vf_cli.specs.declared.block.Stop.{Stop}
+use Rattle.vf_cli.specs.declared.block.Stop.TheVariants as stops
 use Rattle.vf_cli.specs.declared.lines.NextLine.{NextLine}
 use Rattle.vf_cli.specs.declared.lines.NextLine.TheVariants.{Piece, Bad, End}
 use Rattle.vf_cli.specs.declared.lines.LineError.{LineError}
 use Rattle.vf_cli.specs.declared.lines.Found.{Found}
-use Rattle.vf_cli.specs.declared.lines.Found.TheVariants.{Whole, Long, Rest}
+use Rattle.vf_cli.specs.declared.lines.Found.TheVariants as found
 
 -- octets in front of those that a source has left, where it tells them
 abbrev pub with_front : List ℕ → Option (List ℕ) → Option (List ℕ)
@@ -23,7 +26,7 @@ pub record Place : Type 0 where
 abbrev pub will_say : Place → Option (List ℕ) → Option Input
 will_say place left = option_map (says_from place.count place.number) (with_front place.ahead left)
 
--- A call answers what comes first. It leaves what is behind a piece, and otherwise what there was.
+-- A call answers what comes first. It leaves what comes after a piece, and otherwise what there was.
 abbrev pub Answers : Option Input → Option Input → List ℕ → Result NextLine LineError → Type 0
 Answers None new piece result = new ≡ None
 Answers (Some old) new piece (Ok Piece) = (later : Input) × (new ≡ Some later) × (old ≡ piece_before piece later)
@@ -31,33 +34,46 @@ Answers (Some old) new piece (Ok (Bad number)) = (new ≡ Some old) × (old ≡ 
 Answers (Some old) new piece (Ok End) = (new ≡ Some old) × (old ≡ ended)
 Answers (Some old) new piece (Err error) = new ≡ Some old
 
--- octets from a line feed on, or none
-abbrev pub FromFeed : Bool → List ℕ → Type 0
-FromFeed true octets = (rest : List ℕ) × (octets ≡ line_feed ∷ rest)
-FromFeed false octets = octets ≡ []
+-- an octet that no good line has
+abbrev pub IsStray : ℕ → Type 0
+IsStray octet = (half_of octet ≡ None) × (octet ≢ line_feed)
 
--- A block's octets before its first line feed are moved to a line, or all where it has no line feed.
-abbrev pub MovesLine : List ℕ → List ℕ → List ℕ → List ℕ → Bool → Type 0
-MovesLine old new old_line new_line feed =
-    (moved : List ℕ) × IsInLine moved × (old ≡ moved ++ new) × (new_line ≡ old_line ++ moved) × FromFeed feed new
+-- what octets begin with that don't begin with a digit
+abbrev pub Stops : Stop → List ℕ → Type 0
+Stops stops.Feed octets = (rest : List ℕ) × (octets ≡ line_feed ∷ rest)
+Stops stops.Other octets = (octet : ℕ) × (rest : List ℕ) × (octets ≡ octet ∷ rest) × IsStray octet
+Stops stops.End octets = octets ≡ []
+
+-- The digits that a block begins with are moved to others.
+abbrev pub MovesDigits : List ℕ → List ℕ → List ℕ → List ℕ → Stop → Type 0
+MovesDigits old new old_digits new_digits stop =
+    (moved : List ℕ) × (old ≡ moved ++ new) × (new_digits ≡ old_digits ++ moved) × Stops stop new
 
 -- A block was filled with what comes next, and is empty only at the end.
 abbrev pub IsFilled : List ℕ → Option (List ℕ) → Bool → Type 0
 IsFilled block left true = 0 < length block
 IsFilled block left false = (block ≡ []) × IfSome left (λ octets. octets ≡ [])
 
--- What a search left in front: a line feed, too long a line, or the end.
+-- the end of the input
+abbrev pub IsAtEnd : List ℕ → Option (List ℕ) → Type 0
+IsAtEnd block left = (block ≡ []) × IfSome left (λ octets. octets ≡ [])
+
+-- what stands at the end of the input, after these digits
+abbrev pub EndsAt : List ℕ → Found → Type 0
+EndsAt digits found.Feed = ⊥
+EndsAt digits found.Bad = 0 < length digits
+EndsAt digits found.Nothing = digits ≡ []
+
+-- What a search left: a line's digits before its line feed, the end of the input, or a bad line, which has too many digits
+-- or another octet, or no end.
 abbrev pub Finds : ℕ → List ℕ → List ℕ → Option (List ℕ) → Found → Type 0
-Finds room line block left Whole = FromFeed true block
-Finds room line block left Long = room < length line
-Finds room line block left Rest = (block ≡ []) × IfSome left (λ octets. octets ≡ [])
+Finds room digits block left found.Feed = Stops stops.Feed block × (length digits ≤ room)
+Finds room digits block left found.Nothing = (digits ≡ []) × IsAtEnd block left
+Finds room digits block left found.Bad =
+    (room < length digits) ⊎ (Stops stops.Other block ⊎ ((0 < length digits) × IsAtEnd block left))
 
-abbrev pub IsPiece : Option (List ℕ) → List ℕ → Bool → Type 0
-IsPiece spelled piece true = spelled ≡ Some piece
-IsPiece spelled piece false = spelled ≡ None
-
--- A piece takes an octet at least, within the limit. Else the count stays.
-abbrev pub Progresses : ℕ → ℕ → NextLine → Type 0
-Progresses old new Piece = (old < new) × (new ≤ input_limit)
-Progresses old new (Bad number) = new ≡ old
-Progresses old new End = new ≡ old
+-- A piece takes two digits for each octet and a line feed, within the limit. Else the count stays.
+abbrev pub Progresses : ℕ → ℕ → List ℕ → NextLine → Type 0
+Progresses old new piece Piece = (old + 2 * length piece < new) × (new ≤ input_limit)
+Progresses old new piece (Bad number) = new ≡ old
+Progresses old new piece End = new ≡ old

@@ -1,19 +1,32 @@
 //! A block of octets that a source fills again when it is empty.
-ghost use Rattle.std.specs.Prelude.{◌≡◌, ◌+◌, ◌<◌, ◌≤◌, length, slice_index, IfOk, OnErr, take, drop, []};
+ghost use Rattle.std.specs.Prelude.{◌≡◌, ◌<◌, ◌≤◌, length, slice_index, IfOk, None, OnErr, drop, []};
 ghost use Rattle.vf_base.specs.Faults.{HasRisen, NeverFalls};
-ghost use Rattle.vf_cli.specs.Lines.{line_feed, IsInLine};
-ghost use Rattle.vf_cli.specs.Reader.{with_front, MovesLine, IsFilled};
+ghost use Rattle.vf_cli.specs.Hex.{half_of};
+ghost use Rattle.vf_cli.specs.Lines.{IsInLine};
+ghost use Rattle.vf_cli.specs.Reader.{with_front, IsFilled, MovesDigits, Stops};
 
+use crate::hex::Digits;
 use std::alloc::Global;
 use std::marker::Model;
 use vf_base::{Failed, NoMemory, Source};
 
 /// Octets that were read and not yet used, in room for a block.
 #[derive(Drop)]
-pub struct Block {
+pub(crate) struct Block {
     octets: Vec<u8>,
     place: usize,
     end: usize,
+}
+
+/// What stands after the digits that octets begin with.
+#[derive(Clone, Copy)]
+pub(crate) enum Stop {
+    /// A line feed.
+    Feed,
+    /// An octet that is neither a digit nor a line feed.
+    Other,
+    /// Nothing.
+    End,
 }
 
 impl Model for Block {
@@ -28,7 +41,7 @@ impl Model for Block {
 
 impl Block {
     /// An empty block with room for so many octets.
-    pub fn new(alloc: Global, room: usize) -> Result<Block, NoMemory>
+    pub(crate) fn new(alloc: Global, room: usize) -> Result<Block, NoMemory>
         requires { 0 < room }
         ensures { IfOk result (λ block. block ≡ []) }
     {
@@ -42,7 +55,7 @@ impl Block {
     }
 
     /// Reads octets into an empty block, and says whether there were any.
-    pub fn fill<S: Source>(&mut self, input: &mut S) -> Result<bool, Failed>
+    pub(crate) fn fill<S: Source>(&mut self, input: &mut S) -> Result<bool, Failed>
         requires { self.old ≡ [] }
         ensures octets { with_front self.new (S.left input.new) ≡ S.left input.old }
         ensures filled { IfOk result (IsFilled self.new (S.left input.new)) }
@@ -57,21 +70,21 @@ impl Block {
         Ok(count > 0)
     }
 
-    /// Moves the octets before the first line feed to a line, and says whether one is there; else moves all.
-    pub fn move_line(&mut self, line: &mut Vec<u8>) -> Result<bool, NoMemory>
-        ensures ok { IfOk result (MovesLine self.old self.new line.old.items line.new.items) }
-        ensures err { OnErr result ((self.new ≡ self.old) × (line.new.items ≡ line.old.items)) }
+    /// Moves the digits in front to others, and says what stands after them.
+    pub(crate) fn move_digits(&mut self, digits: &mut Digits) -> Result<Stop, NoMemory>
+        ensures ok { IfOk result (λ stop. MovesDigits self.old self.new digits.old digits.new stop) }
+        ensures line { IsInLine digits.new }
+        ensures err { OnErr result ((self.new ≡ self.old) × (digits.new ≡ digits.old)) }
     {
         let octets = &self.octets[self.place..self.end];
-        let count = line_len(octets);
-        let whole = count < octets.len();
-        line.extend_from_slice(&octets[..count])?;
+        let count = digits.take(octets)?;
+        let stop = stop_at(octets, count);
         self.place += count;
-        Ok(whole)
+        Ok(stop)
     }
 
     /// Passes the next octet over.
-    pub fn skip(&mut self)
+    pub(crate) fn skip(&mut self)
         requires { 0 < length self.old }
         ensures { self.new ≡ drop 1 self.old }
     {
@@ -79,16 +92,17 @@ impl Block {
     }
 }
 
-/// How many octets stand before the first line feed, or at all.
-fn line_len(octets: &[u8]) -> usize
-    ensures within { result ≤ length octets.now }
-    ensures before { IsInLine (take result octets.now) }
-    ensures at_feed { result < length octets.now → slice_index octets.now result ≡ line_feed }
+/// What stands at a place.
+fn stop_at(octets: &[u8], place: usize) -> Stop
+    requires within { place ≤ length octets.now }
+    requires stopped { place < length octets.now → half_of (slice_index octets.now place) ≡ None }
+    ensures { Stops result (drop place octets.now) }
 {
-    for (place, octet) in octets.iter().enumerate() {
-        if *octet == 10 {
-            return place;
-        }
+    if place == octets.len() {
+        return Stop::End;
     }
-    octets.len()
+    if octets[place] == 10 {
+        return Stop::Feed;
+    }
+    Stop::Other
 }

@@ -1,85 +1,212 @@
 //! A conversation with one party.
-ghost use Rattle.std.specs.Prelude.{◌≡◌, ◌++◌, ◌≤◌, [], drop, IfOk, IfSome, Some, length, List, vec_len, ℕ};
+ghost use Rattle.std.specs.Prelude.{◌≡◌, ◌++◌, ◌+◌, ◌<◌, ◌≤◌, [], drop, false, true, IfOk, OnOk, Some, length, List, vec_len, ℕ};
 ghost use Rattle.std.specs.List.{AllByRecursion, flat_map, list_any};
+ghost use Rattle.vf_ber.specs.Reader.{reading};
+ghost use Rattle.vf_ber.specs.Reading.{Short};
 ghost use Rattle.vf_regime.specs.Represents.{Represents, with_tables};
 ghost use Rattle.vf_regime.specs.Sayable.{CanServe, IsSayable};
 ghost use Rattle.vf_regime.specs.State.{State, StandingParty};
 ghost use Rattle.vf_regime.specs.Transition.{transition};
-ghost use Rattle.vf_cli.specs.Conversation.{Appends, Holds, IsRest, IsScanned, Makes, Stands, TakesPiece};
+ghost use Rattle.vf_ber_scan.specs.Scanned.{HasTaken};
+ghost use Rattle.vf_files.specs.declared.tables.Tables.{Tables};
+ghost use Rattle.vf_cli.specs.Conversation.{Adds, Appends, Holds, IsRest, Makes, Stands, StandsBy, TakesReady, is_ready as ready_test, octets_in, size_of};
 ghost use Rattle.vf_cli.specs.Dialogue.{is_abort as abort_test, opened, outside, reply};
 
 use crate::message::{Front, append_reply, front_of};
 use std::alloc::Global;
-use vf_base::{Moment, NoMemory};
+use std::mem;
+use vf_base::{Moment, NoMemory, Octets};
 use vf_ber_scan::Scan;
 use vf_elements::{Message, Said, Stage};
 use vf_regime::{Outcome, Party, Tables};
 
+/// The party, and the octets of its stream that it hasn't taken.
+#[derive(Drop)]
+pub(crate) enum Stream {
+    /// The party is gone.
+    Gone,
+    /// The octets are the begin of a message, and the scan is of them.
+    Waiting {
+        party: Party,
+        pending: Vec<u8>,
+        scan: Scan,
+    },
+    /// There may be messages in front of them.
+    Ready {
+        party: Party,
+        octets: Octets,
+    },
+}
+
 /// A conversation with one party over a filestore that starts empty.
 #[derive(Drop)]
 pub(crate) struct Conversation {
-    /// The party, until it is gone.
-    party: Option<Party>,
+    stream: Stream,
     tables: Tables,
-    /// Octets of a message that isn't whole yet.
-    pending: Vec<u8>,
-    /// What they say of those that may follow.
-    scan: Scan,
 }
 
 impl Conversation {
     pub(crate) fn new(alloc: Global) -> Conversation
         ensures stands { Stands result opened }
-        ensures pending { result.pending.items ≡ [] }
+        ensures none { octets_in result.stream ≡ [] }
     {
         Conversation {
-            party: Some(Party::idle(LINK)),
+            stream: Stream::Waiting {
+                party: Party::idle(LINK),
+                pending: Vec::new(alloc),
+                scan: Scan::new(),
+            },
             tables: Tables::new(alloc),
-            pending: Vec::new(alloc),
-            scan: Scan::new(),
         }
     }
 
-    /// Takes a piece of the stream, appends the replies to its messages as lines, and says whether an abort is
-    /// among them. A party that is gone takes nothing. Pending octets are read once, when a message is whole or
-    /// faulty with the piece.
-    pub(crate) fn take(
-        &mut self,
-        alloc: Global,
-        piece: &[u8],
-        replies: &mut Vec<u8>,
-    ) -> Result<bool, NoMemory>
-        requires holds { (state : State) × Holds self.old.party self.old.tables state }
-        requires scanned { IsScanned self.old.party self.old.scan self.old.pending.items }
-        ensures { IfOk result (λ aborted. (state : State) → Holds self.old.party self.old.tables state
-            → TakesPiece state self.old.pending.items piece.now replies.old.items replies.new.items self.new aborted) }
+    /// Whether messages are to be taken before more octets come.
+    pub(crate) fn is_ready(&self) -> bool
+        ensures { result ≡ ready_test self.now.stream }
     {
-        let Some(party) = self.party.take() else {
-            return Ok(false);
-        };
-        self.pending.extend_from_slice(piece)?;
-        if self.scan.feed(piece).is_none() {
-            self.party = Some(party);
-            return Ok(false);
-        }
-        let (after, used) = take_messages(
-            alloc,
-            party,
-            &mut self.tables,
-            self.pending.as_slice(),
-            replies,
-        )?;
-        drop_front(&mut self.pending, used);
-        match after {
-            After::Goes(party) => {
-                let _ = self.scan.feed(self.pending.as_slice());
-                self.party = Some(party);
-                Ok(false)
-            }
-            After::Gone => Ok(false),
-            After::Aborted => Ok(true),
+        match &self.stream {
+            Stream::Gone => false,
+            Stream::Waiting { .. } => false,
+            Stream::Ready { .. } => true,
         }
     }
+
+    /// Adds the next piece to the stream, out of which it may be moved. A party that is gone takes nothing. Where memory is
+    /// wanting, the party is gone.
+    pub(crate) fn add(&mut self, alloc: Global, piece: &mut Vec<u8>) -> Result<(), NoMemory>
+        requires { ready_test self.old.stream ≡ false }
+        ensures adds { OnOk result ((state : State) → Stands self.old state → Adds state self.old piece.old.items self.new) }
+        ensures size { OnOk result (size_of self.new.stream ≤ size_of self.old.stream + length piece.old.items + 1) }
+    {
+        match mem::replace(&mut self.stream, Stream::Gone) {
+            Stream::Waiting {
+                party,
+                pending,
+                scan,
+            } => {
+                self.stream = added(alloc, party, pending, scan, piece)?;
+                Ok(())
+            }
+            Stream::Ready { .. } => unreachable!(),
+            Stream::Gone => Ok(()),
+        }
+    }
+
+    /// Takes messages that are ready, until their replies have `MOST_REPLIES` octets or more. Appends these as lines, and says
+    /// whether an abort is among them. Where memory is wanting, the party is gone.
+    pub(crate) fn take(&mut self, alloc: Global, replies: &mut Vec<u8>) -> Result<bool, NoMemory>
+        requires ready { ready_test self.old.stream ≡ true }
+        requires stands { (state : State) × Stands self.old state }
+        ensures takes { IfOk result (λ aborted. (state : State) → Stands self.old state
+            → TakesReady state self.old replies.old.items replies.new.items self.new aborted) }
+        ensures size { IfOk result (λ aborted. size_of self.new.stream < size_of self.old.stream) }
+    {
+        match mem::replace(&mut self.stream, Stream::Gone) {
+            Stream::Ready { party, octets } => {
+                let Taken { after, used, more } = take_messages(
+                    alloc,
+                    party,
+                    &mut self.tables,
+                    &octets,
+                    replies,
+                )?;
+                match after {
+                    After::Goes(party) => {
+                        self.stream = rest_after(alloc, party, &octets, used, more)?;
+                        Ok(false)
+                    }
+                    After::Gone => Ok(false),
+                    After::Aborted => Ok(true),
+                }
+            }
+            Stream::Waiting { .. } => unreachable!(),
+            Stream::Gone => unreachable!(),
+        }
+    }
+}
+
+/// A party's stream with a piece more. Where no octets are pending, the piece is moved, and looked at for messages as it is;
+/// else it is only scanned until a message is whole.
+fn added(
+    alloc: Global,
+    party: Party,
+    pending: Vec<u8>,
+    scan: Scan,
+    piece: &mut Vec<u8>,
+) -> Result<Stream, NoMemory>
+    ensures octets { IfOk result (λ stream. octets_in stream ≡ pending.items ++ piece.old.items) }
+    ensures size { IfOk result (λ stream. size_of stream ≤ length pending.items + length piece.old.items + 1) }
+    ensures stands { IfOk result (λ stream. (state : State) (tables : Tables) → Holds party tables state → HasTaken scan pending.items → StandsBy stream tables state) }
+{
+    if pending.is_empty() {
+        let octets = Octets::from_vec(mem::replace(piece, Vec::new(alloc)))?;
+        return Ok(Stream::Ready { party, octets });
+    }
+    let mut pending = pending;
+    let mut scan = scan;
+    let ended = scan.feed(piece.as_slice()).is_some();
+    pending.extend_from_slice(piece.as_slice())?;
+    if !ended {
+        return Ok(Stream::Waiting {
+            party,
+            pending,
+            scan,
+        });
+    }
+    let octets = Octets::from_vec(pending)?;
+    Ok(Stream::Ready { party, octets })
+}
+
+/// The stream of a party that has taken so many of its octets; `more` says that there may be messages among the others.
+fn rest_after(
+    alloc: Global,
+    party: Party,
+    octets: &Octets,
+    used: usize,
+    more: bool,
+) -> Result<Stream, NoMemory>
+    requires within { used ≤ length octets.now }
+    requires some { more ≡ true → 0 < used }
+    requires short { more ≡ false → reading (drop used octets.now) ≡ Short }
+    ensures octets { IfOk result (λ stream. octets_in stream ≡ drop used octets.now) }
+    ensures size { IfOk result (λ stream. size_of stream ≤ length octets.now) }
+    ensures stands { IfOk result (λ stream. (state : State) (tables : Tables) → Holds party tables state → StandsBy stream tables state) }
+{
+    let rest = rest_of(octets, used)?;
+    if more {
+        return Ok(Stream::Ready {
+            party,
+            octets: rest,
+        });
+    }
+    let mut pending = Vec::new(alloc);
+    pending.extend_from_slice(rest.as_slice())?;
+    Ok(waiting(party, pending))
+}
+
+/// The stream of a party whose octets are the begin of a message.
+fn waiting(party: Party, pending: Vec<u8>) -> Stream
+    requires { reading pending.items ≡ Short }
+    ensures octets { octets_in result ≡ pending.items }
+    ensures size { size_of result ≡ length pending.items }
+    ensures stands { (state : State) (tables : Tables) → Holds party tables state → StandsBy result tables state }
+{
+    let mut scan = Scan::new();
+    let _ = scan.feed(pending.as_slice());
+    Stream::Waiting {
+        party,
+        pending,
+        scan,
+    }
+}
+
+/// The octets from a place on.
+fn rest_of(octets: &Octets, place: usize) -> Result<Octets, NoMemory>
+    requires { place ≤ length octets.now }
+    ensures { IfOk result (λ rest. rest ≡ drop place octets.now) }
+{
+    let rest = octets.slice(place, octets.len() - place)?;
+    Ok(rest)
 }
 
 /// What is left of a party after it received something.
@@ -93,47 +220,86 @@ pub(crate) enum After {
     Aborted,
 }
 
+/// What came of messages.
+#[derive(Drop)]
+pub(crate) struct Taken {
+    pub(crate) after: After,
+    /// The octets of the messages.
+    pub(crate) used: usize,
+    /// The octets after these may have messages too.
+    pub(crate) more: bool,
+}
+
 /// The number of the one link.
 const LINK: u32 = 1;
 
-/// Takes octets away from the front.
-fn drop_front(octets: &mut Vec<u8>, count: usize)
-    requires { count ≤ vec_len octets.old }
-    ensures { octets.new.items ≡ drop count octets.old.items }
-{
-    octets.drain(..count);
-}
+/// So many octets of replies are written before more messages are taken.
+const MOST_REPLIES: usize = 65_536;
 
-/// What the party makes of the messages in front of the octets, and how many octets these are. Its replies are
-/// appended as lines, and its changes made.
+/// What the party makes of the messages that the octets begin with. Its replies are appended as lines, and its changes made.
 pub(crate) fn take_messages(
     alloc: Global,
     party: Party,
     tables: &mut Tables,
-    octets: &[u8],
+    octets: &Octets,
     replies: &mut Vec<u8>,
-) -> Result<(After, usize), NoMemory>
-    requires { (state : State) × Holds (Some party) tables.old state }
-    ensures within { IfOk result (λ taken. taken.1 ≤ length octets.now) }
-    ensures rest { IfOk result (λ taken. IsRest taken.0 (drop taken.1 octets.now)) }
-    ensures took { IfOk result (λ taken. (state : State) → Holds (Some party) tables.old state
-        → Appends state octets.now replies.old.items replies.new.items tables.new taken.0 (drop taken.1 octets.now)) }
+) -> Result<Taken, NoMemory>
+    requires { (state : State) × Holds party tables.old state }
+    ensures within { IfOk result (λ taken. taken.used ≤ length octets.now) }
+    ensures some { IfOk result (λ taken. taken.more ≡ true → 0 < taken.used) }
+    ensures rest { IfOk result (λ taken. IsRest taken.after taken.more (drop taken.used octets.now)) }
+    ensures took { IfOk result (λ taken. (state : State) → Holds party tables.old state
+        → Appends state octets.now replies.old.items replies.new.items tables.new taken.after (drop taken.used octets.now)) }
 {
+    let end = octets.len();
     let mut party = party;
     let mut at = 0;
     loop {
-        let (_, rest) = octets.split_at(at);
-        match front_of(alloc, rest)? {
-            Front::Nothing => return Ok((After::Goes(party), at)),
+        if at == end {
+            return Ok(Taken {
+                after: After::Goes(party),
+                used: at,
+                more: false,
+            });
+        }
+        let rest = rest_of(octets, at)?;
+        match front_of(alloc, &rest)? {
+            Front::Nothing => {
+                return Ok(Taken {
+                    after: After::Goes(party),
+                    used: at,
+                    more: false,
+                });
+            }
             Front::Fault { place } => {
                 append_abort(alloc, place, replies)?;
-                return Ok((After::Aborted, at));
+                return Ok(Taken {
+                    after: After::Aborted,
+                    used: at,
+                    more: false,
+                });
             }
             Front::Heard { message, length } => {
                 at += length;
                 match take_message(alloc, party, tables, message, replies)? {
-                    After::Goes(next) => party = next,
-                    ended => return Ok((ended, at)),
+                    After::Goes(next) => {
+                        let len = replies.len();
+                        if len >= MOST_REPLIES {
+                            return Ok(Taken {
+                                after: After::Goes(next),
+                                used: at,
+                                more: true,
+                            });
+                        }
+                        party = next;
+                    }
+                    ended => {
+                        return Ok(Taken {
+                            after: ended,
+                            used: at,
+                            more: false,
+                        });
+                    }
                 }
             }
         }

@@ -1,9 +1,10 @@
 //! One party's messages over an empty filestore, from lines to lines.
-ghost use Rattle.std.specs.Prelude.{◌≡◌, [], IsErrOf, IfErr, OnErr, OnOk, IfOk, List, Option, Some, ℕ};
+ghost use Rattle.std.specs.Prelude.{◌≡◌, ◌<◌, [], true, false, IsErrOf, IfErr, OnErr, OnOk, IfOk, List, Option, Some, ℕ};
 ghost use Rattle.vf_base.specs.Faults.{HasRisen, NeverFalls};
 ghost use Rattle.vf_regime.specs.State.{State};
 ghost use Rattle.vf_cli.specs.declared.command.Command.TheVariants as commands;
-ghost use Rattle.vf_cli.specs.Conversation.{Goes, IsInterrupted, PrintsAll, PrintsFront, ReadsLine, Stands, TakesLine};
+ghost use Rattle.vf_cli.specs.Conversation.{Goes, IsInterrupted, PrintsAll, PrintsFront, ReadsLine, Stands, Steps, is_ready, left_of, octets_in, size_of};
+ghost use Rattle.vf_cli.specs.Lines.{Input, bad_line};
 ghost use Rattle.vf_cli.specs.Ftam.{EndsDialogue, MeetsCommand};
 ghost use Rattle.vf_cli.specs.Printed.{HasCauses, Wrote, WroteFront};
 ghost use Rattle.vf_cli.specs.Reader.{Progresses, will_say};
@@ -107,8 +108,8 @@ fn converse<I: Source, O: Sink>(
         piece: Vec::new(alloc),
         lines: Vec::new(alloc),
     };
-    'lines: loop {
-        let line = take_line(
+    'steps: loop {
+        let step = take_step(
             alloc,
             &mut reader,
             &mut conversation,
@@ -116,14 +117,15 @@ fn converse<I: Source, O: Sink>(
             input,
             out,
         )?;
-        if let Some(status) = line {
+        if let Some(status) = step {
             return Ok(status);
         }
     }
 }
 
-/// Takes the next line, and writes what is said to it; answers the status where the dialogue ends with it.
-fn take_line<I: Source, O: Sink>(
+/// Takes messages that are ready and writes what is said to them, or takes the next line; answers the status where the dialogue
+/// ends with it.
+fn take_step<I: Source, O: Sink>(
     alloc: Global,
     reader: &mut LineReader,
     conversation: &mut Conversation,
@@ -132,32 +134,100 @@ fn take_line<I: Source, O: Sink>(
     out: &mut O,
 ) -> Result<Option<u8>, Interruption>
     requires { (state : State) × Stands conversation.old state }
-    ensures takes { IfOk result (λ line. (state : State) → Stands conversation.old state
-        → TakesLine state conversation.old.pending.items (will_say reader.old (I.left input.old)) (will_say reader.new (I.left input.new))
-        (O.taken out.old) (O.taken out.new) conversation.new line) }
+    ensures takes { IfOk result (λ step. (state : State) → Stands conversation.old state
+        → Steps state (octets_in conversation.old.stream) (will_say reader.old (I.left input.old)) (will_say reader.new (I.left input.new))
+        (O.taken out.old) (O.taken out.new) conversation.new step) }
     ensures interrupted { OnErr result ((state : State) → Stands conversation.old state
-        → IsInterrupted state conversation.old.pending.items (will_say reader.old (I.left input.old)) (O.taken out.old) (O.taken out.new)) }
-    ensures progresses { IfOk result (Goes reader.old.count reader.new.count) }
+        → IsInterrupted state (octets_in conversation.old.stream) (will_say reader.old (I.left input.old)) (O.taken out.old) (O.taken out.new)) }
+    ensures goes { IfOk result (Goes (left_of reader.old conversation.old) (left_of reader.new conversation.new)) }
     ensures input_falls { NeverFalls (I.fault_count input.old) (I.fault_count input.new) }
     ensures out_falls { NeverFalls (O.fault_count out.old) (O.fault_count out.new) }
     ensures input { IsErrOf result Interruption.Input → HasRisen (I.fault_count input.old) (I.fault_count input.new) }
     ensures output { IsErrOf result Interruption.Output → HasRisen (O.fault_count out.old) (O.fault_count out.new) }
 {
-    let Buffers { piece, lines } = buffers;
+    let step = if conversation.is_ready() {
+        take_ready(alloc, conversation, &mut buffers.lines, out)?
+    } else {
+        take_line(alloc, reader, conversation, buffers, input, out)?
+    };
+    Ok(step)
+}
+
+/// Takes messages that are ready, and writes what is said to them; answers the status where an abort is among it.
+fn take_ready<O: Sink>(
+    alloc: Global,
+    conversation: &mut Conversation,
+    lines: &mut Vec<u8>,
+    out: &mut O,
+) -> Result<Option<u8>, Interruption>
+    requires ready { is_ready conversation.old.stream ≡ true }
+    requires stands { (state : State) × Stands conversation.old state }
+    ensures takes { IfOk result (λ step. (state : State) → Stands conversation.old state → (input : Option Input)
+        → Steps state (octets_in conversation.old.stream) input input (O.taken out.old) (O.taken out.new) conversation.new step) }
+    ensures interrupted { OnErr result ((state : State) → Stands conversation.old state → (input : Option Input)
+        → IsInterrupted state (octets_in conversation.old.stream) input (O.taken out.old) (O.taken out.new)) }
+    ensures size { IfOk result (λ step. size_of conversation.new.stream < size_of conversation.old.stream) }
+    ensures falls { NeverFalls (O.fault_count out.old) (O.fault_count out.new) }
+    ensures output { IsErrOf result Interruption.Output → HasRisen (O.fault_count out.old) (O.fault_count out.new) }
+    ensures cause { IsErrOf result Interruption.Input → ⊥ }
+{
     lines.clear();
-    match next_line(reader, input, piece)? {
+    let aborted = conversation.take(alloc, lines)?;
+    write_lines(out, lines.as_slice())?;
+    Ok(if aborted { Some(ABORTED) } else { None })
+}
+
+/// Takes the next line; answers the status where the dialogue ends with it.
+fn take_line<I: Source, O: Sink>(
+    alloc: Global,
+    reader: &mut LineReader,
+    conversation: &mut Conversation,
+    buffers: &mut Buffers,
+    input: &mut I,
+    out: &mut O,
+) -> Result<Option<u8>, Interruption>
+    requires { is_ready conversation.old.stream ≡ false }
+    ensures takes { IfOk result (λ step. (state : State) → Stands conversation.old state
+        → Steps state (octets_in conversation.old.stream) (will_say reader.old (I.left input.old)) (will_say reader.new (I.left input.new))
+        (O.taken out.old) (O.taken out.new) conversation.new step) }
+    ensures interrupted { OnErr result ((state : State) → Stands conversation.old state
+        → IsInterrupted state (octets_in conversation.old.stream) (will_say reader.old (I.left input.old)) (O.taken out.old) (O.taken out.new)) }
+    ensures goes { IfOk result (Goes (left_of reader.old conversation.old) (left_of reader.new conversation.new)) }
+    ensures input_falls { NeverFalls (I.fault_count input.old) (I.fault_count input.new) }
+    ensures out_falls { NeverFalls (O.fault_count out.old) (O.fault_count out.new) }
+    ensures input { IsErrOf result Interruption.Input → HasRisen (I.fault_count input.old) (I.fault_count input.new) }
+    ensures output { IsErrOf result Interruption.Output → HasRisen (O.fault_count out.old) (O.fault_count out.new) }
+{
+    match next_line(reader, input, &mut buffers.piece)? {
         NextLine::Piece => {
-            let aborted = conversation.take(alloc, piece.as_slice(), lines)?;
-            write_lines(out, lines.as_slice())?;
-            Ok(if aborted { Some(ABORTED) } else { None })
+            conversation.add(alloc, &mut buffers.piece)?;
+            Ok(None)
         }
         NextLine::Bad(number) => {
-            append_bad_line(alloc, number, lines)?;
-            write_lines(out, lines.as_slice())?;
+            write_bad_line(alloc, number, &mut buffers.lines, out)?;
             Ok(Some(BAD_LINE))
         }
         NextLine::End => Ok(Some(0)),
     }
+}
+
+/// Writes the line that names a bad line by its number.
+fn write_bad_line<O: Sink>(
+    alloc: Global,
+    number: usize,
+    lines: &mut Vec<u8>,
+    out: &mut O,
+) -> Result<(), Interruption>
+    ensures ok { OnOk result (Wrote (bad_line number) (O.taken out.old) (O.taken out.new)) }
+    ensures front { OnErr result (WroteFront (bad_line number) (O.taken out.old) (O.taken out.new)) }
+    ensures falls { NeverFalls (O.fault_count out.old) (O.fault_count out.new) }
+    ensures output { IsErrOf result Interruption.Output → HasRisen (O.fault_count out.old) (O.fault_count out.new) }
+    ensures cause { IsErrOf result Interruption.Input → ⊥ }
+{
+    lines.clear();
+    append_bad_line(alloc, number, lines)?;
+    write_lines(out, lines.as_slice())?;
+    Ok(())
 }
 
 fn next_line<I: Source>(
@@ -166,7 +236,7 @@ fn next_line<I: Source>(
     piece: &mut Vec<u8>,
 ) -> Result<NextLine, Interruption>
     ensures answers { ReadsLine (will_say reader.old (I.left input.old)) (will_say reader.new (I.left input.new)) piece.new.items result }
-    ensures progresses { IfOk result (Progresses reader.old.count reader.new.count) }
+    ensures progresses { IfOk result (Progresses reader.old.count reader.new.count piece.new.items) }
     ensures falls { NeverFalls (I.fault_count input.old) (I.fault_count input.new) }
     ensures failed { IsErrOf result Interruption.Input → HasRisen (I.fault_count input.old) (I.fault_count input.new) }
     ensures cause { IsErrOf result Interruption.Output → ⊥ }

@@ -1,52 +1,148 @@
 //! Octets as text in hexadecimal: two digits an octet, the high half first, each 0 to 9 or A to F.
-ghost use Rattle.std.specs.Prelude.{◌≡◌, ◌+◌, ◌-◌, ◌*◌, ◌/◌, ◌%◌, ◌<◌, ◌≤◌, ◌++◌, ◌∷◌, [], vec_len, vec_capacity, length, IfOk, IfSome, OnOk, OnErr, MatchBool, Some, None, true};
-ghost use Rattle.vf_cli.specs.Hex.{digit_of, half_of, hex_of, octets_of, Decodes};
+ghost use Rattle.std.specs.Prelude.{◌≡◌, ◌+◌, ◌*◌, ◌/◌, ◌≤◌, ◌<◌, ◌++◌, [], length, vec_len, vec_capacity, slice_index, IfOk, IfSome, OnOk, OnErr};
+ghost use Rattle.vf_cli.specs.Hex.{IsHalfOf, Spells, Takes, TakesOctets, TakesPairs, digit_of, first_half_of, half_of, hex_of};
+ghost use Rattle.vf_cli.specs.Lines.{IsInLine};
 
+use std::alloc::Global;
+use std::marker::Model;
+use std::mem;
 use vf_base::NoMemory;
 
-/// Appends the digits of octets to a text, which is as before where memory is wanting.
-pub fn encode(octets: &[u8], text: &mut Vec<u8>) -> Result<(), NoMemory>
-    ensures ok { OnOk result (text.new.items ≡ text.old.items ++ hex_of octets.now) }
-    ensures err { OnErr result (text.new.items ≡ text.old.items) }
+/// Appends the digits of octets to a text that has room for them.
+pub(crate) fn encode(octets: &[u8], text: &mut Vec<u8>)
+    requires { vec_len text.old + 2 * length octets.now ≤ vec_capacity text.old }
+    ensures digits { text.new.items ≡ text.old.items ++ hex_of octets.now }
+    ensures len { vec_len text.new ≡ vec_len text.old + 2 * length octets.now }
+    ensures capacity { vec_capacity text.old ≤ vec_capacity text.new }
 {
-    text.reserve(2 * octets.len())?;
     for octet in octets {
         text.push(digit(*octet / 16)).unwrap();
         text.push(digit(*octet % 16)).unwrap();
     }
-    Ok(())
 }
 
-/// Appends the octets that a text spells, and says whether it spells any; else `octets` are as before.
-pub fn decode(text: &[u8], octets: &mut Vec<u8>) -> Result<bool, NoMemory>
-    ensures ok { IfOk result (λ spells. Decodes text.now octets.old.items octets.new.items spells) }
-    ensures err { OnErr result (octets.new.items ≡ octets.old.items) }
-{
-    octets.reserve(text.len() / 2)?;
-    let before = octets.len();
-    let spells = append_octets(text, octets);
-    if !spells {
-        octets.truncate(before);
+/// The digits of a line as far as it was read, which are kept as the octets that they spell.
+#[derive(Drop)]
+pub(crate) struct Digits {
+    octets: Vec<u8>,
+    /// The half octet of a last digit that has no partner yet.
+    high: Option<u8>,
+}
+
+impl Model for Digits {
+    ghost use Rattle.std.specs.Prelude.{◌<◌, ◌++◌, All, IfSome, List, ℕ};
+    ghost use Rattle.vf_cli.specs.Hex.{half_text, hex_of};
+
+    ghost Value = { List ℕ };
+
+    ghost view = { λ digits. hex_of digits.octets.items ++ half_text digits.high };
+
+    ghost invariant = { λ digits. All (λ octet. octet < 256) digits.octets.items × IfSome digits.high (λ half. half < 16) };
+}
+
+impl Digits {
+    pub(crate) fn new(alloc: Global) -> Digits
+        ensures { result ≡ [] }
+    {
+        Digits {
+            octets: Vec::new(alloc),
+            high: None,
+        }
     }
-    Ok(spells)
+
+    pub(crate) fn len(&self) -> usize
+        ensures { result ≡ length self.now }
+    {
+        let whole = 2 * self.octets.len();
+        match self.high {
+            Some(_) => whole + 1,
+            None => whole,
+        }
+    }
+
+    /// Takes the digits that a text begins with, and says how many these are. Without memory it takes none.
+    pub(crate) fn take(&mut self, text: &[u8]) -> Result<usize, NoMemory>
+        ensures ok { IfOk result (λ count. Takes self.old self.new text.now count) }
+        ensures line { IsInLine self.new }
+        ensures err { OnErr result (self.new ≡ self.old) }
+    {
+        self.octets.reserve(text.len() / 2 + 1)?;
+        let (count, high) = take_digits(&mut self.octets, self.high, text);
+        self.high = high;
+        Ok(count)
+    }
+
+    /// Gives the octets that the digits spell, one at least, in place of what `octets` has, and forgets the digits; or
+    /// says that they spell none.
+    pub(crate) fn finish(&mut self, octets: &mut Vec<u8>) -> bool
+        ensures { Spells self.old self.new octets.old.items octets.new.items result }
+    {
+        if self.octets.is_empty() || self.high.is_some() {
+            return false;
+        }
+        octets.clear();
+        mem::swap(&mut self.octets, octets);
+        true
+    }
 }
 
-/// Appends the octets that a text spells, or a front of them where a digit is bad or has no partner.
-fn append_octets(text: &[u8], octets: &mut Vec<u8>) -> bool
+/// Appends the octets of the digits that a text begins with, after half an octet that waits for its other half. Says
+/// how many digits these are, and which half octet waits then.
+fn take_digits(octets: &mut Vec<u8>, high: Option<u8>, text: &[u8]) -> (usize, Option<u8>)
+    requires room { vec_len octets.old + length text.now / 2 < vec_capacity octets.old }
+    requires small { IfSome high (λ half. half < 16) }
+    ensures { TakesOctets octets.old.items high octets.new.items result.1 text.now result.0 }
+{
+    let Some(high) = high else {
+        return take_pairs(octets, text);
+    };
+    let Some(low) = first_half(text) else {
+        return (0, Some(high));
+    };
+    octets.push(high * 16 + low).unwrap();
+    let (_, rest) = text.split_at(1);
+    let (count, high) = take_pairs(octets, rest);
+    (1 + count, high)
+}
+
+/// The same where no half octet waits.
+fn take_pairs(octets: &mut Vec<u8>, text: &[u8]) -> (usize, Option<u8>)
     requires { vec_len octets.old + length text.now / 2 ≤ vec_capacity octets.old }
-    ensures { MatchBool result (Decodes text.now octets.old.items octets.new.items true)
-        ((octets_of text.now ≡ None) × ((more : _) × (octets.new.items ≡ octets.old.items ++ more))) }
+    ensures { TakesOctets octets.old.items None octets.new.items result.1 text.now result.0 }
+{
+    let count = 2 * append_pairs(octets, text);
+    let (_, rest) = text.split_at(count);
+    match first_half(rest) {
+        Some(high) => (count + 1, Some(high)),
+        None => (count, None),
+    }
+}
+
+/// Appends the octets of the pairs of digits that a text begins with, and says how many these are.
+fn append_pairs(octets: &mut Vec<u8>, text: &[u8]) -> usize
+    requires { vec_len octets.old + length text.now / 2 ≤ vec_capacity octets.old }
+    ensures { TakesPairs octets.old.items octets.new.items text.now result }
 {
     for place in 0..text.len() / 2 {
         let Some(high) = half(text[2 * place]) else {
-            return false;
+            return place;
         };
         let Some(low) = half(text[2 * place + 1]) else {
-            return false;
+            return place;
         };
         octets.push(high * 16 + low).unwrap();
     }
-    text.len() % 2 == 0
+    text.len() / 2
+}
+
+fn first_half(text: &[u8]) -> Option<u8>
+    ensures value { result ≡ first_half_of text.now }
+    ensures digit { IfSome result (λ half. IsHalfOf half (slice_index text.now 0)) }
+{
+    if text.is_empty() {
+        return None;
+    }
+    half(text[0])
 }
 
 fn digit(half: u8) -> u8
@@ -58,7 +154,7 @@ fn digit(half: u8) -> u8
 
 fn half(digit: u8) -> Option<u8>
     ensures value { result ≡ half_of digit }
-    ensures small { IfSome result (λ half. half < 16) }
+    ensures digit { IfSome result (λ half. IsHalfOf half digit) }
 {
     if 48 <= digit && digit <= 57 {
         Some(digit - 48)
@@ -66,41 +162,5 @@ fn half(digit: u8) -> Option<u8>
         Some(digit - 55)
     } else {
         None
-    }
-}
-
-#[cfg(test)]
-mod tests {
-    use super::*;
-
-    #[test]
-    fn digits_of_octets(rt: HostRuntime) {
-        for (octets, text) in [
-            (&b""[..], "F2"),
-            (&b"\x00"[..], "F200"),
-            (&b"\x1F\xC7\x9A"[..], "F21FC79A"),
-        ] {
-            let mut digits = Vec::new(rt.alloc());
-            assert!(rt; encode(b"\xF2", &mut digits).is_ok());
-            assert!(rt; encode(octets, &mut digits).is_ok());
-            assert!(rt; digits.as_slice() == text.as_bytes(), "{text}");
-        }
-    }
-
-    #[test]
-    fn octets_of_digits(rt: HostRuntime) {
-        for (text, octets) in [
-            ("", Some(&b""[..])),
-            ("09AF", Some(&b"\x09\xAF"[..])),
-            ("0", None),
-            ("0aFF", None),
-            ("FG", None),
-            ("0 0A", None),
-        ] {
-            let mut read = Vec::new(rt.alloc());
-            let spells = decode(text.as_bytes(), &mut read);
-            assert!(rt; spells == Ok(octets.is_some()), "{text}");
-            assert!(rt; read.as_slice() == octets.unwrap_or(b""), "{text}");
-        }
     }
 }

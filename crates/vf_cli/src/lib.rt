@@ -13,8 +13,5 @@ mod top;
 mod words;
 
 pub use command::{Command, Wanted};
-pub use hex::{decode, encode};
-pub use lines::{LineError, LineReader, NextLine};
-pub use printed::{append_bad_line, append_hex_line, usage_text};
 pub use top::ftam;
 pub use words::{WordsError, parse, wanted};

@@ -15,7 +15,7 @@ ghost use Rattle.vf_regime.specs.Sayable.{IsSayable};
 
 use crate::printed::append_hex_line;
 use std::alloc::Global;
-use vf_base::{Element, NoMemory};
+use vf_base::{Element, NoMemory, Octets};
 use vf_ber::{BerError, Value, WriteError};
 use vf_elements::{Message, Said};
 use vf_pdu::Pdu;
@@ -32,12 +32,12 @@ pub(crate) enum Front {
     Heard { message: Message, length: usize },
 }
 
-/// What stands in front of the octets.
-pub(crate) fn front_of(alloc: Global, octets: &[u8]) -> Result<Front, NoMemory>
+/// What stands in front of the octets, which the message shares.
+pub(crate) fn front_of(alloc: Global, octets: &Octets) -> Result<Front, NoMemory>
     ensures front { IsFront (reading octets.now) result }
     ensures advances { Advances octets.now result }
 {
-    let (value, length) = match vf_ber::read(alloc, octets) {
+    let (value, length) = match vf_ber::read_shared(alloc, octets) {
         Ok(read) => read,
         Err(BerError::NoMemory) => return Err(NoMemory),
         Err(BerError::Short) => return Ok(Front::Nothing),

@@ -42,34 +42,3 @@ pub fn parse(_alloc: Global, words: &Vec<String>) -> Result<Command, WordsError>
     }
     Ok(Command::Dialogue)
 }
-
-#[cfg(test)]
-mod tests {
-    use super::*;
-
-    #[test]
-    fn commands_and_usage(rt: HostRuntime) -> Result<(), std::alloc::AllocError> {
-        for (first, second, asked) in [
-            ("dialogue", "", true),
-            ("", "", false),
-            ("--", "", false),
-            ("Dialogue", "", false),
-            ("dialogues", "", false),
-            ("dialogue", "x", false),
-            ("dialogue", "--", false),
-        ] {
-            let mut words = Vec::new(rt.alloc());
-            if !first.is_empty() {
-                words.push(String::from_str(rt.alloc(), first)?)?;
-            }
-            if !second.is_empty() {
-                words.push(String::from_str(rt.alloc(), second)?)?;
-            }
-            match wanted(rt.alloc(), &words) {
-                Ok(wanted) => assert!(rt; asked && wanted.idle == 1_000_000, "{first} {second}"),
-                Err(error) => assert!(rt; !asked && error == WordsError::Usage, "{first} {second}"),
-            }
-        }
-        Ok(())
-    }
-}

@@ -1,15 +1,15 @@
-use Rattle.std.proofs.Common.{◌≡◌, ◌-◌, ◌≤◌, ◌++◌, List, ℕ, Some, drop, length}
+use Rattle.std.proofs.Common.{◌≡◌, ◌-◌, ◌≤◌, ◌++◌, List, ℕ, drop, length}
 use Rattle.vf_regime.specs.State.{State}
 use Rattle.vf_cli.specs.Conversation.{Continues, Holds}
 use Rattle.vf_cli.proofs.conversation.take_messages.Given as goal
 
-abbrev pub invariant-loop-party : goal.invariant-loop-party
-invariant-loop-party l = record {
+abbrev pub invariant-loop-at : goal.invariant-loop-at
+invariant-loop-at l = record {
   within : l.at ≤ length l.octets;
-  goes : (first : State) → Holds (Some l.initial.party) l.initial.tables first
-      → (state : State) × (said : List ℕ) × Holds (Some l.party) l.tables state × (l.replies.items ≡ l.initial.replies.items ++ said)
+  goes : (first : State) → Holds l.initial.party l.initial.tables first
+      → (state : State) × (said : List ℕ) × Holds l.party l.tables state × (l.replies.items ≡ l.initial.replies.items ++ said)
       × Continues first l.octets said state (drop l.at l.octets);
 }
 
-abbrev pub decreases-loop-party : goal.decreases-loop-party
-decreases-loop-party l = length l.octets - l.at
+abbrev pub decreases-loop-at : goal.decreases-loop-at
+decreases-loop-at l = length l.octets - l.at

@@ -1,17 +1,16 @@
-use Rattle.std.proofs.Common.{◌-◌}
 use Rattle.vf_base.specs.Faults.{NeverFalls}
-use Rattle.vf_cli.specs.Lines.{input_limit}
+use Rattle.vf_cli.specs.Conversation.{left_of, octets_in}
 use Rattle.vf_cli.specs.Reader.{will_say}
 use Rattle.vf_cli.proofs.TopLemmas.{SoFar}
 use Rattle.vf_cli.proofs.dialogue.converse.Given as goal
 
-abbrev pub invariant-lines : goal.invariant-lines
-invariant-lines g l = record {
+abbrev pub invariant-steps : goal.invariant-steps
+invariant-steps g l = record {
   input_falls : NeverFalls (g.I.Source.fault_count l.initial.input) (g.I.Source.fault_count l.input);
   out_falls : NeverFalls (g.O.Sink.fault_count l.initial.out) (g.O.Sink.fault_count l.out);
-  goes : SoFar l.initial.conversation.pending.items (will_say l.initial.reader (g.I.Source.left l.initial.input)) (will_say l.reader (g.I.Source.left l.input))
+  goes : SoFar (octets_in l.initial.conversation.stream) (will_say l.initial.reader (g.I.Source.left l.initial.input)) (will_say l.reader (g.I.Source.left l.input))
       (g.O.Sink.taken l.initial.out) (g.O.Sink.taken l.out) l.conversation;
 }
 
-abbrev pub decreases-lines : goal.decreases-lines
-decreases-lines g l = input_limit - l.reader.count
+abbrev pub decreases-steps : goal.decreases-steps
+decreases-steps g l = left_of l.reader l.conversation

@@ -1,47 +1,54 @@
-use Rattle.std.proofs.Common.{◌++◌, List, ℕ, Ok, ap, subst, ◌∙◌}
+use Rattle.std.proofs.Common.{Ok, arith, subst}
 use Rattle.vf_cli.specs.declared.lines.NextLine.{NextLine}
-use Rattle.vf_cli.specs.Conversation.{TakesPiece}
-use Rattle.vf_cli.specs.Lines.{bad_line}
-use Rattle.vf_cli.specs.Printed.{WroteFront}
-use Rattle.vf_cli.specs.Reader.{Answers, will_say}
-use Rattle.vf_cli.proofs.LineLemmas.{interrupted_before, line_bad_interrupted, line_interrupted, on_err}
+use Rattle.vf_cli.specs.Reader.{Answers, Progresses, will_say}
+use Rattle.vf_cli.proofs.LineLemmas.{bad_interrupted, interrupted_before, on_err, steps_bad, steps_end, steps_piece}
 use Rattle.vf_cli.proofs.dialogue.take_line.Goals as goal
 
 pub returns-in_err-next_line-clause-interrupted : goal.returns-in_err-next_line-clause-interrupted
 returns-in_err-next_line-clause-interrupted g c = on_err c.from_residual.result _ (λ state stands. interrupted_before state _ _ _)
 
-pub returns-in_err-aborted-in-Piece-clause-interrupted :
-    goal.returns-in_err-aborted-in-Piece-clause-interrupted
-returns-in_err-aborted-in-Piece-clause-interrupted g c = on_err c.from_residual-in_err-aborted-in-Piece.result _ (λ state stands. interrupted_before state _ _ _)
+pub returns-in_err-add-in-Piece-clause-interrupted : goal.returns-in_err-add-in-Piece-clause-interrupted
+returns-in_err-add-in-Piece-clause-interrupted g c = on_err c.from_residual-in_err-add-in-Piece.result _ (λ state stands. interrupted_before state _ _ _)
 
-pub returns-in_err-write_lines-in-Piece-clause-interrupted :
-    goal.returns-in_err-write_lines-in-Piece-clause-interrupted
-returns-in_err-write_lines-in-Piece-clause-interrupted g c = on_err c.from_residual-in_err-write_lines-in-Piece.result _ (λ state stands.
-    let pending = c.args.conversation.now.pending.items in
+pub returns-in_err-write_bad_line-in-Bad-clause-interrupted : goal.returns-in_err-write_bad_line-in-Bad-clause-interrupted
+returns-in_err-write_bad_line-in-Bad-clause-interrupted g c = on_err c.from_residual-in_err-write_bad_line-in-Bad.result _ (λ state stands.
     let old_input = will_say c.args.reader.now (g.I.Source.left c.args.input.now) in
     let new_input = will_say c.next_line.new.reader (g.I.Source.left c.next_line.new.input) in
-    let old = g.O.Sink.taken c.args.out.now in
-    let new = g.O.Sink.taken c.write_lines.new.out in
-    let piece = c.next_line.new.piece.items in
-    let lines = c.take.new.replies.items in
-    let aborted = c.in_ok-aborted-in-Piece.aborted in
-    let answers = subst (λ (next : NextLine). Answers old_input new_input piece (Ok next)) c.in-Piece.is c.in_ok-next_line.ensures.answers in
-    let takes = subst (λ (l : List ℕ). TakesPiece state pending piece l lines c.take.new.self aborted) c.clear.ensures.items
-    (subst (λ (l : List ℕ). TakesPiece state pending l c.clear.new.self.items lines c.take.new.self aborted) c.as_slice.ensures.value
-    (c.in_ok-aborted-in-Piece.ensures state stands.0)) in
-    line_interrupted state pending old new aborted piece lines c.take.new.self old_input new_input answers takes
-    (subst (λ (l : List ℕ). WroteFront l old new) c.as_slice-in-Piece.ensures.value c.in_err-write_lines-in-Piece.ensures.front))
-
-pub returns-in_err-write_lines-in-Bad-clause-interrupted :
-    goal.returns-in_err-write_lines-in-Bad-clause-interrupted
-returns-in_err-write_lines-in-Bad-clause-interrupted g c = on_err c.from_residual-in_err-write_lines-in-Bad.result _ (λ state stands.
-    let pending = c.args.conversation.now.pending.items in
-    let old_input = will_say c.args.reader.now (g.I.Source.left c.args.input.now) in
-    let new_input = will_say c.next_line.new.reader (g.I.Source.left c.next_line.new.input) in
-    let old = g.O.Sink.taken c.args.out.now in
-    let new = g.O.Sink.taken c.write_lines-in-Bad.new.out in
     let piece = c.next_line.new.piece.items in
     let answers = subst (λ (next : NextLine). Answers old_input new_input piece (Ok next)) c.in-Bad.is c.in_ok-next_line.ensures.answers in
-    let lines = c.as_slice-in-Bad.ensures.value ∙ c.in_ok-append_bad_line-in-Bad.ensures ∙ ap (λ l. l ++ bad_line c.in-Bad.number) c.clear.ensures.items in
-    line_bad_interrupted state pending old new stands.1 c.in-Bad.number piece old_input new_input answers
-    (subst (λ (l : List ℕ). WroteFront l old new) lines c.in_err-write_lines-in-Bad.ensures.front))
+    bad_interrupted state c.args.conversation.now (g.O.Sink.taken c.args.out.now) old_input new_input c.requires stands c.in-Bad.number piece _ answers
+    c.in_err-write_bad_line-in-Bad.ensures.front)
+
+pub returns-in_ok-add-in-Piece-clause-takes : goal.returns-in_ok-add-in-Piece-clause-takes
+returns-in_ok-add-in-Piece-clause-takes g c = λ state stands.
+    let old_input = will_say c.args.reader.now (g.I.Source.left c.args.input.now) in
+    let new_input = will_say c.next_line.new.reader (g.I.Source.left c.next_line.new.input) in
+    let piece = c.next_line.new.piece.items in
+    let answers = subst (λ (next : NextLine). Answers old_input new_input piece (Ok next)) c.in-Piece.is c.in_ok-next_line.ensures.answers in
+    steps_piece state c.args.conversation.now (g.O.Sink.taken c.args.out.now) old_input new_input piece c.add.new.self answers
+    (c.in_ok-add-in-Piece.ensures.adds state stands)
+
+pub returns-in_ok-add-in-Piece-clause-goes : goal.returns-in_ok-add-in-Piece-clause-goes
+returns-in_ok-add-in-Piece-clause-goes g c =
+    let progress = subst (λ (next : NextLine). Progresses c.args.reader.now.count c.next_line.new.reader.count c.next_line.new.piece.items next)
+    c.in-Piece.is c.in_ok-next_line.ensures.progresses in
+    let above = progress.0 in
+    let within = progress.1 in
+    omega (arith, above, within, c.in_ok-add-in-Piece.ensures.size)
+
+pub returns-in_ok-write_bad_line-in-Bad-clause-takes : goal.returns-in_ok-write_bad_line-in-Bad-clause-takes
+returns-in_ok-write_bad_line-in-Bad-clause-takes g c = λ state stands.
+    let old_input = will_say c.args.reader.now (g.I.Source.left c.args.input.now) in
+    let new_input = will_say c.next_line.new.reader (g.I.Source.left c.next_line.new.input) in
+    let piece = c.next_line.new.piece.items in
+    let answers = subst (λ (next : NextLine). Answers old_input new_input piece (Ok next)) c.in-Bad.is c.in_ok-next_line.ensures.answers in
+    steps_bad state c.args.conversation.now (g.O.Sink.taken c.args.out.now) old_input new_input c.requires stands c.in-Bad.number piece c.args.conversation.now _ answers
+    c.in_ok-write_bad_line-in-Bad.ensures.ok
+
+pub returns-in-End-clause-takes : goal.returns-in-End-clause-takes
+returns-in-End-clause-takes g c = λ state stands.
+    let old_input = will_say c.args.reader.now (g.I.Source.left c.args.input.now) in
+    let new_input = will_say c.next_line.new.reader (g.I.Source.left c.next_line.new.input) in
+    let piece = c.next_line.new.piece.items in
+    let answers = subst (λ (next : NextLine). Answers old_input new_input piece (Ok next)) c.in-End.is c.in_ok-next_line.ensures.answers in
+    steps_end state c.args.conversation.now (g.O.Sink.taken c.args.out.now) old_input new_input c.requires stands piece c.args.conversation.now answers

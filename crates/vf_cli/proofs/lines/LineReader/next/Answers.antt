@@ -1,60 +1,72 @@
-use Rattle.std.proofs.Common.{◌≡◌, arith, ◌-◌, ◌<◌, ◌++◌, sym, length, [], subst, Ok}
-use Rattle.std.specs.Prelude.{true, false, vec_len, ◌≢◌}
-use Rattle.std.proofs.lemmas.Bool.{eqb-true, eqb-false}
-use Rattle.std.proofs.lemmas.List.{nil_from_length}
-use Rattle.vf_cli.specs.declared.lines.NextLine.{NextLine}
-use Rattle.vf_cli.specs.Lines.{input_limit}
-use Rattle.vf_cli.specs.Reader.{FromFeed, Answers, will_say}
-use Rattle.vf_cli.proofs.ReaderLemmas.{answers_as, answers_long, answers_end, answers_rest, answers_bad, answers_piece_of, piece_of_line}
+use Rattle.std.proofs.Common.{◌≡◌, arith, ◌+◌, ◌-◌, ◌<◌, ◌≤◌, ◌++◌, sym, length, subst, Ok, List, ℕ}
+use Rattle.std.specs.Prelude.{None, Some, true, false}
+use Rattle.vf_cli.specs.Hex.{Spells}
+use Rattle.vf_cli.specs.Lines.{input_limit, piece_of}
+use Rattle.vf_cli.specs.Reader.{Answers, Finds, will_say}
+use Rattle.vf_cli.specs.declared.lines.NextLine.TheVariants.{Bad}
+use Rattle.vf_cli.specs.declared.lines.Found.{Found}
+use Rattle.vf_cli.specs.declared.lines.Found.TheVariants as found
+use Rattle.vf_cli.proofs.InputLemmas.{long_is_bad, piece_of-none, piece_of-spelled}
+use Rattle.vf_cli.proofs.ReaderLemmas.{answers_as, answers_bad, answers_found, answers_piece_of}
 use Rattle.vf_cli.proofs.lines.LineReader.next.Goals as goal
-use Rattle.vf_cli.proofs.lines.LineReader.next.Goals.{then-is_empty, else-is_empty}
 
-pub returns-in-Long-clause-answers : goal.returns-in-Long-clause-answers
-returns-in-Long-clause-answers g c =
-    let found = rw c.in-Long.is at c.in_ok-find_line.ensures.found in
-    answers_as _ _ _ (c.self.inside.line.items ++ c.self.inside.block) _ _ _ _ _ _ c.self.view_is c.find_line.ensures.octets
-    (answers_long _ _ (input_limit - c.self.inside.count) _ _ _ _ c.find_line.ensures.within (omega (arith, c.self.invariant.1)) found)
+pub returns-in-Bad-clause-answers : goal.returns-in-Bad-clause-answers
+returns-in-Bad-clause-answers g c =
+    let is : Finds (input_limit - c.self.inside.count) c.find_end.new.digits c.find_end.new.block (g.S.Source.left c.find_end.new.input) found.Bad =
+    rw c.in-Bad.is at c.in_ok-find_end.ensures.found in
+    answers_as _ _ _ (c.self.inside.digits ++ c.self.inside.block) _ _ _ _ _ _ c.self.view_is c.find_end.ensures.octets
+    (answers_found _ _ (input_limit - c.self.inside.count) _ _ _ _ c.find_end.ensures.line (omega (arith, c.self.invariant.0)) is)
 
-pub returns-in-Rest-clause-answers : goal.returns-in-Rest-clause-answers
-returns-in-Rest-clause-answers g c =
-    let found = rw c.in-Rest.is at c.in_ok-find_line.ensures.found in
+pub overflow_add-count : goal.overflow_add-count
+overflow_add-count g c =
+    let is : Finds (input_limit - c.self.inside.count) c.find_end.new.digits c.find_end.new.block (g.S.Source.left c.find_end.new.input) found.Feed =
+    rw c.in-Feed.is at c.in_ok-find_end.ensures.found in
+    let within = is.1 in
+    let few = c.self.invariant.0 in
+    omega (arith, c.len.ensures, within, few)
+
+pub overflow_add-count-2 : goal.overflow_add-count-2
+overflow_add-count-2 g c =
+    let is : Finds (input_limit - c.self.inside.count) c.find_end.new.digits c.find_end.new.block (g.S.Source.left c.find_end.new.input) found.Feed =
+    rw c.in-Feed.is at c.in_ok-find_end.ensures.found in
+    let within = is.1 in
+    let few = c.self.invariant.0 in
+    omega (arith, c.len.ensures, within, few)
+
+pub returns-then-count-gt-INPUT_LIMIT-clause-answers : goal.returns-then-count-gt-INPUT_LIMIT-clause-answers
+returns-then-count-gt-INPUT_LIMIT-clause-answers g c =
+    let is : Finds (input_limit - c.self.inside.count) c.find_end.new.digits c.find_end.new.block (g.S.Source.left c.find_end.new.input) found.Feed =
+    rw c.in-Feed.is at c.in_ok-find_end.ensures.found in
+    let digits = c.find_end.new.digits in
+    let long = c.if-count-gt-INPUT_LIMIT.true in
+    let len : c.len.result ≡ length digits = c.len.ensures in
+    answers_as _ _ _ (c.self.inside.digits ++ c.self.inside.block) _ _ _ _ _ _ c.self.view_is c.find_end.ensures.octets
+    (answers_bad _ _ digits _ _ _ c.find_end.ensures.line is.0 (long_is_bad (c.self.inside.count + length digits + 1) digits (omega (arith, long, len))))
+
+pub returns-then-not-finish-clause-answers : goal.returns-then-not-finish-clause-answers
+returns-then-not-finish-clause-answers g c =
+    let is : Finds (input_limit - c.self.inside.count) c.find_end.new.digits c.find_end.new.block (g.S.Source.left c.find_end.new.input) found.Feed =
+    rw c.in-Feed.is at c.in_ok-find_end.ensures.found in
+    let digits = c.find_end.new.digits in
     let reader = c.self.inside in
-    let line = c.find_line.new.line in
-    let P : NextLine → Type 0 = λ next.
-    Answers (will_say c.args.self.now (g.S.Source.left c.args.input.now))
-    (will_say (record { count = reader.count; number = reader.number; ahead = line.items ++ c.find_line.new.block }) (g.S.Source.left c.find_line.new.input))
-    c.args.piece.now.items (Ok next) in
-    elim c.if-is_empty.branch [
-      | then-is_empty w ↦
-          let none : vec_len line ≡ 0 = eqb-true _ _ (sym w.if-is_empty.ensures) in
-          let no_line : line.items ≡ [] = nil_from_length _ (omega arith) in
-          subst P (sym w.result-is)
-          (answers_as _ _ _ (reader.line.items ++ reader.block) _ _ _ _ _ _ c.self.view_is c.find_line.ensures.octets
-          (answers_end _ _ line.items _ _ _ no_line found.0 found.1))
-      | else-is_empty w ↦
-          let other : vec_len line ≢ 0 = eqb-false _ _ (sym w.if-is_empty.ensures) in
-          let some : 0 < length line.items = omega arith in
-          subst P (sym w.result-is)
-          (answers_as _ _ _ (reader.line.items ++ reader.block) _ _ _ _ _ _ c.self.view_is c.find_line.ensures.octets
-          (answers_rest _ _ line.items _ _ _ c.find_line.ensures.within some found.0 found.1))
-    ]
-
-pub returns-then-not-branch-clause-answers : goal.returns-then-not-branch-clause-answers
-returns-then-not-branch-clause-answers g c =
-    let found : FromFeed true c.find_line.new.block = rw c.in-Whole.is at c.in_ok-find_line.ensures.found in
-    let line = c.find_line.new.line.items in
-    let len : c.len.result ≡ length line = omega (arith, c.len.ensures) in
-    let bad = piece_of_line c.self.inside.count c.len.result c.as_slice.result.now line c.take_piece.new.piece.items
-    c.in_ok-take_piece.field-0 false c.as_slice.ensures.value len c.if-not-branch.true c.in_ok-take_piece.ensures in
-    answers_as _ _ _ (c.self.inside.line.items ++ c.self.inside.block) _ _ _ _ _ _ c.self.view_is c.find_line.ensures.octets
-    (answers_bad _ _ line _ _ _ c.find_line.ensures.within found bad)
+    let none : Spells digits c.finish.new.self c.args.piece.now.items c.finish.new.octets.items false =
+    subst (λ b. Spells digits c.finish.new.self c.args.piece.now.items c.finish.new.octets.items b) c.if-not-finish.true c.finish.ensures in
+    subst (λ (l : List ℕ). Answers (will_say c.args.self.now (g.S.Source.left c.args.input.now))
+    (will_say (record { count = reader.count; number = reader.number; ahead = l ++ c.find_end.new.block }) (g.S.Source.left c.find_end.new.input))
+    c.finish.new.octets.items (Ok (Bad reader.number))) (sym none.1)
+    (answers_as _ _ _ (reader.digits ++ reader.block) _ _ _ _ _ _ c.self.view_is c.find_end.ensures.octets
+    (answers_bad _ _ digits _ _ _ c.find_end.ensures.line is.0 (piece_of-none (reader.count + length digits + 1) digits none.0)))
 
 pub returns-clause-answers : goal.returns-clause-answers
 returns-clause-answers g c =
-    let found : FromFeed true c.find_line.new.block = rw c.in-Whole.is at c.in_ok-find_line.ensures.found in
-    let line = c.find_line.new.line.items in
-    let len : c.len.result ≡ length line = omega (arith, c.len.ensures) in
-    let good = piece_of_line c.self.inside.count c.len.result c.as_slice.result.now line c.take_piece.new.piece.items
-    c.in_ok-take_piece.field-0 true c.as_slice.ensures.value len c.if-not-branch.false c.in_ok-take_piece.ensures in
-    answers_as _ _ _ (c.self.inside.line.items ++ c.self.inside.block) _ _ _ _ _ _ c.self.view_is c.find_line.ensures.octets
-    (answers_piece_of _ _ c.len.result line _ _ _ _ _ c.find_line.ensures.within found len good c.clear.ensures.items c.skip.ensures)
+    let is : Finds (input_limit - c.self.inside.count) c.find_end.new.digits c.find_end.new.block (g.S.Source.left c.find_end.new.input) found.Feed =
+    rw c.in-Feed.is at c.in_ok-find_end.ensures.found in
+    let digits = c.find_end.new.digits in
+    let reader = c.self.inside in
+    let len : c.len.result ≡ length digits = c.len.ensures in
+    let within = c.if-count-gt-INPUT_LIMIT.false in
+    let spells : Spells digits c.finish.new.self c.args.piece.now.items c.finish.new.octets.items true =
+    subst (λ b. Spells digits c.finish.new.self c.args.piece.now.items c.finish.new.octets.items b) c.if-not-finish.false c.finish.ensures in
+    let good = piece_of-spelled (reader.count + length digits + 1) digits c.finish.new.octets.items (omega (arith, within, len)) spells.2 spells.1 in
+    answers_as _ _ _ (reader.digits ++ reader.block) _ _ _ _ _ _ c.self.view_is c.find_end.ensures.octets
+    (answers_piece_of _ _ c.len.result digits _ _ _ _ _ c.find_end.ensures.line is.0 len good spells.0 c.skip.ensures)
