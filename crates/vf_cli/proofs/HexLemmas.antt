@@ -1,10 +1,10 @@
 -- Texts in hexadecimal, digit by digit.
 use Rattle.std.proofs.Common.{◌≡◌, ℕ, zero, suc, ◌+◌, ◌-◌, ◌*◌, ◌/◌, ◌%◌, ◌<◌, ◌≤◌, List, [], ◌∷◌, ◌++◌, length, drop, take, get_or, refl, sym, ap, subst, ◌∙◌, arith, append_assoc, append-nil, length-drop, length-append, inl, inr}
-use Rattle.std.specs.Prelude.{All, IfSome, Option, Some, None, Bool, is_some, nat_lt, true, false, ◌⊎◌, ◌≢◌, if◌then◌else◌}
+use Rattle.std.specs.Prelude.{All, Option, Some, None, Bool, is_some, nat_lt, true, false, ◌⊎◌, ◌≢◌, if◌then◌else◌}
 use Rattle.vf_cli.specs.Lines.{IsInLine, line_feed}
-use Rattle.std.proofs.lemmas.List.{drop_more, drop_all, take_more, drop-drop}
+use Rattle.std.proofs.lemmas.List.{drop_more, take_more}
 use Rattle.std.proofs.lemmas.List.Elements.{All-append, All-cons, All-head, All-nil, All-tail}
-use Rattle.vf_cli.specs.Hex.{IsHalfOf, Takes, TakesOctets, TakesPairs, digit_of, first_half_of, half_of, half_text, hex_of, octet_before, octets_of}
+use Rattle.vf_cli.specs.Hex.{IsHalfOf, TakesOctets, TakesPairs, digit_of, first_half_of, half_of, half_text, hex_of, octet_before, octets_of}
 
 pub length-hex_of : (octets : List ℕ) → length (hex_of octets) ≡ 2 * length octets
 length-hex_of [] = refl

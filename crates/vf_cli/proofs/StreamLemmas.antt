@@ -1,5 +1,5 @@
 -- A stream of octets, as it takes pieces and messages.
-use Rattle.std.proofs.Common.{◌≡◌, ℕ, ◌<◌, Bool, true, false, List, [], ◌++◌, Option, None, Some, true≢false, append-nil, refl, ap, sym, subst, ◌∙◌}
+use Rattle.std.proofs.Common.{◌≡◌, ℕ, ◌<◌, Bool, true, false, List, [], ◌++◌, Option, None, Some, true≢false, append-nil, ap, sym, subst, ◌∙◌}
 use Rattle.vf_ber.specs.Reader.{reading}
 use Rattle.vf_ber.specs.Reading.{Short}
 use Rattle.vf_ber_scan.specs.Scanned.{HasTaken}

@@ -15,7 +15,6 @@ use Rattle.vf_regime.specs.Sayable.{CanServe}
 use Rattle.vf_regime.specs.State.{State, StandingParty}
 use Rattle.vf_regime.specs.Transition.{Consequence}
 use Rattle.vf_ber_scan.specs.Scanned.{HasTaken}
-use Rattle.vf_ber_scan.specs.declared.scan.Scan.{Scan}
 use Rattle.vf_cli.specs.declared.conversation.After.{After}
 use Rattle.vf_cli.specs.declared.conversation.After.TheVariants as after
 use Rattle.vf_cli.specs.declared.conversation.Conversation.{Conversation}

@@ -1,4 +1,4 @@
-use Rattle.std.proofs.Common.{◌≡◌, ◌-◌, ◌++◌, List, ℕ, arith, ap, drop, length, length-drop, sym, subst, ◌∙◌}
+use Rattle.std.proofs.Common.{◌≡◌, ◌++◌, List, ℕ, arith, ap, drop, length, length-drop, sym, subst, ◌∙◌}
 use Rattle.vf_ber.specs.Reader.{reading}
 use Rattle.vf_ber.specs.Reading.{Short}
 use Rattle.vf_cli.proofs.conversation.rest_after.Goals as goal

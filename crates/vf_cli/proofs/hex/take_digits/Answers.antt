@@ -1,4 +1,4 @@
-use Rattle.std.proofs.Common.{◌≡◌, ℕ, List, Option, None, Some, [], ◌∷◌, ◌*◌, ◌+◌, ◌<◌, ◌++◌, drop, get_or, sym, subst, ◌∙◌}
+use Rattle.std.proofs.Common.{◌≡◌, ℕ, List, Option, None, Some, [], ◌∷◌, ◌*◌, ◌+◌, ◌<◌, ◌++◌, drop, sym, subst, ◌∙◌}
 use Rattle.std.specs.Prelude.{IfSome}
 use Rattle.vf_cli.specs.Hex.{TakesOctets}
 use Rattle.vf_cli.proofs.HexLemmas.{none_taken, one_taken}

@@ -1,4 +1,4 @@
-use Rattle.std.proofs.Common.{sym, arith}
+use Rattle.std.proofs.Common.{arith}
 use Rattle.vf_cli.proofs.HexLemmas.{length_waiting, length_whole}
 use Rattle.vf_cli.proofs.hex.Digits.len.Goals as goal
 

@@ -1,10 +1,9 @@
-use Rattle.std.proofs.Common.{◌≡◌, arith, ◌+◌, ◌-◌, ◌<◌, ◌≤◌, ◌++◌, sym, length, subst, Ok, List, ℕ}
-use Rattle.std.specs.Prelude.{None, Some, true, false}
+use Rattle.std.proofs.Common.{◌≡◌, arith, ◌+◌, ◌-◌, ◌++◌, sym, length, subst, Ok, List, ℕ}
+use Rattle.std.specs.Prelude.{true, false}
 use Rattle.vf_cli.specs.Hex.{Spells}
-use Rattle.vf_cli.specs.Lines.{input_limit, piece_of}
+use Rattle.vf_cli.specs.Lines.{input_limit}
 use Rattle.vf_cli.specs.Reader.{Answers, Finds, will_say}
 use Rattle.vf_cli.specs.declared.lines.NextLine.TheVariants.{Bad}
-use Rattle.vf_cli.specs.declared.lines.Found.{Found}
 use Rattle.vf_cli.specs.declared.lines.Found.TheVariants as found
 use Rattle.vf_cli.proofs.InputLemmas.{long_is_bad, piece_of-none, piece_of-spelled}
 use Rattle.vf_cli.proofs.ReaderLemmas.{answers_as, answers_bad, answers_found, answers_piece_of}
