@@ -1,4 +1,6 @@
 //! A source that gives few octets at once.
+ghost use Rattle.std.specs.Prelude.{◌<◌};
+
 use vf_base::{Failed, SliceSource, Source};
 
 /// A source in memory, of which a read gives so many octets at most.
