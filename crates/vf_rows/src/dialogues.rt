@@ -1,6 +1,5 @@
 //! What `dialogue` prints, and what words outside the grammar print.
 use crate::call::{call, only, words_of};
-use crate::sips::Sips;
 use vf_base::{NoMemory, SliceSource};
 use vf_cli::{WordsError, wanted};
 
@@ -127,14 +126,10 @@ fn lines_in_and_out(rt: HostRuntime) -> Result<(), NoMemory> {
             11,
         ),
     ] {
-        // Octets come all at once, or few at once, so that a line and a digit's partner are cut anywhere.
-        for most in [1, 2, 3, 64, usize::MAX] {
-            let octets = SliceSource::new(text.as_bytes(), Vec::new(rt.alloc()));
-            let mut input = Sips { octets, most };
-            let found = call(rt.alloc(), "dialogue", &mut input, Vec::new(rt.alloc()))?;
-            assert!(rt; found.status == status, "{text}");
-            assert!(rt; found.octets.as_slice() == printed.as_bytes(), "{text}");
-        }
+        let mut input = SliceSource::new(text.as_bytes(), Vec::new(rt.alloc()));
+        let found = call(rt.alloc(), "dialogue", &mut input, Vec::new(rt.alloc()))?;
+        assert!(rt; found.status == status, "{text}");
+        assert!(rt; found.octets.as_slice() == printed.as_bytes(), "{text}");
     }
     Ok(())
 }
