@@ -110,7 +110,7 @@ fn parties_are_told_and_stand(rt: HostRuntime) -> Result<(), Fail> {
     for (rows, file) in [
         (TRANSFERS.as_slice(), Some((3, 0))),
         (REFUSALS.as_slice(), Some((1, 0))),
-        (ABORTS.as_slice(), Some((0, 0))),
+        (ABORTS.as_slice(), Some((1, 0))),
     ] {
         let mut tables = Tables::new(rt.alloc());
         assert_rows(&rt, rt.alloc(), &mut tables, rows)?;
