@@ -21,7 +21,7 @@ impl AttributeChange {
         ensures { IfOk result (λ change. change ≡ self.now) }
     {
         let name = copy_option(alloc, &self.name)?;
-        let terms = copy_terms(alloc, &self.terms)?;
+        let terms = copy_option(alloc, &self.terms)?;
         Ok(AttributeChange {
             name,
             permitted: self.permitted,
@@ -50,7 +50,7 @@ pub fn change(
         return Err(ChangeError::Unsupported);
     }
     let name = copy_option(alloc, &change.name)?;
-    let terms = copy_terms(alloc, &change.terms)?;
+    let terms = copy_option(alloc, &change.terms)?;
     let identity = who.copy(alloc)?;
     put(&mut file.name, name);
     put(&mut file.permitted, change.permitted);
@@ -65,18 +65,5 @@ fn put<T: Drop>(place: &mut T, value: Option<T>)
 {
     if let Some(value) = value {
         *place = value;
-    }
-}
-
-/// An equal option of terms.
-fn copy_terms(alloc: Global, terms: &Option<Terms>) -> Result<Option<Terms>, NoMemory>
-    ensures { IfOk result (λ made. made ≡ terms.now) }
-{
-    match terms {
-        Some(terms) => {
-            let made = terms.copy(alloc)?;
-            Ok(Some(made))
-        }
-        None => Ok(None),
     }
 }

@@ -23,7 +23,7 @@ year_of-is (suc turns) year days goal rest within low high same =
           let far = day_count-later_year (pos year) (pos goal) (omega (arith, signed_arith)) (omega (arith, signed_arith)) in
           let next = day_count-next_year (pos year) (pos (year + 1)) (omega (arith, signed_arith)) (omega (arith, signed_arith)) in
           rw (le-ltb days (year_length year) (omega arith)) (year_of-is turns (year + 1) (days - year_length year) goal rest within (omega arith) (omega arith) (omega arith))
-      | inr (inr behind) ↦ absurd (omega arith)
+      | inr (inr after) ↦ absurd (omega arith)
     ]
 
 -- and a month within its year
@@ -41,7 +41,7 @@ month_of-is (suc turns) year month days goal rest within first low high same =
           let next = days_of_months_more (pos year) month first in
           let back : month + 1 - 1 ≡ month = omega arith in
           rw (le-ltb days (month_length year month) (omega arith)) (month_of-is turns year (month + 1) (days - month_length year month) goal rest within (omega arith) (omega arith) (omega arith) (rw back (omega arith)))
-      | inr (inr behind) ↦ absurd (omega arith)
+      | inr (inr after) ↦ absurd (omega arith)
     ]
 
 -- the year of a date from 1970 on

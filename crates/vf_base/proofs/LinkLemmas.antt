@@ -7,8 +7,8 @@ use Rattle.std.proofs.lemmas.List.{length-map, map-append, append-nil}
 use Rattle.std.proofs.lemmas.List.Folds.{list_any-append}
 use Rattle.std.proofs.lemmas.List.Sums.{sum_by-cons}
 use Rattle.std.proofs.lemmas.Map.Made.{length-le_from_is_member}
-use Rattle.vf_base.specs.Links.{Story, HandsOut, after_octets, has_arrived, has_note}
-use Rattle.vf_base.specs.Script.{Script, octets_of, story_of, is_arrival, link_of, OnceEach}
+use Rattle.vf_base.specs.Links.{Traffic, HandsOut, after_octets, has_arrived, has_note}
+use Rattle.vf_base.specs.Script.{Script, octets_of, traffic_of, is_arrival, link_of, OnceEach}
 use Rattle.std.proofs.lemmas.Grind.{flat_map-append, take_at_read}
 use mathlib.Core.Path.{fun_ext}
 use Rattle.vf_base.specs.declared.events.ScriptEvent.{ScriptEvent}
@@ -89,11 +89,11 @@ none_more true before = append-nil before
 none_more false before = refl
 
 -- one more piece is more octets of its link
-pub story_more : (links : Script) (link : ℕ) (octets : List ℕ) → story_of (record links { pieces = links.pieces ++ record { link = link; octets = octets } ∷ [] }) ≡ after_octets link octets (story_of links)
-story_more links link octets = ap (λ taken. record (story_of links) { taken = taken }) (fun_ext (λ number. flat_map-append (λ piece. if nat_eq number piece.link then piece.octets else []) links.pieces (record { link = link; octets = octets } ∷ []) ∙ one_more (nat_eq number link) (octets_of number links.pieces) octets))
+pub traffic_more : (links : Script) (link : ℕ) (octets : List ℕ) → traffic_of (record links { pieces = links.pieces ++ record { link = link; octets = octets } ∷ [] }) ≡ after_octets link octets (traffic_of links)
+traffic_more links link octets = ap (λ taken. record (traffic_of links) { taken = taken }) (fun_ext (λ number. flat_map-append (λ piece. if nat_eq number piece.link then piece.octets else []) links.pieces (record { link = link; octets = octets } ∷ []) ∙ one_more (nat_eq number link) (octets_of number links.pieces) octets))
 
-pub story_none : (story : Story) (link : ℕ) → after_octets link [] story ≡ story
-story_none story link = ap (λ taken. record story { taken = taken }) (fun_ext (λ number. none_more (nat_eq number link) (story.taken number)))
+pub traffic_none : (traffic : Traffic) (link : ℕ) → after_octets link [] traffic ≡ traffic
+traffic_none traffic link = ap (λ taken. record traffic { taken = taken }) (fun_ext (λ number. none_more (nat_eq number link) (traffic.taken number)))
 
 -- the event at a place of a script is handed out
 pub hands_out : (events all : List ScriptEvent) (place : ℕ) (found event : ScriptEvent) (taken : ℕ → List ℕ) (shut failed : List (ℕ × ℕ)) → all ≡ events → true ≡ nat_lt place (length all) → found ≡ get_or all place found → found ≡ event → HandsOut (record { events = take place events; left = drop place events; taken = taken; shut = shut; failed = failed }) (Some (record { events = take (place + 1) events; left = drop (place + 1) events; taken = taken; shut = shut; failed = failed })) (Some event)
@@ -102,5 +102,5 @@ hands_out events all place found event taken shut failed whole inside is shape =
     let here : get_or events place event ≡ event = rw (whole, shape) at (sym is) in
     let next = drop-cons events place event within in
     let rest : drop place events ≡ event ∷ drop (place + 1) events = rw (here, ← add-one place) at next in
-    let front : take (place + 1) events ≡ take place events ++ event ∷ [] = rw here at (take_at_read events place event within).1 in
-    (drop (place + 1) events, rest, rw front refl)
+    let prefix : take (place + 1) events ≡ take place events ++ event ∷ [] = rw here at (take_at_read events place event within).1 in
+    (drop (place + 1) events, rest, rw prefix refl)

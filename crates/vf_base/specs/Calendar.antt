@@ -14,14 +14,14 @@ month_length year month =
     if month == 2 then (if is_leap year then 29 else 28)
     else (if (month == 4) || (month == 6) || (month == 9) || (month == 11) then 30 else 31)
 
--- The year in which a day falls, so many days behind 1 January of a given year, and its place there from 0.
+-- The year in which a day falls, so many days after 1 January of a given year, and its place there from 0.
 -- At most so many years are counted off.
 unfoldable pub year_of : ℕ → ℕ → ℕ → ℕ × ℕ
 year_of zero year days = (year, days)
 year_of (suc years) year days =
     if nat_lt days (year_length year) then (year, days) else year_of years (year + 1) (days - year_length year)
 
--- The month in which a day of the year falls, so many days behind the first of a given month, and its place
+-- The month in which a day of the year falls, so many days after the first of a given month, and its place
 -- there from 0.
 unfoldable pub month_of : ℕ → ℕ → ℕ → ℕ → ℕ × ℕ
 month_of zero year month days = (month, days)

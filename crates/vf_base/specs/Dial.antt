@@ -9,9 +9,9 @@ pub record Call : Type 0 where
   pub heard : List ℕ
   pub left : List ℕ
 
--- What is told: the connections, newest first, and what the peer gives on each one to come; behind them it gives
+-- What is told: the connections, newest first, and what the peer gives on each one to come; after them it gives
 -- nothing.
-pub record Talk : Type 0 where
+pub record Connections : Type 0 where
   pub calls : List Call
   pub coming : List (List ℕ)
 
@@ -19,13 +19,13 @@ abbrev pub next_of : List (List ℕ) → List ℕ
 next_of [] = []
 next_of (octets ∷ coming) = octets
 
-abbrev pub after_connect : Talk → Talk
-after_connect talk =
-    record { calls = record { said = []; heard = []; left = next_of talk.coming } ∷ talk.calls; coming = drop 1 talk.coming }
+abbrev pub after_connect : Connections → Connections
+after_connect connections =
+    record { calls = record { said = []; heard = []; left = next_of connections.coming } ∷ connections.calls; coming = drop 1 connections.coming }
 
 -- A good connect begins a connection. A call that fails leaves all as it is, except that a failed send has said
--- a front of its octets.
-abbrev pub Connects : Option Talk → Option Talk → Result (Unit {0}) Failed → Type 0
+-- a prefix of its octets.
+abbrev pub Connects : Option Connections → Option Connections → Result (Unit {0}) Failed → Type 0
 Connects None new result = new ≡ None
 Connects (Some old) new (Ok done) = new ≡ Some (after_connect old)
 Connects (Some old) new (Err failed) = new ≡ Some old
@@ -38,13 +38,13 @@ OnNewest (call ∷ calls) holds = holds call calls
 abbrev pub says : List ℕ → Call → Call
 says octets call = record call { said = call.said ++ octets }
 
-abbrev pub Says : Option Talk → Option Talk → List ℕ → Result (Unit {0}) Failed → Type 0
+abbrev pub Says : Option Connections → Option Connections → List ℕ → Result (Unit {0}) Failed → Type 0
 Says None new octets result = new ≡ None
 Says (Some old) new octets (Ok done) =
     OnNewest old.calls (λ call calls. new ≡ Some (record old { calls = says octets call ∷ calls }))
 Says (Some old) new octets (Err failed) =
     OnNewest old.calls (λ call calls.
-    (front rest : List ℕ) × (octets ≡ front ++ rest) × (new ≡ Some (record old { calls = says front call ∷ calls })))
+    (prefix rest : List ℕ) × (octets ≡ prefix ++ rest) × (new ≡ Some (record old { calls = says prefix call ∷ calls })))
 
 -- a connection on which the next octets were heard, none of them only at the end of the stream
 abbrev pub Hears : Call → Call → List ℕ → ℕ → Type 0
@@ -52,7 +52,7 @@ Hears old new into count =
     (left : List ℕ) × (old.left ≡ take count into ++ left) × (count ≡ 0 → old.left ≡ [])
     × (new ≡ record { said = old.said; heard = old.heard ++ take count into; left = left })
 
-abbrev pub Reads : Option Talk → Option Talk → List ℕ → Result ℕ Failed → Type 0
+abbrev pub Reads : Option Connections → Option Connections → List ℕ → Result ℕ Failed → Type 0
 Reads None new into result = new ≡ None
 Reads (Some old) new into (Ok count) =
     OnNewest old.calls (λ call calls.

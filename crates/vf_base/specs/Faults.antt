@@ -15,6 +15,6 @@ HasRisenBy number old new = (old + number ≤ new) ⊎ (new ≡ last_count)
 abbrev pub NeverFalls : ℕ → ℕ → Type 0
 NeverFalls old new = old ≤ new
 
--- a count behind one more
+-- a count after one more
 abbrev pub counted : ℕ → ℕ
 counted count = min (count + 1) last_count

@@ -1,6 +1,6 @@
 -- Links (profile): associations that arrive at one place, each with its number, and what comes and goes on them.
--- An object may tell its story, and then each call is exact; one over real sockets tells none, and then the
--- clauses on the story are empty.
+-- An object may tell its traffic, and then each call is exact; one over real sockets tells none, and then the
+-- clauses on the traffic are empty.
 use Rattle.std.specs.Prelude.{◌≡◌, ℕ, ◌<◌, ◌≤◌, ◌⊎◌, Bool, true, false, not, ◌&&◌, nat_eq, nat_lt, nat_le, List, [], ◌∷◌, ◌++◌, length, Option, None, Some, Result, Ok, Err, if◌then◌else◌}
 use Rattle.std.specs.List.{list_any}
 use Rattle.vf_base.specs.Faults.{HasRisen}
@@ -31,7 +31,7 @@ noted link events notes =
 
 -- What is told: the events that were handed out, oldest first, and those that are left; the octets taken on each
 -- link; the links that were shut; and those a send of which has failed, in the order of the first such sends.
-pub record Story : Type 0 where
+pub record Traffic : Type 0 where
   pub events : List ScriptEvent
   pub left : List ScriptEvent
   pub taken : ℕ → List ℕ
@@ -45,14 +45,14 @@ event_of (given.Octets link moment) piece = Some (script.Octets link moment piec
 event_of (given.Ended link) piece = Some (script.Ended link)
 event_of given.Done piece = None
 
--- the story behind an event, or behind the end
-abbrev pub HandsOut : Story → Option Story → Option ScriptEvent → Type 0
+-- the traffic after an event, or after the end
+abbrev pub HandsOut : Traffic → Option Traffic → Option ScriptEvent → Type 0
 HandsOut old new None = (old.left ≡ []) × (new ≡ Some old)
 HandsOut old new (Some event) =
     (rest : List ScriptEvent) × (old.left ≡ event ∷ rest)
     × (new ≡ Some (record old { events = old.events ++ event ∷ []; left = rest }))
 
-abbrev pub Nexts : Option Story → Option Story → List ℕ → Result LinkEvent LinkFault → Type 0
+abbrev pub Nexts : Option Traffic → Option Traffic → List ℕ → Result LinkEvent LinkFault → Type 0
 Nexts None new piece result = new ≡ None
 Nexts (Some old) new piece (Ok event) = HandsOut old new (event_of event piece)
 Nexts (Some old) new piece (Err fault) = new ≡ Some old
@@ -97,24 +97,24 @@ Counts old new (Err fault.Failed) = HasRisen old new
 Counts old new (Err fault.NoMemory) = new ≡ old
 
 -- so many octets more were taken on a link
-abbrev pub after_octets : ℕ → List ℕ → Story → Story
-after_octets link octets story =
-    record story { taken = λ number. if nat_eq number link then story.taken number ++ octets else story.taken number }
+abbrev pub after_octets : ℕ → List ℕ → Traffic → Traffic
+after_octets link octets traffic =
+    record traffic { taken = λ number. if nat_eq number link then traffic.taken number ++ octets else traffic.taken number }
 
-abbrev pub after_fault : ℕ → Story → Story
-after_fault link story = record story { failed = noted link story.events story.failed }
+abbrev pub after_fault : ℕ → Traffic → Traffic
+after_fault link traffic = record traffic { failed = noted link traffic.events traffic.failed }
 
--- A send that fails has taken a front of its octets.
-abbrev pub Sends : Option Story → Option Story → ℕ → List ℕ → Result (Unit {0}) Failed → Type 0
+-- A send that fails has taken a prefix of its octets.
+abbrev pub Sends : Option Traffic → Option Traffic → ℕ → List ℕ → Result (Unit {0}) Failed → Type 0
 Sends None new link octets result = new ≡ None
 Sends (Some old) new link octets (Ok done) = new ≡ Some (after_octets link octets old)
 Sends (Some old) new link octets (Err failed) =
-    (front rest : List ℕ) × (octets ≡ front ++ rest) × (new ≡ Some (after_fault link (after_octets link front old)))
+    (prefix rest : List ℕ) × (octets ≡ prefix ++ rest) × (new ≡ Some (after_fault link (after_octets link prefix old)))
 
-abbrev pub after_shut : ℕ → Story → Story
-after_shut link story = record story { shut = noted link story.events story.shut }
+abbrev pub after_shut : ℕ → Traffic → Traffic
+after_shut link traffic = record traffic { shut = noted link traffic.events traffic.shut }
 
-abbrev pub Shuts : Option Story → Option Story → ℕ → Type 0
+abbrev pub Shuts : Option Traffic → Option Traffic → ℕ → Type 0
 Shuts None new link = new ≡ None
 Shuts (Some old) new link = new ≡ Some (after_shut link old)
 

@@ -1,5 +1,5 @@
 -- Object identifiers (ISO 8824) within this profile's limits: 2 to 16 arcs, the first at most 2, the
--- second at most 39 behind a first below 2, and no arc above 268,435,455, which four octets can spell.
+-- second at most 39 after a first below 2, and no arc above 268,435,455, which four octets can spell.
 use Rattle.std.specs.Prelude.{ℕ, Bool, false, ◌&&◌, ◌||◌, nat_le, nat_eq, List, [], ◌∷◌, length, IsTrue}
 use Rattle.std.specs.List.{list_all}
 

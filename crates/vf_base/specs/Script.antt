@@ -1,7 +1,7 @@
 -- What links in memory hold (profile).
 use Rattle.std.specs.Prelude.{◌≡◌, ℕ, Bool, true, false, nat_eq, List, [], map, if◌then◌else◌}
 use Rattle.std.specs.List.{flat_map, IsDistinct}
-use Rattle.vf_base.specs.Links.{Story, has_arrived, has_note}
+use Rattle.vf_base.specs.Links.{Traffic, has_arrived, has_note}
 use Rattle.vf_base.specs.Plans.{FailurePlan}
 use Rattle.vf_base.specs.declared.events.ScriptEvent.{ScriptEvent}
 use Rattle.vf_base.specs.declared.events.ScriptEvent.TheVariants as script
@@ -23,8 +23,8 @@ pub record Script : Type 0 where
   pub faults : ℕ
   pub send_faults : ℕ
 
-abbrev pub story_of : Script → Story
-story_of links =
+abbrev pub traffic_of : Script → Traffic
+traffic_of links =
     record { events = links.events; left = links.left; taken = λ link. octets_of link links.pieces; shut = links.shut; failed = links.failed }
 
 abbrev pub is_arrival : ScriptEvent → Bool

@@ -10,12 +10,12 @@ Reads (Some old) new into (Ok count) =
     (rest : List ℕ) × (new ≡ Some rest) × (old ≡ take count into ++ rest) × (count ≡ 0 → old ≡ [])
 Reads (Some old) new into (Err failed) = new ≡ Some old
 
--- The octets were appended, or a front of them where the write failed.
+-- The octets were appended, or a prefix of them where the write failed.
 abbrev pub Writes : Option (List ℕ) → Option (List ℕ) → List ℕ → Result (Unit {0}) Failed → Type 0
 Writes None new octets result = new ≡ None
 Writes (Some old) new octets (Ok done) = new ≡ Some (old ++ octets)
 Writes (Some old) new octets (Err failed) =
-    (front rest : List ℕ) × (octets ≡ front ++ rest) × (new ≡ Some (old ++ front))
+    (prefix rest : List ℕ) × (octets ≡ prefix ++ rest) × (new ≡ Some (old ++ prefix))
 
 -- these octets were read, by any number of calls
 abbrev pub HasRead : Option (List ℕ) → Option (List ℕ) → List ℕ → Type 0

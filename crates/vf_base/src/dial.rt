@@ -1,6 +1,6 @@
 ghost use Rattle.std.specs.Prelude.{◌≡◌, ◌<◌, ◌≤◌, ℕ, Bool, true, false, is_ok, is_err, Option, length, IfOk, OnOk, OnErr, if◌then◌else◌};
 ghost use Rattle.vf_base.specs.Faults.{HasRisen, NeverFalls, counted};
-ghost use Rattle.vf_base.specs.Dial.{Talk, Connects, Says, Reads, goes_on};
+ghost use Rattle.vf_base.specs.Dial.{Connections, Connects, Says, Reads, goes_on};
 ghost use Rattle.vf_base.specs.Plans.{FailurePlan, FailsAsPlanned, FailsWherePlanned};
 
 use crate::Failed;
@@ -8,7 +8,7 @@ use crate::Failed;
 /// One connection after another to one peer.
 pub trait Dial {
     /// The connections with what was said and heard on each, where the dial tells it.
-    ghost told: { Self → Option Talk };
+    ghost told: { Self → Option Connections };
 
     /// A connection stands: from a good `connect` to a failed call, a read of 0 or a `close`.
     ghost stands: { Self → Bool };
@@ -24,7 +24,7 @@ pub trait Dial {
 
     fn connect(&mut self) -> Result<(), Failed>
         requires { stands self.old ≡ false }
-        ensures talk { Connects (told self.old) (told self.new) result }
+        ensures connections { Connects (told self.old) (told self.new) result }
         ensures plan { FailsWherePlanned (plan self.old) (plan self.new) (is_err result) }
         ensures stands { stands self.new ≡ is_ok result }
         ensures lost { lost_count self.new ≡ (if is_ok result then lost_count self.old else counted (lost_count self.old)) }
@@ -37,7 +37,7 @@ pub trait Dial {
         requires stands { stands self.old ≡ true }
         requires room { 0 < length into.old }
         ensures within { IfOk result (λ count. count ≤ length into.new) }
-        ensures talk { Reads (told self.old) (told self.new) into.new result }
+        ensures connections { Reads (told self.old) (told self.new) into.new result }
         ensures plan { FailsAsPlanned (plan self.old) (plan self.new) (is_err result) }
         ensures stands { stands self.new ≡ goes_on result }
         ensures lost { lost_count self.new ≡ (if goes_on result then lost_count self.old else counted (lost_count self.old)) }
@@ -45,10 +45,10 @@ pub trait Dial {
         ensures falls { NeverFalls (fault_count self.old) (fault_count self.new) }
         ensures failed { OnErr result (HasRisen (fault_count self.old) (fault_count self.new)) };
 
-    /// Sends all of the octets, or a front of them where it fails.
+    /// Sends all of the octets, or a prefix of them where it fails.
     fn send(&mut self, octets: &[u8]) -> Result<(), Failed>
         requires { stands self.old ≡ true }
-        ensures talk { Says (told self.old) (told self.new) octets.now result }
+        ensures connections { Says (told self.old) (told self.new) octets.now result }
         ensures plan { FailsWherePlanned (plan self.old) (plan self.new) (is_err result) }
         ensures stands { stands self.new ≡ is_ok result }
         ensures lost { lost_count self.new ≡ (if is_ok result then lost_count self.old else counted (lost_count self.old)) }
@@ -58,7 +58,7 @@ pub trait Dial {
 
     /// Ends the connection, where one stands.
     fn close(&mut self)
-        ensures talk { told self.new ≡ told self.old }
+        ensures connections { told self.new ≡ told self.old }
         ensures plan { plan self.new ≡ plan self.old }
         ensures stands { stands self.new ≡ false }
         ensures lost { lost_count self.new ≡ lost_count self.old }

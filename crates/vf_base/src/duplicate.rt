@@ -1,6 +1,6 @@
 ghost use Rattle.std.specs.Prelude.{◌≡◌, IfOk};
 
-use crate::{Name, NoMemory, Octets};
+use crate::{Contents, Name, NoMemory, Octets, Sequence};
 use std::alloc::Global;
 
 /// A type whose values can be copied where memory is there, so that lists and options of them can be.
@@ -19,6 +19,20 @@ impl Duplicate for Octets {
 
 impl Duplicate for Name {
     fn duplicate(&self, alloc: Global) -> Result<Name, NoMemory> {
+        let made = self.copy(alloc)?;
+        Ok(made)
+    }
+}
+
+impl Duplicate for Contents {
+    fn duplicate(&self, alloc: Global) -> Result<Contents, NoMemory> {
+        let made = self.copy(alloc)?;
+        Ok(made)
+    }
+}
+
+impl<T: Duplicate> Duplicate for Sequence<T> {
+    fn duplicate(&self, alloc: Global) -> Result<Sequence<T>, NoMemory> {
         let made = self.copy(alloc)?;
         Ok(made)
     }

@@ -36,7 +36,7 @@ pub enum BaseError {
     BadName,
     /// Not 2 to 16 arcs, or an arc outside its range.
     BadOid,
-    /// A moment behind the year 9999.
+    /// A moment after the year 9999.
     BadMoment,
     /// Memory is wanting.
     NoMemory,

@@ -13,7 +13,7 @@ pub fn read_up_to<S: Source>(
 ) -> Result<Vec<u8>, ReadFault>
     ensures octets { IfOk result (λ octets. HasRead (S.left source.old) (S.left source.new) octets.items) }
     ensures end { IfOk result (λ octets. length octets.items ≤ limit → IsAtEnd (S.left source.new)) }
-    ensures lost { OnErr result ((front : List ℕ) × HasRead (S.left source.old) (S.left source.new) front) }
+    ensures lost { OnErr result ((prefix : List ℕ) × HasRead (S.left source.old) (S.left source.new) prefix) }
     ensures ok { OnOk result (S.fault_count source.new ≡ S.fault_count source.old) }
     ensures falls { NeverFalls (S.fault_count source.old) (S.fault_count source.new) }
     ensures failed { IsErrOf result ReadFault.Failed → HasRisen (S.fault_count source.old) (S.fault_count source.new) }

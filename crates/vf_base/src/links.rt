@@ -1,6 +1,6 @@
 ghost use Rattle.std.specs.Prelude.{◌≡◌, ℕ, Bool, Option, is_err, OnOk, OnErr};
 ghost use Rattle.vf_base.specs.Faults.{HasRisen, NeverFalls};
-ghost use Rattle.vf_base.specs.Links.{Story, Nexts, Fills, Rises, Turns, Counts, Sends, Shuts};
+ghost use Rattle.vf_base.specs.Links.{Traffic, Nexts, Fills, Rises, Turns, Counts, Sends, Shuts};
 ghost use Rattle.vf_base.specs.Plans.{FailurePlan, FailsAsPlanned, FailsWherePlanned, has_failed};
 
 use crate::{Failed, LinkEvent, LinkFault};
@@ -9,7 +9,7 @@ use std::alloc::Global;
 /// Many associations that come to one place.
 pub trait Links {
     /// What was handed out, taken, shut and lost so far, where the object tells it.
-    ghost told: { Self → Option Story };
+    ghost told: { Self → Option Traffic };
 
     /// At most so many events are still handed out.
     ghost turns: { Self → ℕ };
@@ -35,7 +35,7 @@ pub trait Links {
     /// The next event. `piece` is cleared, and filled with the octets that came.
     fn next(&mut self, alloc: Global, piece: &mut Vec<u8>) -> Result<LinkEvent, LinkFault>
         ensures piece { Fills piece.new.items result }
-        ensures story { Nexts (told self.old) (told self.new) piece.new.items result }
+        ensures traffic { Nexts (told self.old) (told self.new) piece.new.items result }
         ensures plan { FailsAsPlanned (plan self.old) (plan self.new) (has_failed result) }
         ensures send_plan { send_plan self.new ≡ send_plan self.old }
         ensures link { Rises (last_link self.old) (last_link self.new) result }
@@ -44,9 +44,9 @@ pub trait Links {
         ensures falls { NeverFalls (fault_count self.old) (fault_count self.new) }
         ensures send_count { send_fault_count self.new ≡ send_fault_count self.old };
 
-    /// Sends octets on a link: all of them, or a front of them where it fails.
+    /// Sends octets on a link: all of them, or a prefix of them where it fails.
     fn send(&mut self, link: u32, octets: &[u8]) -> Result<(), Failed>
-        ensures story { Sends (told self.old) (told self.new) link octets.now result }
+        ensures traffic { Sends (told self.old) (told self.new) link octets.now result }
         ensures plan { plan self.new ≡ plan self.old }
         ensures send_plan { FailsWherePlanned (send_plan self.old) (send_plan self.new) (is_err result) }
         ensures link { last_link self.new ≡ last_link self.old }
@@ -59,7 +59,7 @@ pub trait Links {
 
     /// Ends a link.
     fn shut(&mut self, link: u32)
-        ensures story { Shuts (told self.old) (told self.new) link }
+        ensures traffic { Shuts (told self.old) (told self.new) link }
         ensures plan { plan self.new ≡ plan self.old }
         ensures send_plan { send_plan self.new ≡ send_plan self.old }
         ensures link { last_link self.new ≡ last_link self.old }

@@ -46,8 +46,8 @@ impl<'a> Source for SliceSource<'a> {
             return Err(fail(&mut self.faults));
         }
         let count = into.len().min(self.octets.len());
-        let (front, rest) = self.octets.split_at(count);
-        into[..count].copy_from_slice(front);
+        let (prefix, rest) = self.octets.split_at(count);
+        into[..count].copy_from_slice(prefix);
         self.octets = rest;
         Ok(count)
     }
@@ -101,8 +101,8 @@ impl Sink for VecSink {
 
     fn write(&mut self, octets: &[u8]) -> Result<(), Failed> {
         if self.plan.fails() {
-            let (front, _) = octets.split_at(octets.len() / 2);
-            let _ = self.octets.extend_from_slice(front);
+            let (prefix, _) = octets.split_at(octets.len() / 2);
+            let _ = self.octets.extend_from_slice(prefix);
             return Err(fail(&mut self.faults));
         }
         if self.octets.extend_from_slice(octets).is_err() {

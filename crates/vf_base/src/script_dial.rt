@@ -64,16 +64,16 @@ fn fill(into: &mut [u8], from: &[u8]) -> usize
     requires { 0 < length into.old }
     ensures within { result ≤ length into.new }
     ensures inside { result ≤ length from.now }
-    ensures front { take result into.new ≡ take result from.now }
+    ensures prefix { take result into.new ≡ take result from.now }
     ensures last { result ≡ 0 → from.now ≡ [] }
 {
     let count = into.len().min(from.len());
-    let (front, _) = from.split_at(count);
-    into[..count].copy_from_slice(front);
+    let (prefix, _) = from.split_at(count);
+    into[..count].copy_from_slice(prefix);
     count
 }
 
-/// A dial in memory. `heard` has the octets of each connection in turn, and a connection behind them hears
+/// A dial in memory. `heard` has the octets of each connection in turn, and a connection after them hears
 /// nothing. The calls of the numbers in `failing`, from 1 over `connect`, `read` and `send`, fail, a send with half
 /// of its octets said.
 #[derive(Drop)]
@@ -96,7 +96,7 @@ impl Model for ScriptDial {
     ghost Value = { Dialled };
 
     ghost view = { λ dial. record {
-      talk = record { calls = option_to_list dial.last ++ reverse dial.earlier.items; coming = reverse dial.coming.items };
+      connections = record { calls = option_to_list dial.last ++ reverse dial.earlier.items; coming = reverse dial.coming.items };
       stands = dial.stands;
       lost = dial.lost;
       plan = dial.plan;
@@ -112,7 +112,7 @@ impl ScriptDial {
         mut heard: Vec<Octets>,
         failing: Vec<u64>,
     ) -> Result<ScriptDial, NoMemory>
-        ensures { IfOk result (λ dial. dial ≡ record { talk = record { calls = []; coming = heard.items }; stands = false; lost = 0; plan = record { failing = failing.items; calls = 0 }; faults = 0 }) }
+        ensures { IfOk result (λ dial. dial ≡ record { connections = record { calls = []; coming = heard.items }; stands = false; lost = 0; plan = record { failing = failing.items; calls = 0 }; faults = 0 }) }
     {
         heard.reverse();
         Ok(ScriptDial {
@@ -139,7 +139,7 @@ impl ScriptDial {
 
     /// Begins a connection.
     fn begin(&mut self) -> Result<(), NoMemory>
-        ensures ok { OnOk result (self.new ≡ record self.old { talk = after_connect self.old.talk; stands = true }) }
+        ensures ok { OnOk result (self.new ≡ record self.old { connections = after_connect self.old.connections; stands = true }) }
         ensures err { OnErr result (self.new ≡ self.old) }
     {
         self.earlier.reserve(1)?;
@@ -194,7 +194,7 @@ impl ScriptDial {
 }
 
 impl Dial for ScriptDial {
-    ghost told = { λ dial. Some dial.talk };
+    ghost told = { λ dial. Some dial.connections };
 
     ghost stands = { λ dial. dial.stands };
 
@@ -224,8 +224,8 @@ impl Dial for ScriptDial {
 
     fn send(&mut self, octets: &[u8]) -> Result<(), Failed> {
         if self.plan.fails() {
-            let (front, _) = octets.split_at(octets.len() / 2);
-            let _ = self.say(front);
+            let (prefix, _) = octets.split_at(octets.len() / 2);
+            let _ = self.say(prefix);
             return Err(self.fail());
         }
         if self.say(octets).is_err() {
@@ -260,7 +260,7 @@ fn next_octets(alloc: Global, coming: &mut Vec<Octets>) -> Result<Octets, NoMemo
     Ok(octets)
 }
 
-/// Puts the last connection behind the earlier ones, which have room.
+/// Puts the last connection after the earlier ones, which have room.
 fn set_by(earlier: &mut Vec<Line>, last: &mut Option<Line>)
     requires { vec_len earlier.old < vec_capacity earlier.old }
     ensures earlier { reverse earlier.new.items ≡ option_to_list last.old ++ reverse earlier.old.items }
@@ -271,7 +271,7 @@ fn set_by(earlier: &mut Vec<Line>, last: &mut Option<Line>)
     }
 }
 
-/// The line at a place, the last one standing behind the earlier ones.
+/// The line at a place, the last one standing after the earlier ones.
 fn line_at<'a>(earlier: &'a [Line], last: &'a Option<Line>, place: usize) -> Option<&'a Line>
     ensures { option_copied result ≡ slice_get (earlier.now ++ option_to_list last.now) place }
 {

@@ -2,7 +2,7 @@ ghost use Rattle.std.specs.Prelude.{◌≡◌, ◌≤◌, ◌++◌, [], ◌∷�
 ghost use Rattle.std.specs.List.{count_by};
 ghost use Rattle.vf_base.specs.Faults.{HasRisen};
 ghost use Rattle.vf_base.specs.Links.{after_octets, after_fault, noted, is_script, arrives as arrives_test, has_arrived as arrived_test, has_note as note_test};
-ghost use Rattle.vf_base.specs.Script.{OnceEach, story_of, is_arrival as arrival_test};
+ghost use Rattle.vf_base.specs.Script.{OnceEach, traffic_of, is_arrival as arrival_test};
 
 use crate::plan::{Plan, fail};
 use crate::{Failed, LinkEvent, LinkFault, Links, NoMemory, Octets, Piece, ScriptEvent};
@@ -110,8 +110,8 @@ impl ScriptLinks {
 
     /// Takes octets on a link.
     fn take(&mut self, link: u32, octets: &[u8]) -> Result<(), NoMemory>
-        ensures ok { OnOk result (story_of self.new ≡ after_octets link octets.now (story_of self.old)) }
-        ensures err { OnErr result (story_of self.new ≡ story_of self.old) }
+        ensures ok { OnOk result (traffic_of self.new ≡ after_octets link octets.now (traffic_of self.old)) }
+        ensures err { OnErr result (traffic_of self.new ≡ traffic_of self.old) }
         ensures last { self.new.last ≡ self.old.last }
         ensures plan { self.new.plan ≡ self.old.plan }
         ensures send_plan { self.new.send_plan ≡ self.old.send_plan }
@@ -125,7 +125,7 @@ impl ScriptLinks {
 
     /// Counts a send that failed, and notes its link.
     fn fail(&mut self, link: u32) -> Failed
-        ensures story { story_of self.new ≡ after_fault link (story_of self.old) }
+        ensures traffic { traffic_of self.new ≡ after_fault link (traffic_of self.old) }
         ensures last { self.new.last ≡ self.old.last }
         ensures plan { self.new.plan ≡ self.old.plan }
         ensures send_plan { self.new.send_plan ≡ self.old.send_plan }
@@ -189,7 +189,7 @@ fn note(notes: &mut Vec<(u32, u64)>, events: &[ScriptEvent], link: u32)
 }
 
 impl Links for ScriptLinks {
-    ghost told = { λ links. Some (story_of links) };
+    ghost told = { λ links. Some (traffic_of links) };
 
     ghost turns = { λ links. length links.left };
 
@@ -273,11 +273,11 @@ impl Links for ScriptLinks {
 /// The octets that a send takes: half of them where it is to fail.
 fn planned(octets: &[u8], fails: bool) -> &[u8]
     ensures whole { fails ≡ false → result.now ≡ octets.now }
-    ensures front { (rest : List ℕ) × (octets.now ≡ result.now ++ rest) }
+    ensures prefix { (rest : List ℕ) × (octets.now ≡ result.now ++ rest) }
 {
     if fails {
-        let (front, _) = octets.split_at(octets.len() / 2);
-        return front;
+        let (prefix, _) = octets.split_at(octets.len() / 2);
+        return prefix;
     }
     octets
 }

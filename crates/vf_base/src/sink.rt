@@ -16,7 +16,7 @@ pub trait Sink {
     /// The calls that are to fail, where the sink tells them.
     ghost plan: { Self → Option FailurePlan };
 
-    /// Takes all of the octets, or a front of them where it fails.
+    /// Takes all of the octets, or a prefix of them where it fails.
     fn write(&mut self, octets: &[u8]) -> Result<(), Failed>
         ensures octets { Writes (taken self.old) (taken self.new) octets.now result }
         ensures plan { FailsWherePlanned (plan self.old) (plan self.new) (is_err result) }

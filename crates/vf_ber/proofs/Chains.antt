@@ -18,73 +18,73 @@ pub record Chain {X Y Z : Type 0} (F : Language X) (G : X → List ℕ → Langu
 
 -- ---- the first alone
 
-open_front : {X Y Z : Type 0} (F : Language X) (G : X → List ℕ → Language Y) (H : Language Z) (make : X → Y → Z) → Chain F G H make → (l : Limits) (t : List ℕ) → Open F l t → Open H l t
-open_front F G H make chain l t (w, x, f) =
+open_prefix : {X Y Z : Type 0} (F : Language X) (G : X → List ℕ → Language Y) (H : Language Z) (make : X → Y → Z) → Chain F G H make → (l : Limits) (t : List ℕ) → Open F l t → Open H l t
+open_prefix F G H make chain l t (w, x, f) =
     let more = chain.nonempty l (t ++ w) x f in
     (w ++ more.0, make x more.1, subst (λ (o : List ℕ). H l o (make x more.1)) (append_assoc t w more.0) (chain.join l (t ++ w) more.0 x more.1 f more.2))
 
-ruled_front : {X Y Z : Type 0} (F : Language X) (G : X → List ℕ → Language Y) (H : Language Z) (make : X → Y → Z) → Chain F G H make → (l : Limits) (t : List ℕ) → Ruled F l t → Ruled H l t
-ruled_front F G H make chain l t ruled word behind rest z h e =
+ruled_prefix : {X Y Z : Type 0} (F : Language X) (G : X → List ℕ → Language Y) (H : Language Z) (make : X → Y → Z) → Chain F G H make → (l : Limits) (t : List ℕ) → Ruled F l t → Ruled H l t
+ruled_prefix F G H make chain l t ruled word tail rest z h e =
     let s = chain.split l word z h in
-    ruled s.0 (s.1 ++ behind) rest s.2 s.4 (sym (append_assoc s.0 s.1 behind) ∙ ap (λ o. o ++ behind) (sym s.6) ∙ e)
+    ruled s.0 (s.1 ++ tail) rest s.2 s.4 (sym (append_assoc s.0 s.1 tail) ∙ ap (λ o. o ++ tail) (sym s.6) ∙ e)
 
-fault_front : {X Y Z : Type 0} (F : Language X) (G : X → List ℕ → Language Y) (H : Language Z) (make : X → Y → Z) → Chain F G H make
+fault_prefix : {X Y Z : Type 0} (F : Language X) (G : X → List ℕ → Language Y) (H : Language Z) (make : X → Y → Z) → Chain F G H make
     → (octets : List ℕ) (left : ℕ) (reason other : List ℕ → Type 0) → ((t : List ℕ) → reason t → other t) → FaultAt F octets left reason → FaultAt H octets left other
-fault_front F G H make chain octets left reason other to f =
+fault_prefix F G H make chain octets left reason other to f =
     record {
       prefix = f.prefix;
       octet = f.octet;
       rest = f.rest;
       parts = f.parts;
       left_is = f.left_is;
-      before = elim f.before [ inl e ↦ inl e | inr o ↦ inr (open_front F G H make chain bounded f.prefix o) ];
+      before = elim f.before [ inl e ↦ inl e | inr o ↦ inr (open_prefix F G H make chain bounded f.prefix o) ];
       after = to (f.prefix ++ (f.octet ∷ [])) f.after;
     }
 
-pub front_failed : {X Y Z : Type 0} (F : Language X) (G : X → List ℕ → Language Y) (H : Language Z) (make : X → Y → Z) → Chain F G H make
+pub prefix_failed : {X Y Z : Type 0} (F : Language X) (G : X → List ℕ → Language Y) (H : Language Z) (make : X → Y → Z) → Chain F G H make
     → (octets : List ℕ) (fault : Fault) → Failed F octets fault → Failed H octets fault
-front_failed F G H make chain octets faults.Short (next, w, x, f) =
+prefix_failed F G H make chain octets faults.Short (next, w, x, f) =
     let more = chain.nonempty bounded (octets ++ (next ∷ w)) x f in (
       next,
       w ++ more.0,
       make x more.1,
       subst (λ (o : List ℕ). H bounded o (make x more.1)) (append_assoc octets (next ∷ w) more.0) (chain.join bounded (octets ++ (next ∷ w)) more.0 x more.1 f more.2),
     )
-front_failed F G H make chain octets (faults.Bad left) f = fault_front F G H make chain octets left _ _ (ruled_front F G H make chain free) f
-front_failed F G H make chain octets (faults.Deep left) f =
-    fault_front F G H make chain octets left _ _ (λ t r. (open_front F G H make chain free t r.0, ruled_front F G H make chain shallow t r.1)) f
-front_failed F G H make chain octets (faults.Long left) f =
-    fault_front F G H make chain octets left _ _ (λ t r. (open_front F G H make chain shallow t r.0, ruled_front F G H make chain bounded t r.1)) f
-front_failed F G H make chain octets faults.NoMemory f = tt
+prefix_failed F G H make chain octets (faults.Bad left) f = fault_prefix F G H make chain octets left _ _ (ruled_prefix F G H make chain free) f
+prefix_failed F G H make chain octets (faults.Deep left) f =
+    fault_prefix F G H make chain octets left _ _ (λ t r. (open_prefix F G H make chain free t r.0, ruled_prefix F G H make chain shallow t r.1)) f
+prefix_failed F G H make chain octets (faults.Long left) f =
+    fault_prefix F G H make chain octets left _ _ (λ t r. (open_prefix F G H make chain shallow t r.0, ruled_prefix F G H make chain bounded t r.1)) f
+prefix_failed F G H make chain octets faults.NoMemory f = tt
 
 -- ---- the second after the first
 
-open_behind : {X Y Z : Type 0} (F : Language X) (G : X → List ℕ → Language Y) (H : Language Z) (make : X → Y → Z) → Chain F G H make
+open_tail : {X Y Z : Type 0} (F : Language X) (G : X → List ℕ → Language Y) (H : Language Z) (make : X → Y → Z) → Chain F G H make
     → (l : Limits) (a t : List ℕ) (x : X) → F bounded a x → Open (G x a) l t → Open H l (a ++ t)
-open_behind F G H make chain l a t x f (w, y, g) =
+open_tail F G H make chain l a t x f (w, y, g) =
     (w, make x y, subst (λ (o : List ℕ). H l o (make x y)) (sym (append_assoc a t w)) (chain.join l a (t ++ w) x y (chain.lift l a x f) g))
 
-ruled_behind : {X Y Z : Type 0} (F : Language X) (G : X → List ℕ → Language Y) (H : Language Z) (make : X → Y → Z) → Chain F G H make
+ruled_tail : {X Y Z : Type 0} (F : Language X) (G : X → List ℕ → Language Y) (H : Language Z) (make : X → Y → Z) → Chain F G H make
     → (l : Limits) (a t : List ℕ) (x : X) → F bounded a x → Ruled (G x a) l t → Ruled H l (a ++ t)
-ruled_behind F G H make chain l a t x f ruled word behind rest z h e =
+ruled_tail F G H make chain l a t x f ruled word tail rest z h e =
     let s = chain.split l word z h in
-    let spelled : s.0 ++ (s.1 ++ behind) ≡ a ++ (t ++ rest) =
-    sym (append_assoc s.0 s.1 behind) ∙ ap (λ o. o ++ behind) (sym s.6) ∙ e ∙ append_assoc a t rest in
-    let same = chain.unique l bounded s.0 a (s.1 ++ behind) (t ++ rest) s.2 x s.4 f spelled in
+    let spelled : s.0 ++ (s.1 ++ tail) ≡ a ++ (t ++ rest) =
+    sym (append_assoc s.0 s.1 tail) ∙ ap (λ o. o ++ tail) (sym s.6) ∙ e ∙ append_assoc a t rest in
+    let same = chain.unique l bounded s.0 a (s.1 ++ tail) (t ++ rest) s.2 x s.4 f spelled in
     let at_x : G x s.0 l s.1 s.3 = subst (λ (v : _). G v s.0 l s.1 s.3) same.1 s.5 in
     let at_a : G x a l s.1 s.3 = subst (λ (v : List ℕ). G x v l s.1 s.3) same.0 at_x in
-    let shorter : a ++ (s.1 ++ behind) ≡ a ++ (t ++ rest) = ap (λ o. o ++ (s.1 ++ behind)) (sym same.0) ∙ spelled in
-    ruled s.1 behind rest s.3 at_a (append_cancel_left a (s.1 ++ behind) (t ++ rest) shorter)
+    let shorter : a ++ (s.1 ++ tail) ≡ a ++ (t ++ rest) = ap (λ o. o ++ (s.1 ++ tail)) (sym same.0) ∙ spelled in
+    ruled s.1 tail rest s.3 at_a (append_cancel_left a (s.1 ++ tail) (t ++ rest) shorter)
 
-pub behind_got : {X Y Z : Type 0} (F : Language X) (G : X → List ℕ → Language Y) (H : Language Z) (make : X → Y → Z) → Chain F G H make
+pub tail_got : {X Y Z : Type 0} (F : Language X) (G : X → List ℕ → Language Y) (H : Language Z) (make : X → Y → Z) → Chain F G H make
     → (octets rest after a : List ℕ) (x : X) (y : Y) → octets ≡ a ++ rest → F bounded a x → Got (G x a) rest y after → Got H octets (make x y) after
-behind_got F G H make chain octets rest after a x y e f (b, is, g) =
+tail_got F G H make chain octets rest after a x y e f (b, is, g) =
     (a ++ b, e ∙ ap (λ o. a ++ o) is ∙ sym (append_assoc a b after), chain.join bounded a b x y f g)
 
-fault_behind : {X Y Z : Type 0} (F : Language X) (G : X → List ℕ → Language Y) (H : Language Z) (make : X → Y → Z) → Chain F G H make
+fault_tail : {X Y Z : Type 0} (F : Language X) (G : X → List ℕ → Language Y) (H : Language Z) (make : X → Y → Z) → Chain F G H make
     → (octets rest a : List ℕ) (x : X) → octets ≡ a ++ rest → F bounded a x → (left : ℕ) (reason other : List ℕ → Type 0) → ((t : List ℕ) → reason t → other (a ++ t))
     → FaultAt (G x a) rest left reason → FaultAt H octets left other
-fault_behind F G H make chain octets rest a x e f left reason other to at =
+fault_tail F G H make chain octets rest a x e f left reason other to at =
     record {
       prefix = a ++ at.prefix;
       octet = at.octet;
@@ -92,26 +92,26 @@ fault_behind F G H make chain octets rest a x e f left reason other to at =
       parts = e ∙ ap (λ o. a ++ o) at.parts ∙ sym (append_assoc a at.prefix (at.octet ∷ at.rest));
       left_is = at.left_is;
       before = inr (elim at.before [
-        | inl none ↦ open_behind F G H make chain bounded a at.prefix x f (subst (λ (o : List ℕ). Open (G x a) bounded o) (sym none) (chain.nonempty bounded a x f))
-        | inr o ↦ open_behind F G H make chain bounded a at.prefix x f o
+        | inl none ↦ open_tail F G H make chain bounded a at.prefix x f (subst (λ (o : List ℕ). Open (G x a) bounded o) (sym none) (chain.nonempty bounded a x f))
+        | inr o ↦ open_tail F G H make chain bounded a at.prefix x f o
       ]);
       after = subst other (sym (append_assoc a at.prefix (at.octet ∷ []))) (to (at.prefix ++ (at.octet ∷ [])) at.after);
     }
 
-pub behind_failed : {X Y Z : Type 0} (F : Language X) (G : X → List ℕ → Language Y) (H : Language Z) (make : X → Y → Z) → Chain F G H make
+pub tail_failed : {X Y Z : Type 0} (F : Language X) (G : X → List ℕ → Language Y) (H : Language Z) (make : X → Y → Z) → Chain F G H make
     → (octets rest a : List ℕ) (x : X) (fault : Fault) → octets ≡ a ++ rest → F bounded a x → Failed (G x a) rest fault → Failed H octets fault
-behind_failed F G H make chain octets rest a x faults.Short e f (next, w, y, g) = (
+tail_failed F G H make chain octets rest a x faults.Short e f (next, w, y, g) = (
   next,
   w,
   make x y,
   subst (λ (o : List ℕ). H bounded o (make x y)) (sym (ap (λ o. o ++ (next ∷ w)) e ∙ append_assoc a rest (next ∷ w))) (chain.join bounded a (rest ++ (next ∷ w)) x y f g),
 )
-behind_failed F G H make chain octets rest a x (faults.Bad left) e f at = fault_behind F G H make chain octets rest a x e f left _ _ (λ t r. ruled_behind F G H make chain free a t x f r) at
-behind_failed F G H make chain octets rest a x (faults.Deep left) e f at =
-    fault_behind F G H make chain octets rest a x e f left _ _ (λ t r. (open_behind F G H make chain free a t x f r.0, ruled_behind F G H make chain shallow a t x f r.1)) at
-behind_failed F G H make chain octets rest a x (faults.Long left) e f at =
-    fault_behind F G H make chain octets rest a x e f left _ _ (λ t r. (open_behind F G H make chain shallow a t x f r.0, ruled_behind F G H make chain bounded a t x f r.1)) at
-behind_failed F G H make chain octets rest a x faults.NoMemory e f at = tt
+tail_failed F G H make chain octets rest a x (faults.Bad left) e f at = fault_tail F G H make chain octets rest a x e f left _ _ (λ t r. ruled_tail F G H make chain free a t x f r) at
+tail_failed F G H make chain octets rest a x (faults.Deep left) e f at =
+    fault_tail F G H make chain octets rest a x e f left _ _ (λ t r. (open_tail F G H make chain free a t x f r.0, ruled_tail F G H make chain shallow a t x f r.1)) at
+tail_failed F G H make chain octets rest a x (faults.Long left) e f at =
+    fault_tail F G H make chain octets rest a x e f left _ _ (λ t r. (open_tail F G H make chain shallow a t x f r.0, ruled_tail F G H make chain bounded a t x f r.1)) at
+tail_failed F G H make chain octets rest a x faults.NoMemory e f at = tt
 
 -- ---- an octet that doesn't pass a test
 
@@ -141,7 +141,7 @@ test_failed L octets prefix rest octet left test faults.NoMemory parts is before
 -- The words of M are those of L, where the octets with what is after them are as P says.
 pub record Carries {X Y : Type 0} (L : Language X) (M : Language Y) (make : X → Y) (P : List ℕ → Type 0) : Type 0 where
   pub onto : (l : Limits) (word : List ℕ) (x : X) → L l word x → M l word (make x)
-  pub back : (l : Limits) (word behind : List ℕ) (y : Y) → M l word y → P (word ++ behind) → (x : X) × L l word x
+  pub back : (l : Limits) (word tail : List ℕ) (y : Y) → M l word y → P (word ++ tail) → (x : X) × L l word x
 
 carried_open : {X Y : Type 0} (L : Language X) (M : Language Y) (make : X → Y) (P : List ℕ → Type 0) → Carries L M make P → (l : Limits) (t : List ℕ) → Open L l t → Open M l t
 carried_open L M make P carries l t (w, x, h) = (w, make x, carries.onto l (t ++ w) x h)
@@ -163,9 +163,9 @@ carried_fault L M make P carries octets left reason other holds to f =
 
 carried_ruled : {X Y : Type 0} (L : Language X) (M : Language Y) (make : X → Y) (P : List ℕ → Type 0) → Carries L M make P → (l : Limits) (t : List ℕ)
     → ((more : List ℕ) → P (t ++ more)) → Ruled L l t → Ruled M l t
-carried_ruled L M make P carries l t holds ruled word behind rest y m e =
-    let x = carries.back l word behind y m (subst P (sym e) (holds rest)) in
-    ruled word behind rest x.0 x.1 e
+carried_ruled L M make P carries l t holds ruled word tail rest y m e =
+    let x = carries.back l word tail y m (subst P (sym e) (holds rest)) in
+    ruled word tail rest x.0 x.1 e
 
 pub carried_failed : {X Y : Type 0} (L : Language X) (M : Language Y) (make : X → Y) (P : List ℕ → Type 0) → Carries L M make P
     → (octets : List ℕ) (fault : Fault) → ((prefix rest more : List ℕ) (octet : ℕ) → octets ≡ prefix ++ (octet ∷ rest) → P ((prefix ++ (octet ∷ [])) ++ more))

@@ -1,4 +1,4 @@
--- Numbers in octets: what some of the octets in front say of the number.
+-- Numbers in octets: what the first octets say of the number.
 use Rattle.std.proofs.Common.{◌≡◌, ◌≢◌, ℕ, zero, suc, ◌+◌, ◌-◌, ◌*◌, ◌/◌, ◌%◌, ◌<◌, ◌≤◌, ◌^◌, List, [], ◌∷◌, length, refl, ap, sym, ◌∙◌, arith, add-one, inl, inr, ◌⊎◌}
 use Rattle.vf_ber.specs.Spellings.{AreOctets, number_in}
 use Rattle.vf_ber.specs.Steps.{grown, shifted}
@@ -26,7 +26,7 @@ pub shifted_grown : (others n : ℕ) → shifted others (grown others n) ≡ n
 shifted_grown zero n = refl
 shifted_grown (suc others) n = omega (arith, shifted_grown others (256 * n))
 
--- the least number with these octets in front
+-- the least number that begins with these octets
 pub grown_least : (others n : ℕ) → grown others (shifted others n) ≤ n
 grown_least zero n = omega arith
 grown_least (suc others) n = omega (arith, grown_least others n, grown_more others (256 * (shifted others n / 256)) (shifted others n) (omega arith))

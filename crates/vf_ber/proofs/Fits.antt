@@ -129,38 +129,38 @@ fits_without shallow (Within r) prefix n some f = refl
 fits_without bounded (Within r) prefix n some f = le-leb prefix r (omega (arith, leb-true (prefix + n) r f))
 
 -- a value before the rest of an exact room
-pub exact_front : (l : Limits) (n m : ℕ) → m ≢ 1 → fits l (Exact (n + m)) n ≡ true
-exact_front l n m some = exact_from n (n + m) (elim (cases_eq m 0) [ inl none ↦ inl (omega arith) | inr more ↦ inr (omega arith) ])
+pub exact_prefix : (l : Limits) (n m : ℕ) → m ≢ 1 → fits l (Exact (n + m)) n ≡ true
+exact_prefix l n m some = exact_from n (n + m) (elim (cases_eq m 0) [ inl none ↦ inl (omega arith) | inr more ↦ inr (omega arith) ])
 
 pub exact_rest : (l : Limits) (n r : ℕ) → fits l (Exact r) n ≡ true → (n ≤ r) × (r - n ≢ 1)
 exact_rest l n r f = elim (exact_cases n r f) [ inl e ↦ (omega arith, λ h. omega arith) | inr g ↦ (omega arith, λ h. omega arith) ]
 
 -- a value, and the end of contents after it
-pub end_behind : (l : Limits) (room : Room) (n : ℕ) → 0 < n → fits l (less room 2) n ≡ true → fits l (less room n) 2 ≡ true
-end_behind l (Exact r) n some f =
+pub end_tail : (l : Limits) (room : Room) (n : ℕ) → 0 < n → fits l (less room 2) n ≡ true → fits l (less room n) 2 ≡ true
+end_tail l (Exact r) n some f =
     exact_from 2 (r - n) (elim (exact_cases n (r - 2) f) [ inl e ↦ inl (omega arith) | inr g ↦ inr (omega arith) ])
-end_behind free (Within r) n some f = refl
-end_behind shallow (Within r) n some f = refl
-end_behind bounded (Within r) n some f = le-leb 2 (r - n) (omega (arith, leb-true n (r - 2) f))
+end_tail free (Within r) n some f = refl
+end_tail shallow (Within r) n some f = refl
+end_tail bounded (Within r) n some f = le-leb 2 (r - n) (omega (arith, leb-true n (r - 2) f))
 
-pub behind_end : (l : Limits) (room : Room) (n m : ℕ) → 0 < n → fits l (less room 2) n ≡ true → fits l (less room n) m ≡ true → fits l room (n + m) ≡ true
-behind_end l (Exact r) n m some f g =
+pub tail_end : (l : Limits) (room : Room) (n m : ℕ) → 0 < n → fits l (less room 2) n ≡ true → fits l (less room n) m ≡ true → fits l room (n + m) ≡ true
+tail_end l (Exact r) n m some f g =
     let there : n ≤ r = elim (exact_cases n (r - 2) f) [ inl e ↦ omega arith | inr h ↦ omega arith ] in
     exact_from (n + m) r (elim (exact_cases m (r - n) g) [ inl e ↦ inl (omega arith) | inr h ↦ inr (omega arith) ])
-behind_end free (Within r) n m some f g = refl
-behind_end shallow (Within r) n m some f g = refl
-behind_end bounded (Within r) n m some f g = le-leb (n + m) r (omega (arith, leb-true n (r - 2) f, leb-true m (r - n) g))
+tail_end free (Within r) n m some f g = refl
+tail_end shallow (Within r) n m some f g = refl
+tail_end bounded (Within r) n m some f g = le-leb (n + m) r (omega (arith, leb-true n (r - 2) f, leb-true m (r - n) g))
 
 -- a value before others and the end of contents
-pub front_of_end : (l : Limits) (room : Room) (n m : ℕ) → m ≢ 1 → fits l room (n + (m + 2)) ≡ true → fits l (less room 2) n ≡ true
-front_of_end l (Exact r) n m some f =
+pub prefix_of_end : (l : Limits) (room : Room) (n m : ℕ) → m ≢ 1 → fits l room (n + (m + 2)) ≡ true → fits l (less room 2) n ≡ true
+prefix_of_end l (Exact r) n m some f =
     exact_from n (r - 2) (elim (exact_cases (n + (m + 2)) r f) [
       | inl e ↦ elim (cases_eq m 0) [ inl none ↦ inl (omega arith) | inr more ↦ inr (omega arith) ]
       | inr g ↦ inr (omega arith)
     ])
-front_of_end free (Within r) n m some f = refl
-front_of_end shallow (Within r) n m some f = refl
-front_of_end bounded (Within r) n m some f = le-leb n (r - 2) (omega (arith, leb-true (n + (m + 2)) r f))
+prefix_of_end free (Within r) n m some f = refl
+prefix_of_end shallow (Within r) n m some f = refl
+prefix_of_end bounded (Within r) n m some f = le-leb n (r - 2) (omega (arith, leb-true (n + (m + 2)) r f))
 
 -- ---- sizes
 

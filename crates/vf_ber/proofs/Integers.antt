@@ -71,7 +71,7 @@ shortest (a ∷ b ∷ octets) some =
       | inr e ↦ subst (Shortest (a ∷ b ∷ octets)) (sym (shortened-false a (b ∷ octets) e)) (itself (a ∷ b ∷ octets) e some)
     ]
 
--- octets of the sign in front are left out
+-- first octets of the sign are left out
 pub shortened-padded : (n : ℕ) (octets : List ℕ) → 0 < length octets → is_redundant octets ≡ false → shortened (replicate n (sign_octet octets) ++ octets) ≡ octets
 shortened-padded n [] some e = absurd (omega arith)
 shortened-padded zero (a ∷ octets) some e = shortened-false a octets e

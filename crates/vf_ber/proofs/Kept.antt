@@ -4,8 +4,8 @@ use Rattle.std.specs.Prelude.{IfSome, Option, None, Some}
 use Rattle.vf_ber.specs.Steps.{Ends, Got, Language}
 
 -- after what is read they go on to their end
-pub ends_behind : {X : Type 0} (L : Language X) (octets rest : List ℕ) (x : X) (kept : Option (Bor (List ℕ)))
+pub ends_tail : {X : Type 0} (L : Language X) (octets rest : List ℕ) (x : X) (kept : Option (Bor (List ℕ)))
     → Got L octets x rest → IfSome kept (λ all. Ends all.now octets) → IfSome kept (λ all. Ends all.now rest)
-ends_behind L octets rest x None got ends = tt
-ends_behind L octets rest x (Some all) (word, is, found) (prefix, parts) =
+ends_tail L octets rest x None got ends = tt
+ends_tail L octets rest x (Some all) (word, is, found) (prefix, parts) =
     (prefix ++ word, parts ∙ ap (λ o. prefix ++ o) is ∙ sym (append_assoc prefix word rest))

@@ -182,12 +182,12 @@ pub record LongestName (name : Name) (word : List ℕ) (octets : List ℕ) : Typ
   pub second_is : head (tail octets) ≡ 128 + name.tag.number / 128
   pub third_is : head (tail (tail octets)) ≡ name.tag.number % 128
 
-name_cases : (name : Name) (word behind octets : List ℕ) → word ≡ identifier name.constructed name.tag → word ++ behind ≡ octets
+name_cases : (name : Name) (word after octets : List ℕ) → word ≡ identifier name.constructed name.tag → word ++ after ≡ octets
     → ShortName name word octets ⊎ (LongerName name word octets ⊎ LongestName name word octets)
-name_cases name word behind octets is e =
+name_cases name word after octets is e =
     let t = name.tag in
     let c = name.constructed in
-    let spelled = λ (i : List ℕ) (p : identifier c t ≡ i). sym e ∙ ap (λ o. o ++ behind) (is ∙ p) in
+    let spelled = λ (i : List ℕ) (p : identifier c t ≡ i). sym e ∙ ap (λ o. o ++ after) (is ∙ p) in
     elim (cases_lt t.number 31) [
       | inl lt ↦
           let i = identifier-short c t.class t.number lt in
@@ -219,9 +219,9 @@ first_tells most room first small = record { opens = opens; rules = rules }
           | inr ne ↦ ([], named (is_built first) (tag (first / 64) (first % 32)), short_word l most room first (first % 32) small f refl (omega arith))
         ]
 
-    passes : (l : Limits) (word behind rest : List ℕ) (name : Name) → Names most room l word name → word ++ behind ≡ first ∷ rest → first_fits l most room first ≡ true
-    passes l word behind rest name (is, fits, deep, roomy) e =
-        elim (name_cases name word behind (first ∷ rest) is e) [
+    passes : (l : Limits) (word after rest : List ℕ) (name : Name) → Names most room l word name → word ++ after ≡ first ∷ rest → first_fits l most room first ≡ true
+    passes l word after rest name (is, fits, deep, roomy) e =
+        elim (name_cases name word after (first ∷ rest) is e) [
           | inl s ↦
               let low : first % 32 ≡ name.tag.number = ap (λ n. n % 32) s.first_is ∙ low-first name.constructed name.tag.class name.tag.number (omega (arith, s.low)) in
               let some = first_some name.constructed name.tag.class name.tag.number fits.some_value (omega (arith, s.low)) in
@@ -242,7 +242,7 @@ first_tells most room first small = record { opens = opens; rules = rules }
         ]
 
     rules : (l : Limits) → first_fits l most room first ≡ false → Ruled (Names most room) l (first ∷ [])
-    rules l h word behind rest name n e = both_ways (first_fits l most room first) h (passes l word behind rest name n e)
+    rules l h word after rest name n e = both_ways (first_fits l most room first) h (passes l word after rest name n e)
 
 pub second_tells : (most : ℕ) (room : Room) (first second : ℕ) → first < 256 → second < 256 → first % 32 ≡ 31 → has_depth bounded most ≡ true
     → Tells (Names most room) (first ∷ second ∷ []) (λ l. second_fits l room second)
@@ -257,9 +257,9 @@ second_tells most room first second small below is deep = record { opens = opens
           | inr r ↦ (0 ∷ [], named (is_built first) (tag (first / 64) (128 * (second - 128) + 0)), longest_word l most room first second 0 small below is d r.0 (omega arith) r.1)
         ]
 
-    passes : (l : Limits) (word behind rest : List ℕ) (name : Name) → Names most room l word name → word ++ behind ≡ first ∷ second ∷ rest → second_fits l room second ≡ true
-    passes l word behind rest name (same, fits, far, roomy) e =
-        elim (name_cases name word behind (first ∷ second ∷ rest) same e) [
+    passes : (l : Limits) (word after rest : List ℕ) (name : Name) → Names most room l word name → word ++ after ≡ first ∷ second ∷ rest → second_fits l room second ≡ true
+    passes l word after rest name (same, fits, far, roomy) e =
+        elim (name_cases name word after (first ∷ second ∷ rest) same e) [
           | inl s ↦
               let low : first % 32 ≡ name.tag.number = ap (λ n. n % 32) s.first_is ∙ low-first name.constructed name.tag.class name.tag.number (omega (arith, s.low)) in
               absurd (omega (arith, s.low, low, is))
@@ -276,11 +276,11 @@ second_tells most room first second small below is deep = record { opens = opens
         ]
 
     rules : (l : Limits) → second_fits l room second ≡ false → Ruled (Names most room) l (first ∷ second ∷ [])
-    rules l h word behind rest name n e = both_ways (second_fits l room second) h (passes l word behind rest name n e)
+    rules l h word after rest name n e = both_ways (second_fits l room second) h (passes l word after rest name n e)
 
 pub third_rules : (most : ℕ) (room : Room) (first second third : ℕ) (l : Limits) → first % 32 ≡ 31 → 128 ≤ second → 128 ≤ third → Ruled (Names most room) l (first ∷ second ∷ third ∷ [])
-third_rules most room first second third l is far high word behind rest name (same, fits, deep, roomy) e =
-    elim (name_cases name word behind (first ∷ second ∷ third ∷ rest) same e) [
+third_rules most room first second third l is far high word after rest name (same, fits, deep, roomy) e =
+    elim (name_cases name word after (first ∷ second ∷ third ∷ rest) same e) [
       | inl s ↦
           let low : first % 32 ≡ name.tag.number = ap (λ n. n % 32) s.first_is ∙ low-first name.constructed name.tag.class name.tag.number (omega (arith, s.low)) in
           omega (arith, s.low, low, is)
@@ -292,14 +292,14 @@ third_rules most room first second third l is far high word behind rest name (sa
 
 -- ---- what is read
 
-pub got_short : (most : ℕ) (room : Room) (first : ℕ) (behind : List ℕ) → first < 256 → first_fits bounded most room first ≡ true → first % 32 < 31
-    → Got (Names most room) (first ∷ behind) (named (is_built first) (tag (first / 64) (first % 32))) behind
-got_short most room first behind small h lt = (first ∷ [], refl, short_word bounded most room first (first % 32) small (first_parts bounded most room first h) refl lt)
+pub got_short : (most : ℕ) (room : Room) (first : ℕ) (after : List ℕ) → first < 256 → first_fits bounded most room first ≡ true → first % 32 < 31
+    → Got (Names most room) (first ∷ after) (named (is_built first) (tag (first / 64) (first % 32))) after
+got_short most room first after small h lt = (first ∷ [], refl, short_word bounded most room first (first % 32) small (first_parts bounded most room first h) refl lt)
 
-pub got_longer : (most : ℕ) (room : Room) (first second : ℕ) (behind : List ℕ) → first < 256 → first_fits bounded most room first ≡ true → first % 32 ≡ 31
+pub got_longer : (most : ℕ) (room : Room) (first second : ℕ) (after : List ℕ) → first < 256 → first_fits bounded most room first ≡ true → first % 32 ≡ 31
     → second_fits bounded room second ≡ true → second < 128
-    → Got (Names most room) (first ∷ second ∷ behind) (named (is_built first) (tag (first / 64) second)) behind
-got_longer most room first second behind small h is g lt =
+    → Got (Names most room) (first ∷ second ∷ after) (named (is_built first) (tag (first / 64) second)) after
+got_longer most room first second after small h is g lt =
     let f = second_parts bounded room second g in (
       first ∷ second ∷ [],
       refl,
@@ -307,10 +307,10 @@ got_longer most room first second behind small h is g lt =
           (elim f.roomy [ inl r ↦ r.1 | inr r ↦ absurd (omega (arith, r.0)) ]),
     )
 
-pub got_longest : (most : ℕ) (room : Room) (first second third : ℕ) (behind : List ℕ) → first < 256 → second < 256 → first_fits bounded most room first ≡ true → first % 32 ≡ 31
+pub got_longest : (most : ℕ) (room : Room) (first second third : ℕ) (after : List ℕ) → first < 256 → second < 256 → first_fits bounded most room first ≡ true → first % 32 ≡ 31
     → second_fits bounded room second ≡ true → 128 ≤ second → third < 128
-    → Got (Names most room) (first ∷ second ∷ third ∷ behind) (named (is_built first) (tag (first / 64) (128 * (second - 128) + third))) behind
-got_longest most room first second third behind small below h is g le lt =
+    → Got (Names most room) (first ∷ second ∷ third ∷ after) (named (is_built first) (tag (first / 64) (128 * (second - 128) + third))) after
+got_longest most room first second third after small below h is g le lt =
     let f = second_parts bounded room second g in
     elim f.roomy [
       | inl r ↦ absurd (omega (arith, r.0))
@@ -347,8 +347,8 @@ first_below true class low le lt = omega arith
 first_below false class low le lt = omega arith
 
 pub first_large : (most : ℕ) (room : Room) (first : ℕ) (l : Limits) → 256 ≤ first → Ruled (Names most room) l (first ∷ [])
-first_large most room first l large word behind rest name (same, fits, deep, roomy) e =
-    elim (name_cases name word behind (first ∷ rest) same e) [
+first_large most room first l large word after rest name (same, fits, deep, roomy) e =
+    elim (name_cases name word after (first ∷ rest) same e) [
       | inl s ↦ omega (arith, large, s.first_is, first_below name.constructed name.tag.class name.tag.number fits.class_within (omega (arith, s.low)))
       | inr others ↦ elim others [
         | inl s ↦ omega (arith, large, s.first_is, first_below name.constructed name.tag.class 31 fits.class_within (omega arith))
@@ -357,8 +357,8 @@ first_large most room first l large word behind rest name (same, fits, deep, roo
     ]
 
 pub second_large : (most : ℕ) (room : Room) (first second : ℕ) (l : Limits) → first % 32 ≡ 31 → 256 ≤ second → Ruled (Names most room) l (first ∷ second ∷ [])
-second_large most room first second l is large word behind rest name (same, fits, deep, roomy) e =
-    elim (name_cases name word behind (first ∷ second ∷ rest) same e) [
+second_large most room first second l is large word after rest name (same, fits, deep, roomy) e =
+    elim (name_cases name word after (first ∷ second ∷ rest) same e) [
       | inl s ↦
           let low : first % 32 ≡ name.tag.number = ap (λ n. n % 32) s.first_is ∙ low-first name.constructed name.tag.class name.tag.number (omega (arith, s.low)) in
           omega (arith, s.low, low, is)

@@ -10,8 +10,8 @@ use Rattle.vf_ber.specs.Spelling.{first_octet, identifier}
 use Rattle.vf_ber.specs.Spellings.{number_in}
 use Rattle.vf_ber.specs.Steps.{Name, IsSize, named}
 
-pub same_front : {X : Type 0} (a b r s : List X) → length a ≡ length b → a ++ r ≡ b ++ s → a ≡ b
-same_front a b r s n e = sym (take_at a r (length b) n) ∙ ap (take (length b)) e ∙ take_at b s (length b) refl
+pub same_prefix : {X : Type 0} (a b r s : List X) → length a ≡ length b → a ++ r ≡ b ++ s → a ≡ b
+same_prefix a b r s n e = sym (take_at a r (length b) n) ∙ ap (take (length b)) e ∙ take_at b s (length b) refl
 
 -- ---- identifiers
 
@@ -141,7 +141,7 @@ pub sizes_same : (a b r s : List ℕ) (x y : Option ℕ) → IsSize a x → IsSi
 sizes_same a b r s x y at_a at_b e =
     let size : x ≡ y = sym (size_of a r x at_a) ∙ ap size_at e ∙ size_of b s y at_b in
     let n : length a ≡ length b = sym (taken_of a r x at_a) ∙ ap taken e ∙ taken_of b s y at_b in
-    (same_front a b r s n e, size)
+    (same_prefix a b r s n e, size)
 
 pub size_some : (octets : List ℕ) (size : Option ℕ) → IsSize octets size → 1 ≤ length octets
 size_some octets (Some n) (inl (is, lt)) = omega (arith, ap length is)

@@ -96,15 +96,15 @@ arc-spells n small =
 small_enough : (group : List ℕ) (n : ℕ) → n ≤ 268435583 → Spells group n → subidentifier_of group ≡ Some n
 small_enough group n le s = rw (s.needed, s.number, le-ltb 268435583 n le) refl
 
-behind : (group : List ℕ) (n : ℕ) (o : Option (List (List ℕ))) → subidentifier_of group ≡ Some n
+tail : (group : List ℕ) (n : ℕ) (o : Option (List (List ℕ))) → subidentifier_of group ≡ Some n
     → option_and_then subidentifiers_of (option_map (λ groups. group ∷ groups) o) ≡ option_map (λ rest. n ∷ rest) (option_and_then subidentifiers_of o)
-behind group n None e = refl
-behind group n (Some groups) e = ap (option_and_then (λ first. option_map (λ rest. first ∷ rest) (subidentifiers_of groups))) e
+tail group n None e = refl
+tail group n (Some groups) e = ap (option_and_then (λ first. option_map (λ rest. first ∷ rest) (subidentifiers_of groups))) e
 
 first-read : (n : ℕ) (rest : List ℕ) → n ≤ 268435583 → subidentifiers_at (arc_octets n ++ rest) ≡ option_map (λ ns. n ∷ ns) (subidentifiers_at rest)
 first-read n rest le =
     let s = arc-spells n (omega arith) in
-    ap (option_and_then subidentifiers_of) (s.cut rest) ∙ behind (arc_octets n) n (groups_of rest) (small_enough (arc_octets n) n le s)
+    ap (option_and_then subidentifiers_of) (s.cut rest) ∙ tail (arc_octets n) n (groups_of rest) (small_enough (arc_octets n) n le s)
 
 both : (a b : Bool) → (a && b) ≡ true → (a ≡ true) × (b ≡ true)
 both true true e = (refl, refl)
@@ -166,8 +166,8 @@ AreGroups octets groups = (concat groups ≡ octets) × AllGroups groups
 octet-first : (octet : ℕ) (octets : List ℕ) → AllOctets (octet ∷ octets) → octet < 256
 octet-first octet octets all = all 0 0 (omega arith)
 
-octets-behind : (octet : ℕ) (octets : List ℕ) → AllOctets (octet ∷ octets) → AllOctets octets
-octets-behind octet octets all = λ k d lt. all (suc k) d (omega arith)
+octets-tail : (octet : ℕ) (octets : List ℕ) → AllOctets (octet ∷ octets) → AllOctets octets
+octets-tail octet octets all = λ k d lt. all (suc k) d (omega arith)
 
 led : (octet : ℕ) (octets : List ℕ) (inner groups : List (List ℕ)) → 128 ≤ octet → octet < 256 → AreGroups octets inner → led_by octet inner ≡ Some groups → AreGroups (octet ∷ octets) groups
 led octet octets [] groups ge lt are e = absurd cc
@@ -182,10 +182,10 @@ groups-are (octet ∷ octets) groups all e =
     elim (cases_lt octet 128) [
       | inl lt ↦
           let m = option_map_some (λ gs. (octet ∷ []) ∷ gs) (groups_of octets) groups (sym (cond-true (nat_lt octet 128) _ _ (lt-ltb octet 128 lt)) ∙ e) in
-          let rest = groups-are octets m.0 (octets-behind octet octets all) m.1 in
+          let rest = groups-are octets m.0 (octets-tail octet octets all) m.1 in
           subst (λ gs. (concat gs ≡ octet ∷ octets) × AllGroups gs) m.2 (ap (λ o. octet ∷ o) rest.0, (lt, rest.1))
       | inr ge ↦
-          option_and_then_some (led_by octet) (groups_of octets) groups (sym (cond-false (nat_lt octet 128) _ _ (le-ltb octet 128 ge)) ∙ e) (λ inner is made. led octet octets inner groups ge (octet-first octet octets all) (groups-are octets inner (octets-behind octet octets all) is) made)
+          option_and_then_some (led_by octet) (groups_of octets) groups (sym (cond-false (nat_lt octet 128) _ _ (le-ltb octet 128 ge)) ∙ e) (λ inner is made. led octet octets inner groups ge (octet-first octet octets all) (groups-are octets inner (octets-tail octet octets all) is) made)
     ]
 
 -- digits of a number

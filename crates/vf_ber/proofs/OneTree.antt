@@ -6,7 +6,7 @@ use Rattle.vf_ber.specs.Tree.{Tag, Tree, plain, built, Trees, none, more}
 use Rattle.vf_ber.specs.Spelling.{identifier}
 use Rattle.vf_ber.specs.Spellings.{Spells, SpellInTurn}
 use Rattle.vf_ber.specs.Steps.{Name, IsSize, named}
-use Rattle.vf_ber.proofs.Names.{same_front, names_same, sizes_same, begins, identifier_some, size_some}
+use Rattle.vf_ber.proofs.Names.{same_prefix, names_same, sizes_same, begins, identifier_some, size_some}
 
 pub assoc3 : (a b c r : List ℕ) → (a ++ (b ++ c)) ++ r ≡ a ++ (b ++ (c ++ r))
 assoc3 a b c r = append_assoc a (b ++ c) r ∙ ap (λ o. a ++ o) (append_assoc b c r)
@@ -53,7 +53,7 @@ mutual
       let spelled : identifier false t ++ (len ++ (c ++ r)) ≡ identifier false u ++ (other ++ (d ++ s)) =
       sym (assoc3 (identifier false t) len c r) ∙ ap (λ o. o ++ r) (sym is) ∙ e ∙ ap (λ o. o ++ s) other_is ∙ assoc3 (identifier false u) other d s in
       let h = heads_same false false t u len other (c ++ r) (d ++ s) (Some (length c)) (Some (length d)) at_len at_other spelled in
-      let same = same_front c d r s (some_is (length c) (length d) h.2) h.3 in
+      let same = same_prefix c d r s (some_is (length c) (length d) h.2) h.3 in
       let rest : d ++ r ≡ d ++ s = ap (λ o. o ++ r) (sym same) ∙ h.3 in
       (ap (λ x. plain x c) h.1 ∙ ap (plain u) same, append_cancel_left d r s rest)
   one_tree (plain t c) (built u parts) o p r s (fits, (len, at_len, is)) (other_fits, (d, inside, inl (other, at_other, other_is))) e =
@@ -106,17 +106,17 @@ mutual
       absurd (not_more first rest r s part spelled
       (elim end [ inl n ↦ inl (sym (ap length is) ∙ n ∙ ap length other_is) | inr z ↦ inr z.1 ])
       (ap (λ o. o ++ r) (sym is) ∙ e ∙ ap (λ o. o ++ s) other_is))
-  one_list (more part parts) (more other others) o p r s (first, rest, spelled, inside, is) (second, behind, other_spelled, other_inside, other_is) end e =
-      let apart : first ++ (rest ++ r) ≡ second ++ (behind ++ s) =
-      sym (append_assoc first rest r) ∙ ap (λ o. o ++ r) (sym is) ∙ e ∙ ap (λ o. o ++ s) other_is ∙ append_assoc second behind s in
-      let head = one_tree part other first second (rest ++ r) (behind ++ s) spelled other_spelled apart in
-      let fronts : first ≡ second = append_cancel_right first second (behind ++ s) (ap (λ o. first ++ o) (sym head.1) ∙ apart) in
-      let ends : BothEnd rest behind r s =
+  one_list (more part parts) (more other others) o p r s (first, rest, spelled, inside, is) (second, after, other_spelled, other_inside, other_is) end e =
+      let apart : first ++ (rest ++ r) ≡ second ++ (after ++ s) =
+      sym (append_assoc first rest r) ∙ ap (λ o. o ++ r) (sym is) ∙ e ∙ ap (λ o. o ++ s) other_is ∙ append_assoc second after s in
+      let head = one_tree part other first second (rest ++ r) (after ++ s) spelled other_spelled apart in
+      let prefixes : first ≡ second = append_cancel_right first second (after ++ s) (ap (λ o. first ++ o) (sym head.1) ∙ apart) in
+      let ends : BothEnd rest after r s =
       elim end [
-        | inl n ↦ inl (let a : length first ≡ length second = ap length fronts in omega (arith, length-append first rest, length-append second behind, ap length is, ap length other_is, n, a))
+        | inl n ↦ inl (let a : length first ≡ length second = ap length prefixes in omega (arith, length-append first rest, length-append second after, ap length is, ap length other_is, n, a))
         | inr z ↦ inr z
       ] in
-      let tail = one_list parts others rest behind r s inside other_inside ends head.1 in
+      let tail = one_list parts others rest after r s inside other_inside ends head.1 in
       (ap (λ x. more x parts) head.0 ∙ ap (more other) tail.0, tail.1)
 
 pub one_spelling : (a b : Tree) (o p r s : List ℕ) → Spells o a → Spells p b → o ++ r ≡ p ++ s → (o ≡ p) × (a ≡ b)

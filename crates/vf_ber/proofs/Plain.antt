@@ -10,7 +10,7 @@ use Rattle.vf_ber.specs.Tree.{Tag, Tree, plain, built, Trees, none, more}
 use Rattle.vf_ber.specs.Reading.{Limits, free, shallow, bounded, IsReading}
 use Rattle.vf_ber.specs.Steps.{Language, Name, Names, Sizes, Digits, Contents, Values, Parts, Ended, Open, Ruled, Got, Failed, Judged, fault_of, first_fits, second_fits, reaches, length_fits, size_fits, fits, is_roomy, has_depth, less}
 use Rattle.vf_ber.specs.Reader.{Reads, then_read, checked, name_from, third_at, second_at, name_at, digits_at, size_at, Reader, parts_at, end_at, ended_at, contents_at, value_at, as_reading, reading}
-use Rattle.vf_ber.proofs.Chains.{Chain, Tells, behind_got, behind_failed, test_failed}
+use Rattle.vf_ber.proofs.Chains.{Chain, Tells, tail_got, tail_failed, test_failed}
 use Rattle.vf_ber.proofs.Fits.{shallow_zero}
 use Rattle.vf_ber.proofs.NameSteps as names
 use Rattle.vf_ber.proofs.ReaderSteps.{value_got, name_failed, size_failed, contents_failed, plain_got, plain_short, contents_plain, contents_wanting, parts_got, parts_failed, ended_got, ended_failed, name_facts, size_facts, open_room, parts_room, PartsSoFar, parts_start, parts_next, part_failed, parts_short, EndedSoFar, ended_start, ended_next, other_failed, ended_short, ended_end, ended_wrong}
@@ -149,10 +149,10 @@ digit_passed most room prefix constructed others high digit octets r small h ans
 
     by : (r : Reads ℕ) → Answers (Digits most room prefix constructed others (256 * high + digit)) octets r → Answers (Digits most room prefix constructed (suc others) high) (digit ∷ octets) r
     by (Ok x) g =
-        behind_got _ _ _ _ chain (digit ∷ octets) octets x.1 (digit ∷ []) digit x.0 refl (refl, small, begun)
+        tail_got _ _ _ _ chain (digit ∷ octets) octets x.1 (digit ∷ []) digit x.0 refl (refl, small, begun)
         (subst (λ (k : ℕ). Got (Digits most room prefix constructed k (256 * high + digit)) octets x.0 x.1) same g)
     by (Err fault) (f, is_real) = (
-      behind_failed _ _ _ _ chain (digit ∷ octets) octets (digit ∷ []) digit fault refl (refl, small, begun)
+      tail_failed _ _ _ _ chain (digit ∷ octets) octets (digit ∷ []) digit fault refl (refl, small, begun)
           (subst (λ (k : ℕ). Failed (Digits most room prefix constructed k (256 * high + digit)) octets fault) same f),
       is_real,
     )
@@ -209,7 +209,7 @@ part_passed : (most len turns first : ℕ) (octets : List ℕ) (value : Reader) 
     → ((left : ℕ) (rest : List ℕ) → left ≤ turns → left ≢ 1 → (0 < left → 0 < most) → Answers (Parts most left) rest (parts_at value turns left rest))
     → Answers (Values most (Exact len)) (first ∷ octets) r
     → Answers (Parts most len) (first ∷ octets)
-    (then_read r (λ part rest. then_read (parts_at value turns (len - (length (first ∷ octets) - length rest)) rest) (λ parts behind. Ok (more part parts, behind))))
+    (then_read r (λ part rest. then_read (parts_at value turns (len - (length (first ∷ octets) - length rest)) rest) (λ parts tail. Ok (more part parts, tail))))
 part_passed most len turns first octets value (Err fault) begun enough some deep again (f, is_real) =
     (part_failed most len len (first ∷ octets) (first ∷ octets) none fault begun (parts_start most len (first ∷ octets) some deep) f, is_real)
 part_passed most len turns first octets value (Ok x) begun enough some deep again (word, is, v) =
@@ -219,7 +219,7 @@ part_passed most len turns first octets value (Ok x) begun enough some deep agai
     by (parts_at value turns left x.1) so_far (again left x.1 shorter so_far.some so_far.deep)
   where
     by : {left : ℕ} {part : Tree} {rest : List ℕ} (r : Reads Trees) → PartsSoFar most len left (first ∷ octets) rest (more part none) → Answers (Parts most left) rest r
-        → Answers (Parts most len) (first ∷ octets) (then_read r (λ parts behind. Ok (more part parts, behind)))
+        → Answers (Parts most len) (first ∷ octets) (then_read r (λ parts tail. Ok (more part parts, tail)))
     by (Ok y) so_far g = so_far.got y.0 y.1 g
     by (Err fault) so_far (f, is_real) = (so_far.failed fault f, is_real)
 
@@ -253,7 +253,7 @@ other_passed : (most : ℕ) (room : Room) (turns first : ℕ) (octets : List ℕ
     → ((left : Room) (rest : List ℕ) → length rest ≤ turns → fits bounded left 2 ≡ true → Answers (Ended most left) rest (ended_at value turns left rest))
     → Answers (Values most (less room 2)) (first ∷ octets) r
     → Answers (Ended most room) (first ∷ octets)
-    (then_read r (λ part rest. then_read (ended_at value turns (less room (length (first ∷ octets) - length rest)) rest) (λ parts behind. Ok (more part parts, behind))))
+    (then_read r (λ part rest. then_read (ended_at value turns (less room (length (first ∷ octets) - length rest)) rest) (λ parts tail. Ok (more part parts, tail))))
 other_passed most room turns first octets value (Err fault) above enough roomy again (f, is_real) =
     (other_failed most first room room (first ∷ octets) (first ∷ octets) octets none fault above refl (ended_start most room (first ∷ octets) roomy) f, is_real)
 other_passed most room turns first octets value (Ok x) above enough roomy again (word, is, v) =
@@ -263,7 +263,7 @@ other_passed most room turns first octets value (Ok x) above enough roomy again 
     by (ended_at value turns left x.1) so_far (again left x.1 shorter so_far.roomy)
   where
     by : {left : Room} {part : Tree} {rest : List ℕ} (r : Reads Trees) → EndedSoFar most room left (first ∷ octets) rest (more part none) → Answers (Ended most left) rest r
-        → Answers (Ended most room) (first ∷ octets) (then_read r (λ parts behind. Ok (more part parts, behind)))
+        → Answers (Ended most room) (first ∷ octets) (then_read r (λ parts tail. Ok (more part parts, tail)))
     by (Ok y) so_far g = so_far.got y.0 y.1 g
     by (Err fault) so_far (f, is_real) = (so_far.failed fault f, is_real)
 
@@ -279,7 +279,7 @@ ended_answers most value reads (suc turns) room (first ∷ octets) enough roomy 
         → ((left : Room) (rest : List ℕ) → length rest ≤ turns → fits bounded left 2 ≡ true → Answers (Ended most left) rest (ended_at value turns left rest))
         → Answers (Ended most room) (first ∷ octets)
         (cond b (end_at octets) (then_read (value (less room 2) (first ∷ octets))
-        (λ part rest. then_read (ended_at value turns (less room (length (first ∷ octets) - length rest)) rest) (λ parts behind. Ok (more part parts, behind)))))
+        (λ part rest. then_read (ended_at value turns (less room (length (first ∷ octets) - length rest)) rest) (λ parts tail. Ok (more part parts, tail)))))
     by true e again = subst (λ (o : ℕ). Answers (Ended most room) (o ∷ octets) (end_at octets)) (sym (eqb-true first 0 e)) (end_answers most room octets roomy)
     by false e again =
         let other = eqb-false first 0 e in

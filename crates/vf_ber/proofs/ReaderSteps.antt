@@ -10,8 +10,8 @@ use Rattle.vf_ber.specs.declared.room.Room.TheVariants.{Exact}
 use Rattle.vf_ber.specs.Tree.{Tag, Tree, plain, built, Trees, none, more, joined}
 use Rattle.vf_ber.specs.Reading.{Limits, free, bounded}
 use Rattle.vf_ber.specs.Steps.{Language, Name, Names, Sizes, Definite, Contents, Values, Parts, Ended, Ruled, Got, Failed, IsNoEnd, fits, is_roomy, less, has_depth, size_fits, named}
-use Rattle.vf_ber.proofs.Chains.{Carries, Anything, front_failed, behind_got, behind_failed, carried_failed}
-use Rattle.vf_ber.proofs.Fits.{depth_from, shallow_zero, exact_rest, end_behind, less_fits, size_parts}
+use Rattle.vf_ber.proofs.Chains.{Carries, Anything, prefix_failed, tail_got, tail_failed, carried_failed}
+use Rattle.vf_ber.proofs.Fits.{depth_from, shallow_zero, exact_rest, end_tail, less_fits, size_parts}
 use Rattle.vf_ber.proofs.OneTree.{spelling_begins, spelling_long}
 use Rattle.vf_ber.proofs.ValueSteps.{parts_open, ended_open, depth_pos, Body, body_chain, value_chain, parts_chain, Others, ended_chain}
 
@@ -24,44 +24,44 @@ pub value_got : (most : ℕ) (room : Room) (octets rest contents after : List �
     → Got (Names most room) octets name rest → prefix ≡ length octets - length rest
     → Got (Sizes most room prefix name.constructed) rest size contents → whole ≡ length octets - length contents
     → Got (Contents most room whole name size) contents tree after → Got (Values most room) octets tree after
-value_got most room octets rest contents after name size tree prefix whole (a, is, n) front_is (b, rest_is, s) whole_is c =
-    let taken : prefix ≡ length a = front_is ∙ got_length (Names most room) octets rest name (a, is, n) in
+value_got most room octets rest contents after name size tree prefix whole (a, is, n) prefix_is (b, rest_is, s) whole_is c =
+    let taken : prefix ≡ length a = prefix_is ∙ got_length (Names most room) octets rest name (a, is, n) in
     let total : whole ≡ length a + length b = omega (arith, whole_is, ap length is, length-append a rest, ap length rest_is, length-append b contents) in
     let sizes : Sizes most room (length a) name.constructed bounded b size = subst (λ (k : ℕ). Sizes most room k name.constructed bounded b size) taken s in
     let inner : Got (Contents most room (length a + length b) name size) contents tree after = subst (λ (k : ℕ). Got (Contents most room k name size) contents tree after) total c in
-    let body : Got (Body most room (length a) name) rest tree after = behind_got _ _ _ _ (body_chain most room (length a) name) rest contents after b size tree rest_is sizes inner in
-    behind_got _ _ _ _ (value_chain most room) octets rest after a name tree is n body
+    let body : Got (Body most room (length a) name) rest tree after = tail_got _ _ _ _ (body_chain most room (length a) name) rest contents after b size tree rest_is sizes inner in
+    tail_got _ _ _ _ (value_chain most room) octets rest after a name tree is n body
 
 pub name_failed : (most : ℕ) (room : Room) (octets : List ℕ) (fault : Fault) → Failed (Names most room) octets fault → Failed (Values most room) octets fault
-name_failed most room octets fault f = front_failed _ _ _ _ (value_chain most room) octets fault f
+name_failed most room octets fault f = prefix_failed _ _ _ _ (value_chain most room) octets fault f
 
 pub size_failed : (most : ℕ) (room : Room) (octets rest : List ℕ) (name : Name) (prefix : ℕ) (fault : Fault)
     → Got (Names most room) octets name rest → prefix ≡ length octets - length rest
     → Failed (Sizes most room prefix name.constructed) rest fault → Failed (Values most room) octets fault
-size_failed most room octets rest name prefix fault (a, is, n) front_is f =
-    let taken : prefix ≡ length a = front_is ∙ got_length (Names most room) octets rest name (a, is, n) in
+size_failed most room octets rest name prefix fault (a, is, n) prefix_is f =
+    let taken : prefix ≡ length a = prefix_is ∙ got_length (Names most room) octets rest name (a, is, n) in
     let sizes : Failed (Sizes most room (length a) name.constructed) rest fault = subst (λ (k : ℕ). Failed (Sizes most room k name.constructed) rest fault) taken f in
-    behind_failed _ _ _ _ (value_chain most room) octets rest a name fault is n (front_failed _ _ _ _ (body_chain most room (length a) name) rest fault sizes)
+    tail_failed _ _ _ _ (value_chain most room) octets rest a name fault is n (prefix_failed _ _ _ _ (body_chain most room (length a) name) rest fault sizes)
 
 pub contents_failed : (most : ℕ) (room : Room) (octets rest contents : List ℕ) (name : Name) (size : Option ℕ) (prefix whole : ℕ) (fault : Fault)
     → Got (Names most room) octets name rest → prefix ≡ length octets - length rest
     → Got (Sizes most room prefix name.constructed) rest size contents → whole ≡ length octets - length contents
     → Failed (Contents most room whole name size) contents fault → Failed (Values most room) octets fault
-contents_failed most room octets rest contents name size prefix whole fault (a, is, n) front_is (b, rest_is, s) whole_is c =
-    let taken : prefix ≡ length a = front_is ∙ got_length (Names most room) octets rest name (a, is, n) in
+contents_failed most room octets rest contents name size prefix whole fault (a, is, n) prefix_is (b, rest_is, s) whole_is c =
+    let taken : prefix ≡ length a = prefix_is ∙ got_length (Names most room) octets rest name (a, is, n) in
     let total : whole ≡ length a + length b = omega (arith, whole_is, ap length is, length-append a rest, ap length rest_is, length-append b contents) in
     let sizes : Sizes most room (length a) name.constructed bounded b size = subst (λ (k : ℕ). Sizes most room k name.constructed bounded b size) taken s in
     let inner : Failed (Contents most room (length a + length b) name size) contents fault = subst (λ (k : ℕ). Failed (Contents most room k name size) contents fault) total c in
-    behind_failed _ _ _ _ (value_chain most room) octets rest a name fault is n
-    (behind_failed _ _ _ _ (body_chain most room (length a) name) rest contents b size fault rest_is sizes inner)
+    tail_failed _ _ _ _ (value_chain most room) octets rest a name fault is n
+    (tail_failed _ _ _ _ (body_chain most room (length a) name) rest contents b size fault rest_is sizes inner)
 
 -- ---- contents
 
 pub plain_got : (t : Tag) (n : ℕ) (octets content rest : List ℕ) → n ≤ length octets → content ≡ take n octets → rest ≡ drop n octets
     → Got (Definite 0 n false t) octets (plain t content) rest
-plain_got t n octets content rest le is behind = (
+plain_got t n octets content rest le is tail = (
   content,
-  sym (take-append-drop n octets) ∙ ap (λ o. o ++ drop n octets) (sym is) ∙ ap (λ o. content ++ o) (sym behind),
+  sym (take-append-drop n octets) ∙ ap (λ o. o ++ drop n octets) (sym is) ∙ ap (λ o. content ++ o) (sym tail),
   (ap length is ∙ length-take-le n octets le, refl),
 )
 
@@ -101,7 +101,7 @@ parts_failed most room prefix t false n octets fault e f = absurd cc
 parts_failed most room prefix t true n octets fault e f = carried_failed (Parts (most - 1) n) (Contents most room prefix (named true t) (Some n)) (built t) Anything carries octets fault (λ a b c d h. tt) f
   where
     carries : Carries (Parts (most - 1) n) (Contents most room prefix (named true t) (Some n)) (built t) Anything
-    carries = record { onto = λ l word parts p. (parts, p, refl); back = λ l word behind tree h any. (h.0, h.1) }
+    carries = record { onto = λ l word parts p. (parts, p, refl); back = λ l word tail tree h any. (h.0, h.1) }
 
 pub ended_got : (most : ℕ) (room : Room) (prefix : ℕ) (t : Tag) (c : Bool) (octets rest : List ℕ) (parts : Trees) → c ≡ true → Got (Ended (most - 1) (less room prefix)) octets parts rest
     → Got (Contents most room prefix (named c t) None) octets (built t parts) rest
@@ -112,7 +112,7 @@ pub ended_failed : (most : ℕ) (room : Room) (prefix : ℕ) (t : Tag) (c : Bool
 ended_failed most room prefix t c octets fault e f = carried_failed (Ended (most - 1) (less room prefix)) (Contents most room prefix (named c t) None) (built t) Anything carries octets fault (λ a b c d h. tt) f
   where
     carries : Carries (Ended (most - 1) (less room prefix)) (Contents most room prefix (named c t) None) (built t) Anything
-    carries = record { onto = λ l word parts p. (parts, p, refl, e); back = λ l word behind tree h any. (h.0, h.1) }
+    carries = record { onto = λ l word parts p. (parts, p, refl, e); back = λ l word tail tree h any. (h.0, h.1) }
 
 -- ---- values in turn, as a loop reads them
 
@@ -124,7 +124,7 @@ joined-none : (a : Trees) → joined a none ≡ a
 joined-none none = refl
 joined-none (more part parts) = ap (more part) (joined-none parts)
 
--- What is answered on the rest, with the parts in front, is the answer on all.
+-- What is answered on the rest, after the parts, is the answer on all.
 pub record PartsSoFar (most len left : ℕ) (octets rest : List ℕ) (parts : Trees) : Type 0 where
   pub some : left ≢ 1
   pub deep : 0 < left → 0 < most
@@ -145,16 +145,16 @@ parts_next most len left less_left octets rest after parts all tree begun so_far
     record {
       some = subst (λ (k : ℕ). k ≢ 1) (sym same) (exact_rest bounded (length word) left v.2).1;
       deep = λ b. deep;
-      got = λ others behind g.
-          let all_others : Got (Parts most left) rest (more tree others) behind =
-          behind_got _ _ _ _ chain rest after behind word tree others is v (subst (λ (k : ℕ). Got (Parts most k) after others behind) same g) in
-          subst (λ (ts : Trees). Got (Parts most len) octets ts behind) (sym (joined-joined parts tree others) ∙ ap (λ ts. joined ts others) (sym all_is)) (so_far.got (more tree others) behind all_others);
-      failed = λ fault f. so_far.failed fault (behind_failed _ _ _ _ chain rest after word tree fault is v (subst (λ (k : ℕ). Failed (Parts most k) after fault) same f));
+      got = λ others tail g.
+          let all_others : Got (Parts most left) rest (more tree others) tail =
+          tail_got _ _ _ _ chain rest after tail word tree others is v (subst (λ (k : ℕ). Got (Parts most k) after others tail) same g) in
+          subst (λ (ts : Trees). Got (Parts most len) octets ts tail) (sym (joined-joined parts tree others) ∙ ap (λ ts. joined ts others) (sym all_is)) (so_far.got (more tree others) tail all_others);
+      failed = λ fault f. so_far.failed fault (tail_failed _ _ _ _ chain rest after word tree fault is v (subst (λ (k : ℕ). Failed (Parts most k) after fault) same f));
     }
 
 pub part_failed : (most len left : ℕ) (octets rest : List ℕ) (parts : Trees) (fault : Fault) → 0 < left → PartsSoFar most len left octets rest parts
     → Failed (Values most (Exact left)) rest fault → Failed (Parts most len) octets fault
-part_failed most len left octets rest parts fault begun so_far f = so_far.failed fault (front_failed _ _ _ _ (parts_chain most left begun) rest fault f)
+part_failed most len left octets rest parts fault begun so_far f = so_far.failed fault (prefix_failed _ _ _ _ (parts_chain most left begun) rest fault f)
 
 begun_by : {X : Type 0} (L : Language X) (octets : List ℕ) (x : X) → 0 < length octets → L bounded octets x → Failed L [] faults.Short
 begun_by L [] x some h = absurd (omega arith)
@@ -187,100 +187,100 @@ StartsAbove octets = (first : ℕ) × (rest : List ℕ) × (0 < first) × (octet
 others_carry : (most : ℕ) (room : Room) → Carries (Others most room) (Ended most room) (λ parts. parts) StartsAbove
 others_carry most room = record { onto = λ l word parts o. o.3; back = back }
   where
-    back : (l : Limits) (word behind : List ℕ) (parts : Trees) → Ended most room l word parts → StartsAbove (word ++ behind) → (x : Trees) × Others most room l word x
-    back l word behind none (contents, inside, is_shallow, is, f) (first, rest, above, begins) =
-        let clash : 0 ∷ (0 ∷ behind) ≡ first ∷ rest = ap (λ o. (o ++ (0 ∷ 0 ∷ [])) ++ behind) (sym inside) ∙ ap (λ o. o ++ behind) (sym is) ∙ begins in
+    back : (l : Limits) (word tail : List ℕ) (parts : Trees) → Ended most room l word parts → StartsAbove (word ++ tail) → (x : Trees) × Others most room l word x
+    back l word tail none (contents, inside, is_shallow, is, f) (first, rest, above, begins) =
+        let clash : 0 ∷ (0 ∷ tail) ≡ first ∷ rest = ap (λ o. (o ++ (0 ∷ 0 ∷ [])) ++ tail) (sym inside) ∙ ap (λ o. o ++ tail) (sym is) ∙ begins in
         let zero_first : 0 ≡ first = cc in absurd (omega arith)
-    back l word behind (more part parts) ended starts = (more part parts, (part, parts, refl, ended))
+    back l word tail (more part parts) ended starts = (more part parts, (part, parts, refl, ended))
 
-starts_on : (octets prefix rest others : List ℕ) (first octet : ℕ) → 0 < first → octets ≡ first ∷ rest → octets ≡ prefix ++ (octet ∷ others) → (behind : List ℕ) → StartsAbove ((prefix ++ (octet ∷ [])) ++ behind)
-starts_on octets [] rest others first octet above is parts behind =
-    let same : first ∷ rest ≡ octet ∷ others = sym is ∙ parts in let e : first ≡ octet = cc in (octet, behind, omega arith, refl)
-starts_on octets (x ∷ prefix) rest others first octet above is parts behind =
-    let same : first ∷ rest ≡ x ∷ (prefix ++ (octet ∷ others)) = sym is ∙ parts in let e : first ≡ x = cc in (x, (prefix ++ (octet ∷ [])) ++ behind, omega arith, refl)
+starts_on : (octets prefix rest others : List ℕ) (first octet : ℕ) → 0 < first → octets ≡ first ∷ rest → octets ≡ prefix ++ (octet ∷ others) → (tail : List ℕ) → StartsAbove ((prefix ++ (octet ∷ [])) ++ tail)
+starts_on octets [] rest others first octet above is parts tail =
+    let same : first ∷ rest ≡ octet ∷ others = sym is ∙ parts in let e : first ≡ octet = cc in (octet, tail, omega arith, refl)
+starts_on octets (x ∷ prefix) rest others first octet above is parts tail =
+    let same : first ∷ rest ≡ x ∷ (prefix ++ (octet ∷ others)) = sym is ∙ parts in let e : first ≡ x = cc in (x, (prefix ++ (octet ∷ [])) ++ tail, omega arith, refl)
 
 others_failed : (most : ℕ) (room : Room) (octets rest : List ℕ) (first : ℕ) (fault : Fault) → 0 < first → octets ≡ first ∷ rest → Failed (Others most room) octets fault → Failed (Ended most room) octets fault
 others_failed most room octets rest first fault above is f =
-    carried_failed _ _ _ _ (others_carry most room) octets fault (λ prefix others behind octet parts. starts_on octets prefix rest others first octet above is parts behind) f
+    carried_failed _ _ _ _ (others_carry most room) octets fault (λ prefix others tail octet parts. starts_on octets prefix rest others first octet above is parts tail) f
 
-pub ended_next : (most first : ℕ) (room left less_left : Room) (octets rest behind after : List ℕ) (parts all : Trees) (tree : Tree) → 0 < first → rest ≡ first ∷ behind → EndedSoFar most room left octets rest parts
+pub ended_next : (most first : ℕ) (room left less_left : Room) (octets rest tail after : List ℕ) (parts all : Trees) (tree : Tree) → 0 < first → rest ≡ first ∷ tail → EndedSoFar most room left octets rest parts
     → Got (Values most (less left 2)) rest tree after → less_left ≡ less left (length rest - length after) → all ≡ joined parts (more tree none)
     → EndedSoFar most room less_left octets after all
-ended_next most first room left less_left octets rest behind after parts all tree above rest_is so_far (word, is, v) left_is all_is =
+ended_next most first room left less_left octets rest tail after parts all tree above rest_is so_far (word, is, v) left_is all_is =
     let chain = ended_chain most left in
     let taken : length rest - length after ≡ length word = got_length (Values most (less left 2)) rest after tree (word, is, v) in
     let same : less_left ≡ less left (length word) = left_is ∙ ap (less left) taken in
     record {
-      roomy = subst (λ (k : Room). fits bounded k 2 ≡ true) (sym same) (end_behind bounded left (length word) (omega (arith, spelling_long word tree v.0)) v.2);
+      roomy = subst (λ (k : Room). fits bounded k 2 ≡ true) (sym same) (end_tail bounded left (length word) (omega (arith, spelling_long word tree v.0)) v.2);
       got = λ others last g.
-          let all_others = behind_got _ _ _ _ chain rest after last word tree others is v (subst (λ (k : Room). Got (Ended most k) after others last) same g) in
+          let all_others = tail_got _ _ _ _ chain rest after last word tree others is v (subst (λ (k : Room). Got (Ended most k) after others last) same g) in
           subst (λ (ts : Trees). Got (Ended most room) octets ts last) (sym (joined-joined parts tree others) ∙ ap (λ ts. joined ts others) (sym all_is))
           (so_far.got (more tree others) last (all_others.0, all_others.1, all_others.2.3));
       failed = λ fault f.
-          so_far.failed fault (others_failed most left rest behind first fault above rest_is
-          (behind_failed _ _ _ _ chain rest after word tree fault is v (subst (λ (k : Room). Failed (Ended most k) after fault) same f)));
+          so_far.failed fault (others_failed most left rest tail first fault above rest_is
+          (tail_failed _ _ _ _ chain rest after word tree fault is v (subst (λ (k : Room). Failed (Ended most k) after fault) same f)));
     }
 
-pub other_failed : (most first : ℕ) (room left : Room) (octets rest behind : List ℕ) (parts : Trees) (fault : Fault) → 0 < first → rest ≡ first ∷ behind → EndedSoFar most room left octets rest parts
+pub other_failed : (most first : ℕ) (room left : Room) (octets rest tail : List ℕ) (parts : Trees) (fault : Fault) → 0 < first → rest ≡ first ∷ tail → EndedSoFar most room left octets rest parts
     → Failed (Values most (less left 2)) rest fault → Failed (Ended most room) octets fault
-other_failed most first room left octets rest behind parts fault above rest_is so_far f =
-    so_far.failed fault (others_failed most left rest behind first fault above rest_is (front_failed _ _ _ _ (ended_chain most left) rest fault f))
+other_failed most first room left octets rest tail parts fault above rest_is so_far f =
+    so_far.failed fault (others_failed most left rest tail first fault above rest_is (prefix_failed _ _ _ _ (ended_chain most left) rest fault f))
 
 pub ended_short : (most : ℕ) (room left : Room) (octets rest : List ℕ) (parts : Trees) → rest ≡ [] → EndedSoFar most room left octets rest parts → Failed (Ended most room) octets faults.Short
 ended_short most room left octets rest parts is so_far =
     so_far.failed faults.Short (subst (λ (r : List ℕ). Failed (Ended most left) r faults.Short) (sym is) (0, 0 ∷ [], none, ended_open bounded most left so_far.roomy))
 
-pub ended_end : (most : ℕ) (room left : Room) (octets rest behind after : List ℕ) (parts : Trees) → rest ≡ 0 ∷ behind → behind ≡ 0 ∷ after → EndedSoFar most room left octets rest parts
+pub ended_end : (most : ℕ) (room left : Room) (octets rest tail after : List ℕ) (parts : Trees) → rest ≡ 0 ∷ tail → tail ≡ 0 ∷ after → EndedSoFar most room left octets rest parts
     → Got (Ended most room) octets parts after
-ended_end most room left octets rest behind after parts rest_is is so_far =
+ended_end most room left octets rest tail after parts rest_is is so_far =
     subst (λ (ts : Trees). Got (Ended most room) octets ts after) (joined-none parts)
     (so_far.got none after (0 ∷ 0 ∷ [], rest_is ∙ ap (λ o. 0 ∷ o) is, ended_open bounded most left so_far.roomy))
 
 not_ended : (most next : ℕ) (room : Room) (l : Limits) → 0 < next → Ruled (Ended most room) l (0 ∷ next ∷ [])
-not_ended most next room l above word behind rest none (contents, inside, is_shallow, is, f) e =
-    let clash : 0 ∷ (0 ∷ behind) ≡ 0 ∷ (next ∷ rest) = ap (λ o. (o ++ (0 ∷ 0 ∷ [])) ++ behind) (sym inside) ∙ ap (λ o. o ++ behind) (sym is) ∙ e in
+not_ended most next room l above word tail rest none (contents, inside, is_shallow, is, f) e =
+    let clash : 0 ∷ (0 ∷ tail) ≡ 0 ∷ (next ∷ rest) = ap (λ o. (o ++ (0 ∷ 0 ∷ [])) ++ tail) (sym inside) ∙ ap (λ o. o ++ tail) (sym is) ∙ e in
     let same : 0 ≡ next = cc in omega arith
-not_ended most next room l above word behind rest (more part parts) (contents, (first, others, spelled, inside, contents_is), is_shallow, is, f) e =
+not_ended most next room l above word tail rest (more part parts) (contents, (first, others, spelled, inside, contents_is), is_shallow, is, f) e =
     let b = spelling_begins first part spelled in
-    let begins : b.0 ∷ (((b.1 ++ others) ++ (0 ∷ 0 ∷ [])) ++ behind) ≡ 0 ∷ (next ∷ rest) =
-    ap (λ o. ((o ++ others) ++ (0 ∷ 0 ∷ [])) ++ behind) (sym b.3) ∙ ap (λ o. (o ++ (0 ∷ 0 ∷ [])) ++ behind) (sym contents_is) ∙ ap (λ o. o ++ behind) (sym is) ∙ e in
+    let begins : b.0 ∷ (((b.1 ++ others) ++ (0 ∷ 0 ∷ [])) ++ tail) ≡ 0 ∷ (next ∷ rest) =
+    ap (λ o. ((o ++ others) ++ (0 ∷ 0 ∷ [])) ++ tail) (sym b.3) ∙ ap (λ o. (o ++ (0 ∷ 0 ∷ [])) ++ tail) (sym contents_is) ∙ ap (λ o. o ++ tail) (sym is) ∙ e in
     let same : b.0 ≡ 0 = cc in omega (arith, b.2)
 
-no_end : (most : ℕ) (room : Room) (octets behind : List ℕ) (fault : Fault) → fits bounded room 2 ≡ true → octets ≡ 0 ∷ behind → IsNoEnd behind fault → Failed (Ended most room) octets fault
-no_end most room octets behind faults.Short roomy is none_left =
+no_end : (most : ℕ) (room : Room) (octets tail : List ℕ) (fault : Fault) → fits bounded room 2 ≡ true → octets ≡ 0 ∷ tail → IsNoEnd tail fault → Failed (Ended most room) octets fault
+no_end most room octets tail faults.Short roomy is none_left =
     subst (λ (o : List ℕ). Failed (Ended most room) o faults.Short) (sym (is ∙ ap (λ o. 0 ∷ o) none_left)) (0, [], none, ended_open bounded most room roomy)
-no_end most room octets behind (faults.Bad left) roomy is (next, rest, behind_is, above, left_is) =
+no_end most room octets tail (faults.Bad left) roomy is (next, rest, tail_is, above, left_is) =
     record {
       prefix = 0 ∷ [];
       octet = next;
       rest = rest;
-      parts = is ∙ ap (λ o. 0 ∷ o) behind_is;
-      left_is = left_is ∙ ap length behind_is;
+      parts = is ∙ ap (λ o. 0 ∷ o) tail_is;
+      left_is = left_is ∙ ap length tail_is;
       before = inr (0 ∷ [], none, ended_open bounded most room roomy);
       after = not_ended most next room free above;
     }
-no_end most room octets behind (faults.Deep left) roomy is h = absurd h
-no_end most room octets behind (faults.Long left) roomy is h = absurd h
-no_end most room octets behind faults.NoMemory roomy is h = tt
+no_end most room octets tail (faults.Deep left) roomy is h = absurd h
+no_end most room octets tail (faults.Long left) roomy is h = absurd h
+no_end most room octets tail faults.NoMemory roomy is h = tt
 
-pub ended_wrong : (most : ℕ) (room left : Room) (octets rest behind : List ℕ) (parts : Trees) (fault : Fault) → rest ≡ 0 ∷ behind → IsNoEnd behind fault → EndedSoFar most room left octets rest parts
+pub ended_wrong : (most : ℕ) (room left : Room) (octets rest tail : List ℕ) (parts : Trees) (fault : Fault) → rest ≡ 0 ∷ tail → IsNoEnd tail fault → EndedSoFar most room left octets rest parts
     → Failed (Ended most room) octets fault
-ended_wrong most room left octets rest behind parts fault rest_is h so_far = so_far.failed fault (no_end most left rest behind fault so_far.roomy rest_is h)
+ended_wrong most room left octets rest tail parts fault rest_is h so_far = so_far.failed fault (no_end most left rest tail fault so_far.roomy rest_is h)
 
 -- ---- what the reader may ask of its parts
 
 pub name_facts : (most : ℕ) (room : Room) (octets rest : List ℕ) (name : Name) (prefix : ℕ) → Got (Names most room) octets name rest → prefix ≡ length octets - length rest
     → (length rest ≤ length octets) × (has_depth bounded most ≡ true) × (is_roomy bounded room (prefix + 1) ≡ true)
-name_facts most room octets rest name prefix (a, is, n) front_is =
-    let taken : length a ≡ prefix = sym (front_is ∙ got_length (Names most room) octets rest name (a, is, n)) in
+name_facts most room octets rest name prefix (a, is, n) prefix_is =
+    let taken : length a ≡ prefix = sym (prefix_is ∙ got_length (Names most room) octets rest name (a, is, n)) in
     (omega (arith, ap length is, length-append a rest), n.2, subst (λ (k : ℕ). is_roomy bounded room (k + 1) ≡ true) taken n.3)
 
 pub size_facts : (most : ℕ) (room : Room) (octets rest contents : List ℕ) (name : Name) (size : Option ℕ) (prefix whole : ℕ)
     → Got (Names most room) octets name rest → prefix ≡ length octets - length rest
     → Got (Sizes most room prefix name.constructed) rest size contents → whole ≡ length octets - length contents
     → (length contents ≤ length octets) × (size_fits bounded most room whole name.constructed size ≡ true)
-size_facts most room octets rest contents name size prefix whole (a, is, n) front_is (b, rest_is, s) whole_is =
-    let total : prefix + length b ≡ whole = omega (arith, front_is, whole_is, ap length is, length-append a rest, ap length rest_is, length-append b contents) in (
+size_facts most room octets rest contents name size prefix whole (a, is, n) prefix_is (b, rest_is, s) whole_is =
+    let total : prefix + length b ≡ whole = omega (arith, prefix_is, whole_is, ap length is, length-append a rest, ap length rest_is, length-append b contents) in (
       omega (arith, ap length is, length-append a rest, ap length rest_is, length-append b contents),
       subst (λ (k : ℕ). size_fits bounded most room k name.constructed size ≡ true) total s.1,
     )

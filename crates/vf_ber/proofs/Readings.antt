@@ -125,9 +125,9 @@ ruled_begins : (l : Limits) (octets : List ℕ) → Ruled (Values 32 (Within 104
 ruled_begins l octets ruled (rest, tree, s) = ruled (octets ++ rest) [] rest tree (spelling_to l (octets ++ rest) tree s) (append-nil (octets ++ rest))
 
 ruled_bounded : (l : Limits) (octets : List ℕ) → Ruled (Values 32 (Within 1048576)) l octets → Ruled (Values 32 (Within 1048576)) bounded octets
-ruled_bounded free octets ruled word behind rest tree v e = ruled word behind rest tree (v.0, tt, refl) e
-ruled_bounded shallow octets ruled word behind rest tree v e = ruled word behind rest tree (v.0, v.1, refl) e
-ruled_bounded bounded octets ruled word behind rest tree v e = ruled word behind rest tree v e
+ruled_bounded free octets ruled word tail rest tree v e = ruled word tail rest tree (v.0, tt, refl) e
+ruled_bounded shallow octets ruled word tail rest tree v e = ruled word tail rest tree (v.0, v.1, refl) e
+ruled_bounded bounded octets ruled word tail rest tree v e = ruled word tail rest tree v e
 
 a_spelling : IsSpelling bounded (128 ∷ 0 ∷ []) (plain (record { class = 2; number = 0 }) [])
 a_spelling = ((record { class_within = omega arith; number_within = omega arith; some_value = omega arith }, (0 ∷ [], inl (refl, omega arith), refl)), (omega arith, omega arith))

@@ -9,11 +9,11 @@ use Rattle.vf_ber.specs.declared.room.Room.TheVariants.{Exact, Within}
 use Rattle.vf_ber.specs.Spellings.{number_in}
 use Rattle.vf_ber.specs.Reading.{Limits, free, shallow, bounded}
 use Rattle.vf_ber.specs.Steps.{Language, Sizes, Digits, Open, Ruled, Got, Failed, fits, is_roomy, size_fits, grown, shifted, fills, reaches, length_fits}
-use Rattle.vf_ber.proofs.Chains.{Chain, Carries, Anything, Tells, behind_got, behind_failed, carried_failed}
+use Rattle.vf_ber.proofs.Chains.{Chain, Carries, Anything, Tells, tail_got, tail_failed, carried_failed}
 use Rattle.vf_ber.proofs.Digits.{digits, length-digits, octets-digits, number-digits, shifted_number, shifted_grown, grown_least, grown_whole}
 use Rattle.vf_ber.proofs.Fits.{exact_cases, exact_from, roomy_fits, size_lift, size_room, size_parts, size_from, size_plain, size_none}
 
--- ---- lengths with some octets in front
+-- ---- lengths that begin with some octets
 
 fits_below : (l : Limits) (room : Room) (prefix least n : ℕ) → least ≤ n → fits l room (prefix + n) ≡ true → (fits l room (prefix + least) ≡ true) ⊎ ((most : ℕ) × (room ≡ Exact most) × (prefix + n ≡ most))
 fits_below l (Exact r) prefix least n le f = elim (exact_cases (prefix + n) r f) [ inl e ↦ inr (r, refl, e) | inr g ↦ inl (exact_from (prefix + least) r (inr (omega arith))) ]
@@ -139,9 +139,9 @@ digit_tells most room prefix constructed others high digit some small = record {
         (digits (others - 1) w.0, w.0, chain.join l (digit ∷ []) (digits (others - 1) w.0) digit w.0 (refl, small, h) w.1)
 
     rules : (l : Limits) → reaches l most room prefix constructed (others - 1) (256 * high + digit) ≡ false → Ruled (Digits most room prefix constructed others high) l (digit ∷ [])
-    rules l h word behind rest n d e =
+    rules l h word tail rest n d e =
         let s = chain.split l word n d in
-        let spelled : s.2 ∷ (s.1 ++ behind) ≡ digit ∷ rest = ap (λ o. (o ++ s.1) ++ behind) (sym s.4.0) ∙ ap (λ o. o ++ behind) (sym s.6) ∙ e in
+        let spelled : s.2 ∷ (s.1 ++ tail) ≡ digit ∷ rest = ap (λ o. (o ++ s.1) ++ tail) (sym s.4.0) ∙ ap (λ o. o ++ tail) (sym s.6) ∙ e in
         let same : s.2 ≡ digit = cc in
         both_ways (reaches l most room prefix constructed (others - 1) (256 * high + digit)) h
         (subst (λ (x : ℕ). reaches l most room prefix constructed (others - 1) (256 * high + x) ≡ true) same s.4.2)
@@ -164,8 +164,8 @@ digits_short most room prefix constructed (suc others) high some h =
 -- ---- a length
 
 -- what stands after its first octet
-abbrev pub Behind : ℕ → Room → ℕ → Bool → ℕ → Language (Option ℕ)
-Behind most room prefix constructed first l octets size =
+abbrev pub Tail : ℕ → Room → ℕ → Bool → ℕ → Language (Option ℕ)
+Tail most room prefix constructed first l octets size =
     ((first < 128) × (octets ≡ []) × (size ≡ Some first) × (length_fits l most room prefix constructed first ≡ true))
     ⊎ (((first ≡ 128) × (octets ≡ []) × (size ≡ None) × (length_fits l most room prefix constructed first ≡ true))
     ⊎ ((128 < first) × (first ≤ 136) × ((n : ℕ) × Digits most room (prefix + 1 + (first - 128)) constructed (first - 128) 0 l octets n × (size ≡ Some n))))
@@ -214,7 +214,7 @@ length_lift l most room prefix constructed first h =
     ]
 
 pub size_chain : (most : ℕ) (room : Room) (prefix : ℕ) (constructed : Bool)
-    → Chain (FirstOctet most room prefix constructed) (λ first a. Behind most room prefix constructed first) (Sizes most room prefix constructed) (λ first size. size)
+    → Chain (FirstOctet most room prefix constructed) (λ first a. Tail most room prefix constructed first) (Sizes most room prefix constructed) (λ first size. size)
 size_chain most room prefix constructed = record { unique = unique; lift = lift; nonempty = nonempty; join = join; split = split }
   where
     unique : (l k : Limits) (a b r s : List ℕ) (x y : ℕ) → FirstOctet most room prefix constructed l a x → FirstOctet most room prefix constructed k b y → a ++ r ≡ b ++ s → (a ≡ b) × (x ≡ y)
@@ -226,7 +226,7 @@ size_chain most room prefix constructed = record { unique = unique; lift = lift;
     lift : (l : Limits) (a : List ℕ) (x : ℕ) → FirstOctet most room prefix constructed bounded a x → FirstOctet most room prefix constructed l a x
     lift l a x (is, h) = (is, length_lift l most room prefix constructed x h)
 
-    nonempty : (l : Limits) (a : List ℕ) (x : ℕ) → FirstOctet most room prefix constructed l a x → Open (Behind most room prefix constructed x) l []
+    nonempty : (l : Limits) (a : List ℕ) (x : ℕ) → FirstOctet most room prefix constructed l a x → Open (Tail most room prefix constructed x) l []
     nonempty l a x (is, h) =
         elim (cases_lt x 128) [
           | inl lt ↦ ([], Some x, inl (lt, refl, refl, h))
@@ -240,7 +240,7 @@ size_chain most room prefix constructed = record { unique = unique; lift = lift;
           ]
         ]
 
-    join : (l : Limits) (a b : List ℕ) (x : ℕ) (size : Option ℕ) → FirstOctet most room prefix constructed l a x → Behind most room prefix constructed x l b size
+    join : (l : Limits) (a b : List ℕ) (x : ℕ) (size : Option ℕ) → FirstOctet most room prefix constructed l a x → Tail most room prefix constructed x l b size
         → Sizes most room prefix constructed l (a ++ b) size
     join l a b x size (is, h) (inl (lt, none, same, f)) =
         let word : a ++ b ≡ x ∷ [] = ap (λ o. o ++ b) is ∙ ap (λ o. x ∷ o) none in
@@ -261,7 +261,7 @@ size_chain most room prefix constructed = record { unique = unique; lift = lift;
         ))
 
     split : (l : Limits) (o : List ℕ) (size : Option ℕ) → Sizes most room prefix constructed l o size
-        → (a : List ℕ) × (b : List ℕ) × (x : ℕ) × (y : Option ℕ) × FirstOctet most room prefix constructed l a x × Behind most room prefix constructed x l b y × (o ≡ a ++ b)
+        → (a : List ℕ) × (b : List ℕ) × (x : ℕ) × (y : Option ℕ) × FirstOctet most room prefix constructed l a x × Tail most room prefix constructed x l b y × (o ≡ a ++ b)
     split l o (Some n) (inl (is, lt), h) =
         let f : size_fits l most room (prefix + 1) constructed (Some n) ≡ true = ap (λ w. size_fits l most room (prefix + length w) constructed (Some n)) (sym is) ∙ h in
         let g = length_short l most room prefix constructed n lt ∙ f in
@@ -285,7 +285,7 @@ pub length_tells : (most : ℕ) (room : Room) (prefix : ℕ) (constructed : Bool
     → Tells (Sizes most room prefix constructed) (first ∷ []) (λ l. length_fits l most room prefix constructed first)
 length_tells most room prefix constructed first = record { opens = opens; rules = rules }
   where
-    chain : Chain (FirstOctet most room prefix constructed) (λ first a. Behind most room prefix constructed first) (Sizes most room prefix constructed) (λ first size. size)
+    chain : Chain (FirstOctet most room prefix constructed) (λ first a. Tail most room prefix constructed first) (Sizes most room prefix constructed) (λ first size. size)
     chain = size_chain most room prefix constructed
 
     opens : (l : Limits) → length_fits l most room prefix constructed first ≡ true → Open (Sizes most room prefix constructed) l (first ∷ [])
@@ -294,9 +294,9 @@ length_tells most room prefix constructed first = record { opens = opens; rules 
         (w.0, w.1, chain.join l (first ∷ []) w.0 first w.1 (refl, h) w.2)
 
     rules : (l : Limits) → length_fits l most room prefix constructed first ≡ false → Ruled (Sizes most room prefix constructed) l (first ∷ [])
-    rules l h word behind rest size d e =
+    rules l h word tail rest size d e =
         let s = chain.split l word size d in
-        let spelled : s.2 ∷ (s.1 ++ behind) ≡ first ∷ rest = ap (λ o. (o ++ s.1) ++ behind) (sym s.4.0) ∙ ap (λ o. o ++ behind) (sym s.6) ∙ e in
+        let spelled : s.2 ∷ (s.1 ++ tail) ≡ first ∷ rest = ap (λ o. (o ++ s.1) ++ tail) (sym s.4.0) ∙ ap (λ o. o ++ tail) (sym s.6) ∙ e in
         let same : s.2 ≡ first = cc in
         both_ways (length_fits l most room prefix constructed first) h (subst (λ (x : ℕ). length_fits l most room prefix constructed x ≡ true) same s.4.1)
 
@@ -318,45 +318,45 @@ sizes_some l most room prefix constructed h =
 
 -- ---- what is read
 
-pub got_short : (most : ℕ) (room : Room) (prefix : ℕ) (constructed : Bool) (first : ℕ) (behind : List ℕ) → length_fits bounded most room prefix constructed first ≡ true → first < 128
-    → Got (Sizes most room prefix constructed) (first ∷ behind) (Some first) behind
-got_short most room prefix constructed first behind h lt =
-    behind_got _ _ _ _ (size_chain most room prefix constructed) (first ∷ behind) behind behind (first ∷ []) first (Some first) refl (refl, h) ([], refl, inl (lt, refl, refl, h))
+pub got_short : (most : ℕ) (room : Room) (prefix : ℕ) (constructed : Bool) (first : ℕ) (tail : List ℕ) → length_fits bounded most room prefix constructed first ≡ true → first < 128
+    → Got (Sizes most room prefix constructed) (first ∷ tail) (Some first) tail
+got_short most room prefix constructed first tail h lt =
+    tail_got _ _ _ _ (size_chain most room prefix constructed) (first ∷ tail) tail tail (first ∷ []) first (Some first) refl (refl, h) ([], refl, inl (lt, refl, refl, h))
 
-pub got_open : (most : ℕ) (room : Room) (prefix : ℕ) (constructed : Bool) (first : ℕ) (behind : List ℕ) → length_fits bounded most room prefix constructed first ≡ true → first ≡ 128
-    → Got (Sizes most room prefix constructed) (first ∷ behind) None behind
-got_open most room prefix constructed first behind h is =
-    behind_got _ _ _ _ (size_chain most room prefix constructed) (first ∷ behind) behind behind (first ∷ []) first None refl (refl, h) ([], refl, inr (inl (is, refl, refl, h)))
+pub got_open : (most : ℕ) (room : Room) (prefix : ℕ) (constructed : Bool) (first : ℕ) (tail : List ℕ) → length_fits bounded most room prefix constructed first ≡ true → first ≡ 128
+    → Got (Sizes most room prefix constructed) (first ∷ tail) None tail
+got_open most room prefix constructed first tail h is =
+    tail_got _ _ _ _ (size_chain most room prefix constructed) (first ∷ tail) tail tail (first ∷ []) first None refl (refl, h) ([], refl, inr (inl (is, refl, refl, h)))
 
 long_carries : (most : ℕ) (room : Room) (prefix : ℕ) (constructed : Bool) (first : ℕ) → 128 < first → first ≤ 136
-    → Carries (Digits most room (prefix + 1 + (first - 128)) constructed (first - 128) 0) (Behind most room prefix constructed first) (λ n. Some n) Anything
+    → Carries (Digits most room (prefix + 1 + (first - 128)) constructed (first - 128) 0) (Tail most room prefix constructed first) (λ n. Some n) Anything
 long_carries most room prefix constructed first far few = record { onto = onto; back = back }
   where
-    onto : (l : Limits) (word : List ℕ) (n : ℕ) → Digits most room (prefix + 1 + (first - 128)) constructed (first - 128) 0 l word n → Behind most room prefix constructed first l word (Some n)
+    onto : (l : Limits) (word : List ℕ) (n : ℕ) → Digits most room (prefix + 1 + (first - 128)) constructed (first - 128) 0 l word n → Tail most room prefix constructed first l word (Some n)
     onto l word n d = inr (inr (far, few, (n, d, refl)))
 
-    back : (l : Limits) (word behind : List ℕ) (size : Option ℕ) → Behind most room prefix constructed first l word size → Anything (word ++ behind)
+    back : (l : Limits) (word tail : List ℕ) (size : Option ℕ) → Tail most room prefix constructed first l word size → Anything (word ++ tail)
         → (n : ℕ) × Digits most room (prefix + 1 + (first - 128)) constructed (first - 128) 0 l word n
-    back l word behind size (inl (lt, none, same, f)) any = absurd (omega (arith, lt, far))
-    back l word behind size (inr (inl (e, none, same, f))) any = absurd (omega (arith, e, far))
-    back l word behind size (inr (inr (above, below, (n, d, same)))) any = (n, d)
+    back l word tail size (inl (lt, none, same, f)) any = absurd (omega (arith, lt, far))
+    back l word tail size (inr (inl (e, none, same, f))) any = absurd (omega (arith, e, far))
+    back l word tail size (inr (inr (above, below, (n, d, same)))) any = (n, d)
 
-pub got_long : (most : ℕ) (room : Room) (prefix : ℕ) (constructed : Bool) (first n : ℕ) (behind rest : List ℕ) → length_fits bounded most room prefix constructed first ≡ true → 128 < first
-    → Got (Digits most room (prefix + 1 + (first - 128)) constructed (first - 128) 0) behind n rest → Got (Sizes most room prefix constructed) (first ∷ behind) (Some n) rest
-got_long most room prefix constructed first n behind rest h far (word, is, d) =
+pub got_long : (most : ℕ) (room : Room) (prefix : ℕ) (constructed : Bool) (first n : ℕ) (tail rest : List ℕ) → length_fits bounded most room prefix constructed first ≡ true → 128 < first
+    → Got (Digits most room (prefix + 1 + (first - 128)) constructed (first - 128) 0) tail n rest → Got (Sizes most room prefix constructed) (first ∷ tail) (Some n) rest
+got_long most room prefix constructed first n tail rest h far (word, is, d) =
     let p = long_parts bounded most room prefix constructed first far h in
-    behind_got _ _ _ _ (size_chain most room prefix constructed) (first ∷ behind) behind rest (first ∷ []) first (Some n) refl (refl, h) (word, is, inr (inr (far, p.0, (n, d, refl))))
+    tail_got _ _ _ _ (size_chain most room prefix constructed) (first ∷ tail) tail rest (first ∷ []) first (Some n) refl (refl, h) (word, is, inr (inr (far, p.0, (n, d, refl))))
 
-pub long_failed : (most : ℕ) (room : Room) (prefix : ℕ) (constructed : Bool) (first : ℕ) (behind : List ℕ) (fault : Fault) → length_fits bounded most room prefix constructed first ≡ true → 128 < first
-    → Failed (Digits most room (prefix + 1 + (first - 128)) constructed (first - 128) 0) behind fault → Failed (Sizes most room prefix constructed) (first ∷ behind) fault
-long_failed most room prefix constructed first behind fault h far d =
+pub long_failed : (most : ℕ) (room : Room) (prefix : ℕ) (constructed : Bool) (first : ℕ) (tail : List ℕ) (fault : Fault) → length_fits bounded most room prefix constructed first ≡ true → 128 < first
+    → Failed (Digits most room (prefix + 1 + (first - 128)) constructed (first - 128) 0) tail fault → Failed (Sizes most room prefix constructed) (first ∷ tail) fault
+long_failed most room prefix constructed first tail fault h far d =
     let p = long_parts bounded most room prefix constructed first far h in
-    behind_failed _ _ _ _ (size_chain most room prefix constructed) (first ∷ behind) behind (first ∷ []) first fault refl (refl, h)
-    (carried_failed _ _ _ _ (long_carries most room prefix constructed first far p.0) behind fault (λ prefix rest more octet e. tt) d)
+    tail_failed _ _ _ _ (size_chain most room prefix constructed) (first ∷ tail) tail (first ∷ []) first fault refl (refl, h)
+    (carried_failed _ _ _ _ (long_carries most room prefix constructed first far p.0) tail fault (λ prefix rest more octet e. tt) d)
 
 -- the octets of a length are octets
 pub digit_large : (most : ℕ) (room : Room) (prefix : ℕ) (constructed : Bool) (others high digit : ℕ) (l : Limits) → 256 ≤ digit
     → Ruled (Digits most room prefix constructed (suc others) high) l (digit ∷ [])
-digit_large most room prefix constructed others high digit l large [] behind rest n (len, each, number, f) e = absurd (omega (arith, len))
-digit_large most room prefix constructed others high digit l large (x ∷ word) behind rest n (len, each, number, f) e =
-    let same : x ∷ (word ++ behind) ≡ digit ∷ rest = e in let is : x ≡ digit = cc in omega (arith, each.0, large, is)
+digit_large most room prefix constructed others high digit l large [] tail rest n (len, each, number, f) e = absurd (omega (arith, len))
+digit_large most room prefix constructed others high digit l large (x ∷ word) tail rest n (len, each, number, f) e =
+    let same : x ∷ (word ++ tail) ≡ digit ∷ rest = e in let is : x ≡ digit = cc in omega (arith, each.0, large, is)

@@ -42,9 +42,9 @@ too_large group i n within large e =
     ]
 
 -- the first group and what is after it
-pub cut_behind : (octets prefix back : List ℕ) (i : ℕ) → i < length octets → ((k : ℕ) → k < i → 128 ≤ get_or octets k 0) → get_or octets i 0 < 128
+pub cut_tail : (octets prefix back : List ℕ) (i : ℕ) → i < length octets → ((k : ℕ) → k < i → 128 ≤ get_or octets k 0) → get_or octets i 0 < 128
     → prefix ≡ take (i + 1) octets → back ≡ drop (i + 1) octets → groups_of octets ≡ option_map (λ groups. prefix ∷ groups) (groups_of back)
-cut_behind octets prefix back i within above below f b =
+cut_tail octets prefix back i within above below f b =
     first_group octets i within above below
     ∙ ap (λ n. option_map (λ groups. take n octets ∷ groups) (groups_of (drop n octets))) (sym (add-one i))
     ∙ ap (λ x. option_map (λ groups. x ∷ groups) (groups_of (drop (i + 1) octets))) (sym f)

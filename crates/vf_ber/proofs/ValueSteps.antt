@@ -11,7 +11,7 @@ use Rattle.vf_ber.specs.Spellings.{IsLength, Spells, SpellInTurn}
 use Rattle.vf_ber.specs.Reading.{Limits, bounded}
 use Rattle.vf_ber.specs.Steps.{Language, Name, Names, Sizes, Contents, Values, Parts, Ended, Open, fits, is_roomy, less, has_depth, IsShallow, size_fits, named}
 use Rattle.vf_ber.proofs.Chains.{Chain}
-use Rattle.vf_ber.proofs.Fits.{depth_some, depth_lift, shallow_lift, shallow_le, shallow_zero, shallow_one, shallow_around, shallow_inside, shallow_both, fits_lift, roomy_lift, fits_roomy, fits_less, less_fits, fits_without, exact_front, exact_rest, end_behind, behind_end, front_of_end, size_lift, size_room, size_parts, size_from, size_plain}
+use Rattle.vf_ber.proofs.Fits.{depth_some, depth_lift, shallow_lift, shallow_le, shallow_zero, shallow_one, shallow_around, shallow_inside, shallow_both, fits_lift, roomy_lift, fits_roomy, fits_less, less_fits, fits_without, exact_prefix, exact_rest, end_tail, tail_end, prefix_of_end, size_lift, size_room, size_parts, size_from, size_plain}
 use Rattle.vf_ber.proofs.Names.{tag, names_same, sizes_same}
 use Rattle.vf_ber.proofs.OneTree.{one_spelling, spelling_long, list_long}
 use Rattle.vf_ber.proofs.SizeSteps.{sizes_some}
@@ -265,7 +265,7 @@ parts_chain most len some = record { unique = unique; lift = value_lift most (Ex
           (
             spelled,
             shallow_le l most (depth part) (max (depth part) (depth_in parts)) (omega arith) shallow_parts,
-            subst (λ (k : ℕ). fits l (Exact k) (length a) ≡ true) total (exact_front l (length a) (length b) (list_long b parts inside)),
+            subst (λ (k : ℕ). fits l (Exact k) (length a) ≡ true) total (exact_prefix l (length a) (length b) (list_long b parts inside)),
           ),
           (inside, shallow_le l most (depth_in parts) (max (depth part) (depth_in parts)) (omega arith) shallow_parts, omega (arith, total)),
           is,
@@ -283,7 +283,7 @@ ended_chain most room = record { unique = unique; lift = value_lift most (less r
 
     nonempty : (l : Limits) (a : List ℕ) (x : Tree) → Values most (less room 2) l a x → Open (Ended most (less room (length a))) l []
     nonempty l a x (spelled, shallow_tree, f) =
-        (0 ∷ 0 ∷ [], none, ended_open l most (less room (length a)) (end_behind l room (length a) (omega (arith, spelling_long a x spelled)) f))
+        (0 ∷ 0 ∷ [], none, ended_open l most (less room (length a)) (end_tail l room (length a) (omega (arith, spelling_long a x spelled)) f))
 
     join : (l : Limits) (a b : List ℕ) (x : Tree) (parts : Trees) → Values most (less room 2) l a x → Ended most (less room (length a)) l b parts → Others most room l (a ++ b) (more x parts)
     join l a b x parts (spelled, shallow_tree, f) (contents, inside, shallow_parts, is, g) = (
@@ -295,7 +295,7 @@ ended_chain most room = record { unique = unique; lift = value_lift most (less r
         (a, contents, spelled, inside, refl),
         shallow_both l most (depth x) (depth_in parts) (max (depth x) (depth_in parts)) shallow_tree shallow_parts (max_cases (depth x) (depth_in parts)),
         ap (λ o. a ++ o) is ∙ sym (append_assoc a contents (0 ∷ 0 ∷ [])),
-        subst (λ (k : ℕ). fits l room k ≡ true) (sym (length-append a b)) (behind_end l room (length a) (length b) (omega (arith, spelling_long a x spelled)) f g),
+        subst (λ (k : ℕ). fits l room k ≡ true) (sym (length-append a b)) (tail_end l room (length a) (length b) (omega (arith, spelling_long a x spelled)) f g),
       ),
     )
 
@@ -311,7 +311,7 @@ ended_chain most room = record { unique = unique; lift = value_lift most (less r
           b ++ (0 ∷ 0 ∷ []),
           part,
           parts,
-          (spelled, shallow_le l most (depth part) (max (depth part) (depth_in parts)) (omega arith) shallow_parts, front_of_end l room (length a) (length b) (list_long b parts inside) g),
+          (spelled, shallow_le l most (depth part) (max (depth part) (depth_in parts)) (omega arith) shallow_parts, prefix_of_end l room (length a) (length b) (list_long b parts inside) g),
           (
             b,
             inside,

@@ -28,16 +28,16 @@ second_is a b c d e = cc
 mutual
   tree_inj : (x y : Tree) → tree_code x ≡ tree_code y → x ≡ y
   tree_inj (plain tag octets) (plain other others) e =
-      let behind = second_is _ _ _ _ e in
-      let tags = tag_code.inj tag other (first_is _ _ _ _ behind) in
-      let same = octets_code.inj octets others (second_is _ _ _ _ behind) in
+      let tail = second_is _ _ _ _ e in
+      let tags = tag_code.inj tag other (first_is _ _ _ _ tail) in
+      let same = octets_code.inj octets others (second_is _ _ _ _ tail) in
       cc
   tree_inj (plain tag octets) (built other parts) e = absurd cc
   tree_inj (built tag parts) (plain other octets) e = absurd cc
   tree_inj (built tag parts) (built other others) e =
-      let behind = second_is _ _ _ _ e in
-      let tags = tag_code.inj tag other (first_is _ _ _ _ behind) in
-      let same = list_inj parts others (second_is _ _ _ _ behind) in
+      let tail = second_is _ _ _ _ e in
+      let tags = tag_code.inj tag other (first_is _ _ _ _ tail) in
+      let same = list_inj parts others (second_is _ _ _ _ tail) in
       cc
 
   pub list_inj : (x y : Trees) → list_code x ≡ list_code y → x ≡ y

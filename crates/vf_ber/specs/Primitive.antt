@@ -94,8 +94,8 @@ oid_of (built tag parts) = None
 abbrev pub is_octet_string : Tag → Bool
 is_octet_string tag = nat_eq tag.class 0 && nat_eq tag.number 4
 
-abbrev pub in_front : List ℕ → Option (List ℕ) → Option (List ℕ)
-in_front octets others = option_map (λ rest. octets ++ rest) others
+abbrev pub in_prefix : List ℕ → Option (List ℕ) → Option (List ℕ)
+in_prefix octets others = option_map (λ rest. octets ++ rest) others
 
 abbrev mutual
   -- The octets of an octet string, whose own tag is free. Where it is built its parts are octet strings, which hold
@@ -107,5 +107,5 @@ abbrev mutual
   pub octets_in : Trees → Option (List ℕ)
   octets_in none = Some []
   octets_in (more part parts) =
-      if is_octet_string (root part) then option_and_then (λ octets. in_front octets (octets_in parts)) (octets_of part)
+      if is_octet_string (root part) then option_and_then (λ octets. in_prefix octets (octets_in parts)) (octets_of part)
       else None

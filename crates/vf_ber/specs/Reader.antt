@@ -75,7 +75,7 @@ parts_at value zero (suc len) octets = Err faults.Short
 parts_at value (suc turns) (suc len) [] = Err faults.Short
 parts_at value (suc turns) (suc len) (first ∷ octets) =
     then_read (value (Exact (suc len)) (first ∷ octets)) (λ part rest.
-    then_read (parts_at value turns (suc len - (length (first ∷ octets) - length rest)) rest) (λ parts behind. Ok (more part parts, behind)))
+    then_read (parts_at value turns (suc len - (length (first ∷ octets) - length rest)) rest) (λ parts tail. Ok (more part parts, tail)))
 
 abbrev pub end_at : List ℕ → Reads Trees
 end_at [] = Err faults.Short
@@ -87,7 +87,7 @@ ended_at value zero room (first ∷ octets) = Err faults.Short
 ended_at value (suc turns) room (first ∷ octets) =
     if nat_eq first 0 then end_at octets
     else then_read (value (less room 2) (first ∷ octets)) (λ part rest.
-    then_read (ended_at value turns (less room (length (first ∷ octets) - length rest)) rest) (λ parts behind. Ok (more part parts, behind)))
+    then_read (ended_at value turns (less room (length (first ∷ octets) - length rest)) rest) (λ parts tail. Ok (more part parts, tail)))
 
 abbrev pub contents_at : Reader → Room → ℕ → Name → Option ℕ → List ℕ → Reads Tree
 contents_at value room prefix name None octets =

@@ -167,7 +167,7 @@ Open {X} L limits octets = (rest : List ℕ) × (x : X) × L limits (octets ++ r
 
 -- no word begins with the octets, nor do they with a word
 abbrev pub Ruled : {X : Type 0} → Language X → Limits → List ℕ → Type 0
-Ruled {X} L limits octets = (word behind rest : List ℕ) (x : X) → L limits word x → word ++ behind ≡ octets ++ rest → ⊥
+Ruled {X} L limits octets = (word tail rest : List ℕ) (x : X) → L limits word x → word ++ tail ≡ octets ++ rest → ⊥
 
 -- the octets begin with a word, and this stands after it
 abbrev pub Got : {X : Type 0} → Language X → List ℕ → X → List ℕ → Type 0

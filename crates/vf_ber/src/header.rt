@@ -23,17 +23,17 @@ pub fn first_of(octets: &[u8]) -> Option<(u8, &[u8])>
 {
     match octets {
         [] => None,
-        [first, behind @ ..] => Some((*first, behind)),
+        [first, tail @ ..] => Some((*first, tail)),
     }
 }
 
 /// Reads an identifier, and gives what is after it.
-pub fn name_of(first: u8, behind: &[u8], depth: u32, room: Room) -> Result<(Name, &[u8]), Fault>
-    ensures got { IfOk result (λ x. Got (Names depth room) (first ∷ behind.now) (said x.0) x.1.now) }
-    ensures failed { IfErr result (λ e. Failed (Names depth room) (first ∷ behind.now) e) }
-    ensures near { IfOk result (λ x. length behind.now ≤ length x.1.now + 2) }
+pub fn name_of(first: u8, tail: &[u8], depth: u32, room: Room) -> Result<(Name, &[u8]), Fault>
+    ensures got { IfOk result (λ x. Got (Names depth room) (first ∷ tail.now) (said x.0) x.1.now) }
+    ensures failed { IfErr result (λ e. Failed (Names depth room) (first ∷ tail.now) e) }
+    ensures near { IfOk result (λ x. length tail.now ≤ length x.1.now + 2) }
 {
-    check_first(depth, room, first, behind.len() + 1)?;
+    check_first(depth, room, first, tail.len() + 1)?;
     let constructed = first / 32 % 2 == 1;
     let class = first / 64;
     let low = first % 32;
@@ -42,24 +42,24 @@ pub fn name_of(first: u8, behind: &[u8], depth: u32, room: Room) -> Result<(Name
             class,
             number: low as u16,
         };
-        return Ok((Name { constructed, tag }, behind));
+        return Ok((Name { constructed, tag }, tail));
     }
-    let Some((second, behind)) = first_of(behind) else {
+    let Some((second, tail)) = first_of(tail) else {
         return Err(Fault::Short);
     };
-    check_second(room, second, behind.len() + 1)?;
+    check_second(room, second, tail.len() + 1)?;
     if second < 128 {
         let tag = Tag {
             class,
             number: second as u16,
         };
-        return Ok((Name { constructed, tag }, behind));
+        return Ok((Name { constructed, tag }, tail));
     }
-    let Some((third, rest)) = first_of(behind) else {
+    let Some((third, rest)) = first_of(tail) else {
         return Err(Fault::Short);
     };
     if third >= 128 {
-        return Err(Fault::Bad(behind.len()));
+        return Err(Fault::Bad(tail.len()));
     }
     let number = 128 * (second as u16 - 128) + third as u16;
     let tag = Tag { class, number };
@@ -73,19 +73,19 @@ pub fn size_of(octets: &[u8], around: Around) -> Result<(Option<u64>, &[u8]), Fa
     ensures got { IfOk result (λ x. Got (Sizes around.depth around.room around.prefix around.constructed) octets.now x.0 x.1.now) }
     ensures failed { IfErr result (λ e. Failed (Sizes around.depth around.room around.prefix around.constructed) octets.now e) }
 {
-    let Some((first, behind)) = first_of(octets) else {
+    let Some((first, tail)) = first_of(octets) else {
         return Err(Fault::Short);
     };
     check_length(around, first, octets.len())?;
     if first < 128 {
-        return Ok((Some(first as u64), behind));
+        return Ok((Some(first as u64), tail));
     }
     if first == 128 {
-        return Ok((None, behind));
+        return Ok((None, tail));
     }
     let more = first - 128;
     let prefix = around.prefix + 1 + more as u64;
-    let (n, rest) = digits_of(behind, Around { prefix, ..around }, more as u32, 0)?;
+    let (n, rest) = digits_of(tail, Around { prefix, ..around }, more as u32, 0)?;
     Ok((Some(n), rest))
 }
 
@@ -100,10 +100,10 @@ fn digits_of(octets: &[u8], around: Around, more: u32, high: u64) -> Result<(u64
     if more == 0 {
         return Ok((high, octets));
     }
-    let Some((digit, behind)) = first_of(octets) else {
+    let Some((digit, tail)) = first_of(octets) else {
         return Err(Fault::Short);
     };
     let high = 256 * high + digit as u64;
     check_digit(around, more - 1, high, octets.len())?;
-    digits_of(behind, around, more - 1, high)
+    digits_of(tail, around, more - 1, high)
 }

@@ -1,7 +1,7 @@
 //! What the contents of primitive values mean.
 ghost use Rattle.std.specs.Prelude.{◌≡◌, ◌≤◌, ◌<◌, ◌*◌, ◌∷◌, length, IfNone, IfOk, IfSome, if◌then◌else◌};
 ghost use Rattle.std.specs.Option.{option_map};
-ghost use Rattle.vf_ber.specs.Primitive.{arcs_at, boolean_at, boolean_of, extended, groups_of, in_front, integer_at, integer_of, is_integer as integer_test, is_padded as padded, oid_at, oid_of, root_arc as root_of, subidentifier_of, subidentifiers_at};
+ghost use Rattle.vf_ber.specs.Primitive.{arcs_at, boolean_at, boolean_of, extended, groups_of, in_prefix, integer_at, integer_of, is_integer as integer_test, is_padded as padded, oid_at, oid_of, root_arc as root_of, subidentifier_of, subidentifiers_at};
 ghost use Rattle.vf_ber.specs.Views.{tree_of};
 
 use crate::Value;
@@ -127,15 +127,15 @@ fn root_arc(first: u32) -> u32
 
 /// Appends the subidentifiers; false where they aren't subidentifiers to the end.
 fn read_subidentifiers(octets: &[u8], out: &mut Vec<u32>) -> Result<bool, NoMemory>
-    ensures { IfOk result (λ all. (if all then Some out.new.items else None) ≡ in_front out.old.items (subidentifiers_at octets.now)) }
+    ensures { IfOk result (λ all. (if all then Some out.new.items else None) ≡ in_prefix out.old.items (subidentifiers_at octets.now)) }
 {
     let mut rest = octets;
     while !rest.is_empty() {
-        let Some((number, behind)) = subidentifier(rest) else {
+        let Some((number, tail)) = subidentifier(rest) else {
             return Ok(false);
         };
         out.push(number)?;
-        rest = behind;
+        rest = tail;
     }
     Ok(true)
 }

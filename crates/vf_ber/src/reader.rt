@@ -39,11 +39,11 @@ fn read_of(alloc: Global, kept: Option<&Octets>, octets: &[u8]) -> Result<(Value
     requires { IfSome kept (λ all. Ends all.now octets.now) }
     ensures { IsAnswer result octets.now }
 {
-    let Some((first, behind)) = first_of(octets) else {
+    let Some((first, tail)) = first_of(octets) else {
         return Err(BerError::Short);
     };
     let most = Room::Within(MOST_VALUE_OCTETS as u64);
-    match value_of(alloc, kept, first, behind, MOST_DEPTH, most) {
+    match value_of(alloc, kept, first, tail, MOST_DEPTH, most) {
         Ok((value, rest)) => Ok((value, octets.len() - rest.len())),
         Err(Fault::Short) => Err(BerError::Short),
         Err(Fault::Bad(left)) => Err(BerError::Bad {
@@ -65,23 +65,23 @@ fn value_of<'a>(
     alloc: Global,
     kept: Option<&Octets>,
     first: u8,
-    behind: &'a [u8],
+    tail: &'a [u8],
     depth: u32,
     room: Room,
 ) -> Result<(Value, &'a [u8]), Fault>
-    requires kept { IfSome kept (λ all. Ends all.now (first ∷ behind.now)) }
-    ensures got { IfOk result (λ x. Got (ValuesIn depth room) (first ∷ behind.now) (tree_of x.0) x.1.now) }
-    ensures failed { IfErr result (λ e. Failed (ValuesIn depth room) (first ∷ behind.now) e) }
+    requires kept { IfSome kept (λ all. Ends all.now (first ∷ tail.now)) }
+    ensures got { IfOk result (λ x. Got (ValuesIn depth room) (first ∷ tail.now) (tree_of x.0) x.1.now) }
+    ensures failed { IfErr result (λ e. Failed (ValuesIn depth room) (first ∷ tail.now) e) }
 {
-    let (name, rest) = name_of(first, behind, depth, room)?;
+    let (name, rest) = name_of(first, tail, depth, room)?;
     let around = Around {
         depth,
         room,
-        prefix: (behind.len() + 1 - rest.len()) as u64,
+        prefix: (tail.len() + 1 - rest.len()) as u64,
         constructed: name.constructed,
     };
     let (size, contents) = size_of(rest, around)?;
-    let prefix = (behind.len() + 1 - contents.len()) as u64;
+    let prefix = (tail.len() + 1 - contents.len()) as u64;
     contents_of(
         alloc,
         kept,
@@ -190,10 +190,10 @@ fn parts_of<'a>(
     let mut rest = octets;
     let mut left = len;
     while left > 0 {
-        let Some((first, behind)) = first_of(rest) else {
+        let Some((first, tail)) = first_of(rest) else {
             return Err(Fault::Short);
         };
-        let (part, after) = value_of(alloc, kept, first, behind, depth, Room::Exact(left))?;
+        let (part, after) = value_of(alloc, kept, first, tail, depth, Room::Exact(left))?;
         parts.push(part)?;
         left -= (rest.len() - after.len()) as u64;
         rest = after;
@@ -218,12 +218,12 @@ fn ended_of<'a>(
     let mut parts = Values::new(alloc);
     let mut rest = octets;
     let mut room = room;
-    while let Some((first, behind)) = first_of(rest) {
+    while let Some((first, tail)) = first_of(rest) {
         if first == 0 {
-            let after = end_of(behind)?;
+            let after = end_of(tail)?;
             return Ok((parts, after));
         }
-        let (part, after) = value_of(alloc, kept, first, behind, depth, less(room, 2))?;
+        let (part, after) = value_of(alloc, kept, first, tail, depth, less(room, 2))?;
         parts.push(part)?;
         room = less(room, (rest.len() - after.len()) as u64);
         rest = after;

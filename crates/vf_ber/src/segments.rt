@@ -1,6 +1,6 @@
 //! Octet strings in segments.
 ghost use Rattle.std.specs.Prelude.{◌≡◌, IfOk, if◌then◌else◌};
-ghost use Rattle.vf_ber.specs.Primitive.{in_front, is_octet_string as octet_string_test, octets_in, octets_of};
+ghost use Rattle.vf_ber.specs.Primitive.{in_prefix, is_octet_string as octet_string_test, octets_in, octets_of};
 ghost use Rattle.vf_ber.specs.Tree.{more, none};
 ghost use Rattle.vf_ber.specs.Views.{tag_of, tree_of, trees_in};
 
@@ -38,7 +38,7 @@ fn is_octet_string(tag: Tag) -> bool
 /// Appends the octets of a segment; false where it isn't one.
 #[cycle(append)]
 fn append_segment(segment: &Value, out: &mut Vec<u8>) -> Result<bool, NoMemory>
-    ensures { IfOk result (λ all. (if all then Some out.new.items else None) ≡ in_front out.old.items (octets_in (more (tree_of segment.now) none))) }
+    ensures { IfOk result (λ all. (if all then Some out.new.items else None) ≡ in_prefix out.old.items (octets_in (more (tree_of segment.now) none))) }
 {
     if !is_octet_string(segment.tag()) {
         return Ok(false);
@@ -55,7 +55,7 @@ fn append_segment(segment: &Value, out: &mut Vec<u8>) -> Result<bool, NoMemory>
 /// Appends the octets of segments, one after another; false where one isn't a segment.
 #[cycle(append)]
 fn append_segments(segments: &[Value], out: &mut Vec<u8>) -> Result<bool, NoMemory>
-    ensures { IfOk result (λ all. (if all then Some out.new.items else None) ≡ in_front out.old.items (octets_in (trees_in segments.now))) }
+    ensures { IfOk result (λ all. (if all then Some out.new.items else None) ≡ in_prefix out.old.items (octets_in (trees_in segments.now))) }
 {
     for segment in segments {
         if !append_segment(segment, out)? {

@@ -65,9 +65,9 @@ taken_then : (octets piece : List ℕ) (taken n : ℕ) → (octets ++ take taken
 taken_then octets piece taken n = append_assoc octets (take taken piece) (take n (drop taken piece)) ∙ ap (λ o. octets ++ o) (sym (take-add taken n piece))
 
 -- with some of the octets after them
-short_behind : (old : Scan) (place : Place) (frames : List Frame) (octets piece : List ℕ) (taken n m : ℕ) → Fed old place frames piece taken → HasTaken old octets
+short_after : (old : Scan) (place : Place) (frames : List Frame) (octets piece : List ℕ) (taken n m : ℕ) → Fed old place frames piece taken → HasTaken old octets
     → ((m : ℕ) → m < n → progress_at place frames (take m (drop taken piece)) ≡ Wanting) → m < taken + n → reading (octets ++ take m piece) ≡ Short
-short_behind old place frames octets piece taken n m fed has short lt =
+short_after old place frames octets piece taken n m fed has short lt =
     elim (cases_lt m taken) [
       | inl few ↦ fed.short octets has m (omega arith)
       | inr le ↦
@@ -76,10 +76,10 @@ short_behind old place frames octets piece taken n m fed has short lt =
           ∙ ahead_short place frames (octets ++ take taken piece) (take (m - taken) (drop taken piece)) (fed.ahead octets has) (short (m - taken) (omega arith))
     ]
 
-ahead_behind : (old : Scan) (place : Place) (frames new : List Frame) (next : Next) (octets piece : List ℕ) (taken n : ℕ) → Fed old place frames piece taken → HasTaken old octets
+ahead_after : (old : Scan) (place : Place) (frames new : List Frame) (next : Next) (octets piece : List ℕ) (taken n : ℕ) → Fed old place frames piece taken → HasTaken old octets
     → Leads (λ more. progress_at place frames (take n (drop taken piece) ++ more)) next new
     → (more : List ℕ) → progress_of (reading ((octets ++ take (taken + n) piece) ++ more)) ≡ goes_on next new more
-ahead_behind old place frames new next octets piece taken n fed has leads more =
+ahead_after old place frames new next octets piece taken n fed has leads more =
     ap (λ (o : List ℕ). progress_of (reading (o ++ more))) (sym (taken_then octets piece taken n))
     ∙ ap (λ o. progress_of (reading o)) (append_assoc (octets ++ take taken piece) (take n (drop taken piece)) more)
     ∙ fed.ahead octets has (take n (drop taken piece) ++ more) ∙ leads.goes more
@@ -92,13 +92,13 @@ fed_more old place next frames new piece rest taken n fed is short leads =
     let short_on : (m : ℕ) → m < n → progress_at place frames (take m (drop taken piece)) ≡ Wanting =
     λ m lt. ap (λ (r : List ℕ). progress_at place frames (take m r)) (sym is) ∙ short m lt in
     record {
-      ahead = λ octets has more. ahead_behind old place frames new (nexts.At next) octets piece taken n fed has leads_on more;
+      ahead = λ octets has more. ahead_after old place frames new (nexts.At next) octets piece taken n fed has leads_on more;
       short = λ octets has m le. elim (cases_lt m (taken + n)) [
-        | inl lt ↦ short_behind old place frames octets piece taken n m fed has short_on lt
+        | inl lt ↦ short_after old place frames octets piece taken n m fed has short_on lt
         | inr all ↦
             let same : m ≡ taken + n = omega arith in
             ap (λ k. reading (octets ++ take k piece)) same
-            ∙ open_short next new (octets ++ take (taken + n) piece) leads.is_open (λ more. ahead_behind old place frames new (nexts.At next) octets piece taken n fed has leads_on more)
+            ∙ open_short next new (octets ++ take (taken + n) piece) leads.is_open (λ more. ahead_after old place frames new (nexts.At next) octets piece taken n fed has leads_on more)
       ];
     }
 
@@ -111,11 +111,11 @@ fed_ended old place frames new octets piece rest taken n whole fed is short lead
     let short_on : (m : ℕ) → m < n → progress_at place frames (take m (drop taken piece)) ≡ Wanting =
     λ m lt. ap (λ (r : List ℕ). progress_at place frames (take m r)) (sym is) ∙ short m lt in
     let ends : (more : List ℕ) → progress_of (reading ((octets ++ take (taken + n) piece) ++ more)) ≡ ended whole =
-    λ more. ahead_behind old place frames new (nexts.Ended whole) octets piece taken n fed has leads_on more in
+    λ more. ahead_after old place frames new (nexts.Ended whole) octets piece taken n fed has leads_on more in
     record {
       first = record {
         ended = not_short (reading (octets ++ take (taken + n) piece)) whole (ap (λ o. progress_of (reading o)) (sym (append-nil (octets ++ take (taken + n) piece))) ∙ ends []);
-        before = λ m lt. short_behind old place frames octets piece taken n m fed has short_on lt;
+        before = λ m lt. short_after old place frames octets piece taken n m fed has short_on lt;
       };
       ends = ends;
     }

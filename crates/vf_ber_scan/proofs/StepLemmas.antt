@@ -53,8 +53,8 @@ start_ends room (Indefinite around ∷ frames) rest octet ends is rest_is =
     record {
       goes = λ more.
           ap (λ o. after (Indefinite around ∷ frames) (o ∷ more)) is ∙ indefinite_ends around frames more
-          ∙ ap (λ r. then_progress (end_at more) (λ parts behind. after (ended_in frames r) behind)) same
-          ∙ ap (λ fs. then_progress (end_at more) (λ parts behind. after (ended_in fs room) behind)) (sym rest_is);
+          ∙ ap (λ r. then_progress (end_at more) (λ parts tail. after (ended_in frames r) tail)) same
+          ∙ ap (λ fs. then_progress (end_at more) (λ parts tail. after (ended_in fs room) tail)) (sym rest_is);
       is_open = tt;
     }
 

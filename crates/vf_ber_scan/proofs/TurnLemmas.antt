@@ -82,7 +82,7 @@ parts_leave most value reads (suc turns) (suc len) (first ∷ octets) =
     (λ part rest taken.
     read_leaves (λ n. n + (suc len - (suc (length octets) - length rest)) ≡ length rest) (λ n. n + suc len ≡ suc (length octets)) _ _
     (parts_leave most value reads turns (suc len - (suc (length octets) - length rest)) rest)
-    (λ parts behind is. omega (arith, taken.0, taken.1, is)))
+    (λ parts after is. omega (arith, taken.0, taken.1, is)))
 
 pub parts_turns : (most : ℕ) (value : Reader) → IsReader most value → (turns others len : ℕ) (octets : List ℕ) → len ≤ turns → len ≤ others
     → parts_at value turns len octets ≡ parts_at value others len octets
@@ -94,7 +94,7 @@ parts_turns most value reads (suc turns) (suc others) (suc len) [] enough more_e
 parts_turns most value reads (suc turns) (suc others) (suc len) (first ∷ octets) enough more_enough =
     read_same (λ n. n + 2 ≤ suc (length octets)) (value (Exact (suc len)) (first ∷ octets)) _ _ (value_leaves most value reads (Exact (suc len)) first octets)
     (λ part rest taken.
-    ap (λ (r : Reads Trees). then_read r (λ parts behind. Ok (more part parts, behind)))
+    ap (λ (r : Reads Trees). then_read r (λ parts after. Ok (more part parts, after)))
     (parts_turns most value reads turns others (suc len - (suc (length octets) - length rest)) rest (omega arith) (omega arith)))
 
 end_leaves : (octets : List ℕ) → Leaves (λ n. n + 2 ≤ suc (length octets)) (end_at octets)
@@ -111,7 +111,7 @@ ended_leave most value reads (suc turns) room (first ∷ octets) =
     (λ part rest taken.
     read_leaves (λ n. n + 2 ≤ length rest) (λ n. n + 2 ≤ suc (length octets)) _ _
     (ended_leave most value reads turns (less room (suc (length octets) - length rest)) rest)
-    (λ parts behind few. omega arith)))
+    (λ parts after few. omega arith)))
 
 pub ended_turns : (most : ℕ) (value : Reader) → IsReader most value → (turns others : ℕ) (room : Room) (octets : List ℕ) → length octets ≤ turns → length octets ≤ others
     → ended_at value turns room octets ≡ ended_at value others room octets
@@ -123,5 +123,5 @@ ended_turns most value reads (suc turns) (suc others) room (first ∷ octets) en
     ap (cond (nat_eq first 0) (end_at octets))
     (read_same (λ n. n + 2 ≤ suc (length octets)) (value (less room 2) (first ∷ octets)) _ _ (value_leaves most value reads (less room 2) first octets)
     (λ part rest taken.
-    ap (λ (r : Reads Trees). then_read r (λ parts behind. Ok (more part parts, behind)))
+    ap (λ (r : Reads Trees). then_read r (λ parts after. Ok (more part parts, after)))
     (ended_turns most value reads turns others (less room (suc (length octets) - length rest)) rest (omega arith) (omega arith))))

@@ -43,7 +43,7 @@ definite_goes_on (suc left) first frames octets some =
     ∙ progress_same (λ n. n + 2 ≤ suc (length octets)) (value (Exact (suc left)) (first ∷ octets)) _ _ (value_leaves most value reads (Exact (suc left)) first octets)
     (λ part rest taken.
     progress_then (parts_at value left (suc left - (suc (length octets) - length rest)) rest) _ _
-    ∙ ap (λ (r : Reads Trees). then_progress r (λ parts behind. left_progress (length frames) frames behind))
+    ∙ ap (λ (r : Reads Trees). then_progress r (λ parts tail. left_progress (length frames) frames tail))
     (parts_turns most value reads left (suc left - (suc (length octets) - length rest)) (suc left - (suc (length octets) - length rest)) rest (omega arith) (omega arith)))
   where
     most : ℕ
@@ -66,11 +66,11 @@ indefinite_goes_on room first frames octets other =
     (λ part rest taken.
     let k = suc (length octets) - length rest in
     progress_then (ended_at value (length octets) (less room k) rest) _ _
-    ∙ ap (λ (r : Reads Trees). then_progress r (λ parts behind. ending (less room (suc (length octets) - length behind - 2)) behind))
+    ∙ ap (λ (r : Reads Trees). then_progress r (λ parts tail. ending (less room (suc (length octets) - length tail - 2)) tail))
     (ended_turns most value reads (length octets) (length rest) (less room k) rest (omega arith) (omega arith))
     ∙ progress_same (λ n. n + 2 ≤ length rest) (ended_at value (length rest) (less room k) rest) _ _ (ended_leave most value reads (length rest) (less room k) rest)
-    (λ parts behind few.
-    ap (λ (r : Room). ending r behind) (sym (less-less room k (length rest - length behind - 2) ∙ ap (less room) (omega arith)))))
+    (λ parts tail few.
+    ap (λ (r : Room). ending r tail) (sym (less-less room k (length rest - length tail - 2) ∙ ap (less room) (omega arith)))))
   where
     most : ℕ
     most = 32 - suc (length frames)
@@ -82,12 +82,12 @@ indefinite_goes_on room first frames octets other =
     reads = value_answers most
 
     ending : Room → List ℕ → Progress
-    ending r behind = left_progress (length frames) (ended_in frames r) behind
+    ending r tail = left_progress (length frames) (ended_in frames r) tail
 
     going : Reads Trees
     going =
         then_read (value (less room 2) (first ∷ octets))
-        (λ part rest. then_read (ended_at value (length octets) (less room (suc (length octets) - length rest)) rest) (λ parts behind. Ok (more part parts, behind)))
+        (λ part rest. then_read (ended_at value (length octets) (less room (suc (length octets) - length rest)) rest) (λ parts tail. Ok (more part parts, tail)))
 
 -- its end of contents begins
 pub indefinite_ends : (room : Room) (frames : List Frame) (octets : List ℕ)

@@ -3,7 +3,7 @@ ghost use Rattle.vf_ber_scan.specs.Places.{IsOpen, IsOpen-prop};
 
 use crate::frames::Frames;
 use crate::place::{Next, Place};
-use crate::step::behind;
+use crate::step::advance;
 
 /// Where a value ends: so many octets of a piece are taken with it.
 #[derive(Clone, Copy)]
@@ -61,7 +61,7 @@ impl Scan {
         let mut taken = 0;
         while taken < piece.len() {
             let (_, rest) = piece.split_at(taken);
-            let (n, next) = behind(self.place, &mut self.frames, rest);
+            let (n, next) = advance(self.place, &mut self.frames, rest);
             taken += n;
             match next {
                 Next::At(place) => self.place = place,

@@ -13,7 +13,7 @@ use vf_ber::MOST_DEPTH;
 use vf_ber::fitting::{Around, Asked, Room, is_first, is_length, is_reached, is_second, less};
 
 /// Takes the first octet of the rest, or as many as there are of the contents at hand, and says how many these are.
-pub fn behind(place: Place, frames: &mut Frames, rest: &[u8]) -> (usize, Next)
+pub fn advance(place: Place, frames: &mut Frames, rest: &[u8]) -> (usize, Next)
     requires is_open { IsOpen place frames.old }
     requires some { 0 < length rest.now }
     ensures some { 0 < result.0 }
@@ -22,55 +22,55 @@ pub fn behind(place: Place, frames: &mut Frames, rest: &[u8]) -> (usize, Next)
     ensures leads { Leads (λ more. progress_at place frames.old (take result.0 rest.now ++ more)) result.1 frames.new }
 {
     let Place::Contents { left } = place else {
-        return (1, behind_octet(place, frames, rest[0]));
+        return (1, after_octet(place, frames, rest[0]));
     };
     if (rest.len() as u64) < left {
         let left = left - rest.len() as u64;
         return (rest.len(), Next::At(Place::Contents { left }));
     }
-    (left as usize, behind_value(frames))
+    (left as usize, after_value(frames))
 }
 
-fn behind_octet(place: Place, frames: &mut Frames, octet: u8) -> Next
+fn after_octet(place: Place, frames: &mut Frames, octet: u8) -> Next
     requires is_open { IsOpen place frames.old }
     requires other { (left : ℕ) → place ≢ Place.Contents left }
     ensures { Leads (λ more. progress_at place frames.old (octet ∷ more)) result frames.new }
 {
     match place {
-        Place::Start => behind_start(frames, octet),
-        Place::Second { constructed } => behind_second(frames, constructed, octet),
-        Place::Third { constructed } => behind_third(frames, constructed, octet),
+        Place::Start => after_start(frames, octet),
+        Place::Second { constructed } => after_second(frames, constructed, octet),
+        Place::Third { constructed } => after_third(frames, constructed, octet),
         Place::Length {
             constructed,
             prefix,
-        } => behind_length(frames, constructed, prefix, octet),
+        } => after_length(frames, constructed, prefix, octet),
         Place::Digits {
             constructed,
             prefix,
             more,
             high,
-        } => behind_digit(frames, constructed, prefix, more, high, octet),
+        } => after_digit(frames, constructed, prefix, more, high, octet),
         Place::Contents { .. } => unreachable!(),
-        Place::End { room } => behind_end(frames, room, octet),
+        Place::End { room } => after_end(frames, room, octet),
     }
 }
 
 /// At the beginning of a value, or of the end of contents.
-fn behind_start(frames: &mut Frames, octet: u8) -> Next
+fn after_start(frames: &mut Frames, octet: u8) -> Next
     requires { IsGoing frames.old }
     ensures { Leads (λ more. progress_at Place.Start frames.old (octet ∷ more)) result frames.new }
 {
     let Some(room) = frames.end_room() else {
-        return behind_first(frames, octet);
+        return after_first(frames, octet);
     };
     if octet != 0 {
-        return behind_first(frames, octet);
+        return after_first(frames, octet);
     }
     frames.pop();
     Next::At(Place::End { room })
 }
 
-fn behind_first(frames: &Frames, first: u8) -> Next
+fn after_first(frames: &Frames, first: u8) -> Next
     ensures { Leads (λ more. value_progress frames.now (first ∷ more)) result frames.now }
 {
     if !is_first(Asked::Bounded, frames.depth(), frames.room(), first) {
@@ -87,7 +87,7 @@ fn behind_first(frames: &Frames, first: u8) -> Next
     }
 }
 
-fn behind_second(frames: &Frames, constructed: bool, second: u8) -> Next
+fn after_second(frames: &Frames, constructed: bool, second: u8) -> Next
     requires { IsOpen (Place.Second constructed) frames.now }
     ensures { Leads (λ more. progress_at (Place.Second constructed) frames.now (second ∷ more)) result frames.now }
 {
@@ -104,7 +104,7 @@ fn behind_second(frames: &Frames, constructed: bool, second: u8) -> Next
     }
 }
 
-fn behind_third(frames: &Frames, constructed: bool, third: u8) -> Next
+fn after_third(frames: &Frames, constructed: bool, third: u8) -> Next
     requires { IsOpen (Place.Third constructed) frames.now }
     ensures { Leads (λ more. progress_at (Place.Third constructed) frames.now (third ∷ more)) result frames.now }
 {
@@ -129,7 +129,7 @@ fn around(frames: &Frames, constructed: bool, prefix: u64) -> Around
     }
 }
 
-fn behind_length(frames: &mut Frames, constructed: bool, prefix: u64, octet: u8) -> Next
+fn after_length(frames: &mut Frames, constructed: bool, prefix: u64, octet: u8) -> Next
     requires { IsOpen (Place.Length constructed prefix) frames.old }
     ensures { Leads (λ more. progress_at (Place.Length constructed prefix) frames.old (octet ∷ more)) result frames.new }
 {
@@ -137,10 +137,10 @@ fn behind_length(frames: &mut Frames, constructed: bool, prefix: u64, octet: u8)
         return Next::Ended { whole: false };
     }
     if octet < 128 {
-        return behind_header(frames, constructed, prefix + 1, Some(octet as u64));
+        return after_header(frames, constructed, prefix + 1, Some(octet as u64));
     }
     if octet == 128 {
-        return behind_header(frames, constructed, prefix + 1, None);
+        return after_header(frames, constructed, prefix + 1, None);
     }
     let more = octet - 128;
     Next::At(Place::Digits {
@@ -151,7 +151,7 @@ fn behind_length(frames: &mut Frames, constructed: bool, prefix: u64, octet: u8)
     })
 }
 
-fn behind_digit(
+fn after_digit(
     frames: &mut Frames,
     constructed: bool,
     prefix: u64,
@@ -173,7 +173,7 @@ fn behind_digit(
         return Next::Ended { whole: false };
     }
     if more == 0 {
-        return behind_header(frames, constructed, prefix, Some(high));
+        return after_header(frames, constructed, prefix, Some(high));
     }
     Next::At(Place::Digits {
         constructed,
@@ -184,7 +184,7 @@ fn behind_digit(
 }
 
 /// After the identifier and the length of a value.
-fn behind_header(frames: &mut Frames, constructed: bool, prefix: u64, size: Option<u64>) -> Next
+fn after_header(frames: &mut Frames, constructed: bool, prefix: u64, size: Option<u64>) -> Next
     requires { length frames.old < MOST_DEPTH }
     ensures { Leads (λ more. contents_progress frames.old prefix constructed size more) result frames.new }
 {
@@ -197,27 +197,27 @@ fn behind_header(frames: &mut Frames, constructed: bool, prefix: u64, size: Opti
     frames.take(n);
     if constructed {
         frames.push(Frame::Definite { left: n });
-        return behind_value(frames);
+        return after_value(frames);
     }
     if n == 0 {
-        return behind_value(frames);
+        return after_value(frames);
     }
     Next::At(Place::Contents { left: n })
 }
 
 /// At the second octet of an end of contents.
-fn behind_end(frames: &mut Frames, room: Room, octet: u8) -> Next
+fn after_end(frames: &mut Frames, room: Room, octet: u8) -> Next
     ensures { Leads (λ more. progress_at (Place.End room) frames.old (octet ∷ more)) result frames.new }
 {
     if octet != 0 {
         return Next::Ended { whole: false };
     }
     frames.resume(room);
-    behind_value(frames)
+    after_value(frames)
 }
 
 /// After a value, with which some of those around it may end.
-fn behind_value(frames: &mut Frames) -> Next
+fn after_value(frames: &mut Frames) -> Next
     ensures { Leads (λ more. after frames.old more) result frames.new }
 {
     while let Some(frame) = frames.top() {

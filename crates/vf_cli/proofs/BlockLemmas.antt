@@ -5,10 +5,10 @@ use Rattle.vf_cli.specs.Hex.{Takes}
 use Rattle.vf_cli.specs.Reader.{MovesDigits, Stops}
 use Rattle.vf_cli.specs.declared.block.Stop.{Stop}
 
--- the octets from a place to an end, without so many at their front
-drop_front : (items : List ℕ) (place end count : ℕ) → place ≤ end →
+-- the octets from a place to an end, without the first so many
+drop_prefix : (items : List ℕ) (place end count : ℕ) → place ≤ end →
     drop (place + count) (take end items) ≡ drop count (take (end - place) (drop place items))
-drop_front items place end count within =
+drop_prefix items place end count within =
     let size : place + (end - place) ≡ end = omega arith in
     let slice : drop place (take end items) ≡ take (end - place) (drop place items) =
     ap (λ (n : ℕ). drop place (take n items)) (sym size) ∙ drop-take place (end - place) items in
@@ -23,9 +23,9 @@ pub moves_digits : (items shown old old_digits new_digits : List ℕ) (place end
 moves_digits items shown old old_digits new_digits place end count stop same within is_old takes stops =
     let octets : List ℕ = take (end - place) (drop place shown) in
     let here : octets ≡ take (end - place) (drop place items) = ap (λ (l : List ℕ). take (end - place) (drop place l)) same in
-    let rest : drop (place + count) (take end items) ≡ drop count octets = drop_front items place end count within ∙ ap (drop count) (sym here) in
+    let rest : drop (place + count) (take end items) ≡ drop count octets = drop_prefix items place end count within ∙ ap (drop count) (sym here) in
     let all : drop place (take end items) ≡ octets =
-    ap (λ (n : ℕ). drop n (take end items)) (omega arith) ∙ drop_front items place end 0 within ∙ sym here in (
+    ap (λ (n : ℕ). drop n (take end items)) (omega arith) ∙ drop_prefix items place end 0 within ∙ sym here in (
       take count octets,
       sym is_old ∙ all ∙ sym (take-append-drop count octets) ∙ ap (λ (l : List ℕ). take count octets ++ l) (sym rest),
       takes.digits,

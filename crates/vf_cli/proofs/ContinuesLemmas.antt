@@ -13,10 +13,10 @@ use Rattle.vf_elements.specs.declared.message.Said.{Said}
 use Rattle.vf_elements.specs.declared.message.Said.TheVariants as answers
 use Rattle.vf_regime.specs.State.{State, StandingParty, party_of, with_party}
 use Rattle.vf_regime.specs.Transition.{Consequence, after_transition, transition}
-use Rattle.vf_cli.specs.Conversation.{Aborts, Continues, IsQuiet, behind}
-use Rattle.vf_cli.specs.Dialogue.{Faulty, Heard, Received, answer, answer_by, dialogue_from, received, received_first, is_abort, joined, link, behind_replies, heard, outside, prints_after, reply, said_to, consequence_to}
+use Rattle.vf_cli.specs.Conversation.{Aborts, Continues, IsQuiet, printed_after}
+use Rattle.vf_cli.specs.Dialogue.{Faulty, Heard, Received, answer, answer_by, dialogue_from, received, received_first, is_abort, joined, link, tail_replies, heard, outside, prints_after, reply, said_to, consequence_to}
 use Rattle.vf_cli.specs.Printed.{Printed}
-use Rattle.vf_cli.proofs.ReceivedLemmas.{received-read, received_front}
+use Rattle.vf_cli.proofs.ReceivedLemmas.{received-read, received_prefix}
 
 -- a link where no party stands is told nothing
 pub said_to-gone : (state : State) (things : List Received) → state.parties ≡ [] → said_to state things ≡ []
@@ -42,14 +42,14 @@ after_one state party consequence one here =
     ∙ ap (λ (n : ℕ). if nat_eq n link then option_to_list consequence.party ++ [] else party ∷ []) here
 
 abbrev pub last : Bool → Option ℕ → Printed
-last aborted bad = if aborted then record { octets = []; status = 7 } else behind_replies bad
+last aborted bad = if aborted then record { octets = []; status = 7 } else tail_replies bad
 
 abbrev pub with_last : List ℕ → Printed → Printed
 with_last lines last = record { octets = lines ++ last.octets; status = last.status }
 
 -- what is said first is printed first, where no abort is among it
 pub prints_after-append : (said later : List Said) (bad : Option ℕ) → list_any is_abort said ≡ false
-    → prints_after (said ++ later) bad ≡ behind (flat_map reply said) (prints_after later bad)
+    → prints_after (said ++ later) bad ≡ printed_after (flat_map reply said) (prints_after later bad)
 prints_after-append said later bad none =
     let flag : list_any is_abort (said ++ later) ≡ list_any is_abort later =
     list_any-append is_abort said later ∙ ap (λ b. b || list_any is_abort later) none in
@@ -85,7 +85,7 @@ module _ (old new : State) (octets rest : List ℕ) where
         ∙ prints_after-abort said input.bad abort;
   }
 
--- a message in front is taken by the one party
+-- a first message is taken by the one party
 pub says_message : (state : State) (party : StandingParty) (octets : List ℕ) (tree : Tree) (n : ℕ) (message : Message)
     → state.parties ≡ party ∷ [] → party.link ≡ link → reading octets ≡ Read tree n → message_in tree ≡ Ok message
     → Says state (after_transition state link (transition state party 0 message)) octets (drop n octets) (transition state party 0 message).said
@@ -114,12 +114,12 @@ module _ (first second third : State) (octets between rest said later : List ℕ
   pub continues-continues : Continues first octets said second between → Continues second between later third rest
       → Continues first octets (said ++ later) third rest
   continues-continues one two = record {
-    prints = λ input. one.prints input ∙ ap (behind said) (two.prints input)
+    prints = λ input. one.prints input ∙ ap (printed_after said) (two.prints input)
         ∙ (λ i. record { octets = sym (append_assoc said later (dialogue_from third rest input).octets) i; status = (dialogue_from third rest input).status });
   }
 
   pub continues-aborts : Continues first octets said second between → Aborts second between later → Aborts first octets (said ++ later)
-  continues-aborts one two = record { prints = λ input. one.prints input ∙ ap (behind said) (two.prints input) }
+  continues-aborts one two = record { prints = λ input. one.prints input ∙ ap (printed_after said) (two.prints input) }
 
 -- nothing taken yet
 pub continues_none : (state : State) (octets : List ℕ) → Continues state octets [] state octets
@@ -130,11 +130,11 @@ pub continues_gone : (state : State) (octets rest : List ℕ) → state.parties 
 continues_gone state octets rest gone = record {
   prints = λ input.
       ap (λ l. prints_after l input.bad) (said_to-gone state (received (octets ++ joined input.pieces)) gone)
-      ∙ sym (ap (λ l. behind [] (prints_after l input.bad)) (said_to-gone state (received (rest ++ joined input.pieces)) gone));
+      ∙ sym (ap (λ l. printed_after [] (prints_after l input.bad)) (said_to-gone state (received (rest ++ joined input.pieces)) gone));
 }
 
 pub quiet_gone : (state : State) (pending : List ℕ) → state.parties ≡ [] → IsQuiet state pending
 quiet_gone state pending gone = said_to-gone state (received pending) gone
 
 pub quiet_short : (state : State) (pending : List ℕ) → reading pending ≡ Short → IsQuiet state pending
-quiet_short state pending short = ap (said_to state) (received_front pending ∙ ap (received_first received pending) short)
+quiet_short state pending short = ap (said_to state) (received_prefix pending ∙ ap (received_first received pending) short)

@@ -44,15 +44,15 @@ unfolding first_length
 grows octet [] rest = refl
 grows octet (line ∷ lines) rest = refl
 
-first_within : (front rest : List ℕ) → IsInLine front →
-    length front ≤ first_length (cut (front ++ rest)).lines (cut (front ++ rest)).rest
+first_within : (prefix rest : List ℕ) → IsInLine prefix →
+    length prefix ≤ first_length (cut (prefix ++ rest)).lines (cut (prefix ++ rest)).rest
 first_within [] rest in_line = omega arith
-first_within (octet ∷ front) rest in_line =
-    let below = first_within front rest (tail_in_line octet front in_line) in
-    let behind : Cut = cut (front ++ rest) in
-    let more = grows octet behind.lines behind.rest in
-    let P : Cut → Type 0 = λ c. suc (length front) ≤ first_length c.lines c.rest in
-    subst P (sym (cut_step octet (front ++ rest) (head_in_line octet front in_line))) (omega arith)
+first_within (octet ∷ prefix) rest in_line =
+    let below = first_within prefix rest (tail_in_line octet prefix in_line) in
+    let after : Cut = cut (prefix ++ rest) in
+    let more = grows octet after.lines after.rest in
+    let P : Cut → Type 0 = λ c. suc (length prefix) ≤ first_length c.lines c.rest in
+    subst P (sym (cut_step octet (prefix ++ rest) (head_in_line octet prefix in_line))) (omega arith)
 
 says_line : (count number : ℕ) (line rest : List ℕ) → IsInLine line →
     says_from count number (line ++ line_feed ∷ rest)
@@ -95,33 +95,33 @@ first_is_long count number room (line ∷ lines) rest limit long =
     ap (λ p. line_before p number (lines_say (count + length line + 1) (number + 1) lines rest))
     (long_is_bad (count + length line + 1) line (omega arith))
 
--- the line that begins with these octets ends behind the limit, or not at all
-pub says_long : (count number room : ℕ) (front rest : List ℕ) → IsInLine front →
-    count + room ≡ input_limit → room < length front → says_from count number (front ++ rest) ≡ bad_at number
-says_long count number room front rest in_line limit long =
-    let within = first_within front rest in_line in
-    first_is_long count number room (cut (front ++ rest)).lines (cut (front ++ rest)).rest limit (omega arith)
+-- the line that begins with these octets ends after the limit, or not at all
+pub says_long : (count number room : ℕ) (prefix rest : List ℕ) → IsInLine prefix →
+    count + room ≡ input_limit → room < length prefix → says_from count number (prefix ++ rest) ≡ bad_at number
+says_long count number room prefix rest in_line limit long =
+    let within = first_within prefix rest in_line in
+    first_is_long count number room (cut (prefix ++ rest)).lines (cut (prefix ++ rest)).rest limit (omega arith)
 
 -- octets within a line are before the first line, or before all
 abbrev before_first : List ℕ → List (List ℕ) → List ℕ → Cut
-before_first front [] rest = record { lines = []; rest = front ++ rest }
-before_first front (line ∷ lines) rest = record { lines = (front ++ line) ∷ lines; rest = rest }
+before_first prefix [] rest = record { lines = []; rest = prefix ++ rest }
+before_first prefix (line ∷ lines) rest = record { lines = (prefix ++ line) ∷ lines; rest = rest }
 
-before_more : (octet : ℕ) (front : List ℕ) (lines : List (List ℕ)) (rest : List ℕ)
-    → octet_before octet (before_first front lines rest).lines (before_first front lines rest).rest ≡ before_first (octet ∷ front) lines rest
-before_more octet front [] rest = refl
-before_more octet front (line ∷ lines) rest = refl
+before_more : (octet : ℕ) (prefix : List ℕ) (lines : List (List ℕ)) (rest : List ℕ)
+    → octet_before octet (before_first prefix lines rest).lines (before_first prefix lines rest).rest ≡ before_first (octet ∷ prefix) lines rest
+before_more octet prefix [] rest = refl
+before_more octet prefix (line ∷ lines) rest = refl
 
 before_none : (lines : List (List ℕ)) (rest : List ℕ) → record { lines = lines; rest = rest } ≡ before_first [] lines rest
 before_none [] rest = refl
 before_none (line ∷ lines) rest = refl
 
-cut-append : (front rest : List ℕ) → IsInLine front → cut (front ++ rest) ≡ before_first front (cut rest).lines (cut rest).rest
+cut-append : (prefix rest : List ℕ) → IsInLine prefix → cut (prefix ++ rest) ≡ before_first prefix (cut rest).lines (cut rest).rest
 cut-append [] rest in_line = before_none (cut rest).lines (cut rest).rest
-cut-append (octet ∷ front) rest in_line =
-    cut_step octet (front ++ rest) (head_in_line octet front in_line)
-    ∙ ap (λ (c : Cut). octet_before octet c.lines c.rest) (cut-append front rest (tail_in_line octet front in_line))
-    ∙ before_more octet front (cut rest).lines (cut rest).rest
+cut-append (octet ∷ prefix) rest in_line =
+    cut_step octet (prefix ++ rest) (head_in_line octet prefix in_line)
+    ∙ ap (λ (c : Cut). octet_before octet c.lines c.rest) (cut-append prefix rest (tail_in_line octet prefix in_line))
+    ∙ before_more octet prefix (cut rest).lines (cut rest).rest
 
 pub none_within : (count : ℕ) (line : List ℕ) → octets_of line ≡ None → piece_of count line ≡ None
 none_within count [] bad = refl
@@ -135,11 +135,11 @@ none_within count (digit ∷ digits) bad = by (nat_le count input_limit)
 pub says_stray : (count number : ℕ) (digits : List ℕ) (stray : ℕ) (rest : List ℕ) → IsInLine digits → IsStray stray
     → says_from count number (digits ++ stray ∷ rest) ≡ bad_at number
 says_stray count number digits stray rest in_line is_stray =
-    let front : List ℕ = digits ++ stray ∷ [] in
-    let feedless : IsInLine front =
+    let prefix : List ℕ = digits ++ stray ∷ [] in
+    let feedless : IsInLine prefix =
     All-append (λ octet. octet ≢ line_feed) digits (stray ∷ []) in_line (All-cons (λ octet. octet ≢ line_feed) stray [] is_stray.1 (All-nil (λ octet. octet ≢ line_feed))) in
     ap (λ (l : List ℕ). says_from count number l) (sym (append_assoc digits (stray ∷ []) rest))
-    ∙ ap (λ (c : Cut). lines_say count number c.lines c.rest) (cut-append front rest feedless)
+    ∙ ap (λ (c : Cut). lines_say count number c.lines c.rest) (cut-append prefix rest feedless)
     ∙ by (cut rest).lines (cut rest).rest
   where
     by : (lines : List (List ℕ)) (left : List ℕ)

@@ -6,13 +6,13 @@ use Rattle.vf_cli.specs.declared.conversation.Conversation.{Conversation}
 use Rattle.vf_cli.specs.declared.conversation.Stream.{Stream}
 use Rattle.vf_cli.specs.declared.conversation.Stream.TheVariants as streams
 use Rattle.vf_cli.specs.declared.lines.NextLine.TheVariants.{Bad, End, Piece}
-use Rattle.vf_cli.specs.Conversation.{Adds, IsInterrupted, IsQuiet, Stands, StandsBy, Steps, TakesReady, Told, behind, is_ready, octets_in}
+use Rattle.vf_cli.specs.Conversation.{Adds, IsInterrupted, IsQuiet, Stands, StandsBy, Steps, TakesReady, Told, printed_after, is_ready, octets_in}
 use Rattle.vf_cli.specs.Dialogue.{dialogue_from}
 use Rattle.vf_cli.specs.Lines.{Input, bad_line}
-use Rattle.vf_cli.specs.Printed.{Wrote, WroteFront}
+use Rattle.vf_cli.specs.Printed.{Wrote, WrotePrefix}
 use Rattle.vf_cli.specs.Reader.{Answers}
 use Rattle.vf_cli.proofs.ContinuesLemmas.{quiet_gone, quiet_short}
-use Rattle.vf_cli.proofs.PrintedLemmas.{dialogue_from-bad, dialogue_from-ended, dialogue_from-piece, front-longer, front_nothing, wrote_nothing}
+use Rattle.vf_cli.proofs.PrintedLemmas.{dialogue_from-bad, dialogue_from-ended, dialogue_from-piece, prefix-longer, prefix_nothing, wrote_nothing}
 
 -- what holds anyway holds where there is an error
 pub on_err : {T E : Type 0} (result : Result T E) (P : Type 0) → P → OnErr result P
@@ -21,7 +21,7 @@ on_err (Err e) P holds = holds
 
 pub interrupted_before : (state : State) (pending : List ℕ) (input : Option Input) (taken : Option (List ℕ)) → IsInterrupted state pending input taken taken
 interrupted_before state pending None taken = tt
-interrupted_before state pending (Some input) taken = front_nothing (dialogue_from state pending input).octets taken
+interrupted_before state pending (Some input) taken = prefix_nothing (dialogue_from state pending input).octets taken
 
 -- a stream with nothing ready is told nothing more where the input ends
 pub quiet_stands : (conversation : Conversation) (state : State) → is_ready conversation.stream ≡ false → Stands conversation state
@@ -35,15 +35,15 @@ quiet_stands conversation state ready stands = by conversation.stream ready stan
 
 module _ (state : State) (before : Conversation) (old new : Option (List ℕ)) where
   -- a prefix of the replies is a prefix of all that would be printed
-  pub ready_interrupted : (aborted : Bool) (lines : List ℕ) (after : Conversation) → TakesReady state before [] lines after aborted → WroteFront lines old new
+  pub ready_interrupted : (aborted : Bool) (lines : List ℕ) (after : Conversation) → TakesReady state before [] lines after aborted → WrotePrefix lines old new
       → (input : Option Input) → IsInterrupted state (octets_in before.stream) input old new
-  ready_interrupted aborted lines after takes front None = tt
-  ready_interrupted true lines after takes front (Some input) =
-      subst (λ l. WroteFront l old new) (takes.1 ∙ (λ i. (sym ((takes.2).prints input) i).octets)) front
-  ready_interrupted false lines after takes front (Some input) =
+  ready_interrupted aborted lines after takes prefix None = tt
+  ready_interrupted true lines after takes prefix (Some input) =
+      subst (λ l. WrotePrefix l old new) (takes.1 ∙ (λ i. (sym ((takes.2).prints input) i).octets)) prefix
+  ready_interrupted false lines after takes prefix (Some input) =
       let next = (takes.2).0 in
-      subst (λ l. WroteFront l old new) (λ i. (sym (((takes.2).2).prints input) i).octets)
-      (front-longer takes.0 (dialogue_from next (octets_in after.stream) input).octets old new (subst (λ l. WroteFront l old new) takes.1 front))
+      subst (λ l. WrotePrefix l old new) (λ i. (sym (((takes.2).2).prints input) i).octets)
+      (prefix-longer takes.0 (dialogue_from next (octets_in after.stream) input).octets old new (subst (λ l. WrotePrefix l old new) takes.1 prefix))
 
   -- the replies are what is printed before what the next state prints, or all
   pub steps_ready : (aborted : Bool) (lines : List ℕ) (after : Conversation) → TakesReady state before [] lines after aborted → Wrote lines old new
@@ -58,7 +58,7 @@ module _ (state : State) (before : Conversation) (old new : Option (List ℕ)) w
       ((takes.2).0, takes.0, (takes.2).1, subst (λ l. Wrote l old new) takes.1 wrote, by input)
     where
       by : (input : Option Input) → Told input (λ told. (rest : Input) × (input ≡ Some rest)
-          × (dialogue_from state (octets_in before.stream) told ≡ behind takes.0 (dialogue_from (takes.2).0 (octets_in after.stream) rest)))
+          × (dialogue_from state (octets_in before.stream) told ≡ printed_after takes.0 (dialogue_from (takes.2).0 (octets_in after.stream) rest)))
       by None = tt
       by (Some input) = (input, refl, ((takes.2).2).prints input)
 
@@ -69,7 +69,7 @@ module _ (state : State) (before : Conversation) (taken : Option (List ℕ)) (ol
   steps_piece piece after answers adds = (state, [], adds.0, wrote_nothing taken, by old_input answers)
     where
       by : (old_input : Option Input) → Answers old_input new_input piece (Ok Piece) → Told old_input (λ input. (rest : Input) × (new_input ≡ Some rest)
-          × (dialogue_from state (octets_in before.stream) input ≡ behind [] (dialogue_from state (octets_in after.stream) rest)))
+          × (dialogue_from state (octets_in before.stream) input ≡ printed_after [] (dialogue_from state (octets_in after.stream) rest)))
       by None answers = tt
       by (Some all) answers = (
         answers.0,
@@ -107,9 +107,9 @@ module _ (state : State) (before : Conversation) (taken : Option (List ℕ)) (ol
         by (Some all) answers = bad_printed number piece all answers
 
     pub bad_interrupted : (number : ℕ) (piece : List ℕ) (new : Option (List ℕ)) → Answers old_input new_input piece (Ok (Bad number))
-        → WroteFront (bad_line number) taken new → IsInterrupted state (octets_in before.stream) old_input taken new
-    bad_interrupted number piece new answers front = by old_input answers
+        → WrotePrefix (bad_line number) taken new → IsInterrupted state (octets_in before.stream) old_input taken new
+    bad_interrupted number piece new answers prefix = by old_input answers
       where
         by : (old_input : Option Input) → Answers old_input new_input piece (Ok (Bad number)) → IsInterrupted state (octets_in before.stream) old_input taken new
         by None answers = tt
-        by (Some all) answers = subst (λ l. WroteFront l taken new) (λ i. (sym (bad_printed number piece all answers) i).octets) front
+        by (Some all) answers = subst (λ l. WrotePrefix l taken new) (λ i. (sym (bad_printed number piece all answers) i).octets) prefix

@@ -1,35 +1,35 @@
--- What was written, one part behind another.
+-- What was written, one part after another.
 use Rattle.std.proofs.Common.{◌≡◌, ℕ, List, [], ◌++◌, Option, None, Some, refl, ap, sym, subst, ◌∙◌, append_assoc, append-nil}
 use Rattle.vf_regime.specs.State.{State}
 use Rattle.vf_cli.specs.Conversation.{IsQuiet}
 use Rattle.vf_cli.specs.Dialogue.{dialogue_from, received, joined, prints_after, said_to}
 use Rattle.vf_cli.specs.Lines.{Input, bad_at, bad_line, ended, piece_before}
-use Rattle.vf_cli.specs.Printed.{Wrote, WroteFront}
+use Rattle.vf_cli.specs.Printed.{Wrote, WrotePrefix}
 
 pub wrote_nothing : (taken : Option (List ℕ)) → Wrote [] taken taken
 wrote_nothing None = tt
 wrote_nothing (Some octets) = ap Some (sym (append-nil octets))
 
-pub front_nothing : (octets : List ℕ) (taken : Option (List ℕ)) → WroteFront octets taken taken
-front_nothing octets taken = ([], octets, refl, wrote_nothing taken)
+pub prefix_nothing : (octets : List ℕ) (taken : Option (List ℕ)) → WrotePrefix octets taken taken
+prefix_nothing octets taken = ([], octets, refl, wrote_nothing taken)
 
 pub wrote-wrote : (one two : List ℕ) (old between new : Option (List ℕ)) → Wrote one old between → Wrote two between new → Wrote (one ++ two) old new
 wrote-wrote one two None between new first second = tt
 wrote-wrote one two (Some octets) between new first second =
     subst (λ (o : Option (List ℕ)). Wrote two o new) first second ∙ ap Some (append_assoc octets one two)
 
-pub wrote-front : (one two : List ℕ) (old between new : Option (List ℕ)) → Wrote one old between → WroteFront two between new → WroteFront (one ++ two) old new
-wrote-front one two old between new first second = (
+pub wrote-prefix : (one two : List ℕ) (old between new : Option (List ℕ)) → Wrote one old between → WrotePrefix two between new → WrotePrefix (one ++ two) old new
+wrote-prefix one two old between new first second = (
   one ++ second.0,
   second.1,
   ap (λ l. one ++ l) second.2 ∙ sym (append_assoc one second.0 second.1),
   wrote-wrote one second.0 old between new first second.3,
 )
 
--- a front of a part in front is a front of all
-pub front-longer : (one two : List ℕ) (old new : Option (List ℕ)) → WroteFront one old new → WroteFront (one ++ two) old new
-front-longer one two old new front =
-    (front.0, front.1 ++ two, ap (λ l. l ++ two) front.2 ∙ append_assoc front.0 front.1 two, front.3)
+-- a prefix of a first part is a prefix of all
+pub prefix-longer : (one two : List ℕ) (old new : Option (List ℕ)) → WrotePrefix one old new → WrotePrefix (one ++ two) old new
+prefix-longer one two old new prefix =
+    (prefix.0, prefix.1 ++ two, ap (λ l. l ++ two) prefix.2 ∙ append_assoc prefix.0 prefix.1 two, prefix.3)
 
 module _ (state : State) (pending : List ℕ) where
   -- a piece joins the octets that were pending

@@ -32,11 +32,11 @@ received_enough (suc m) (suc n) octets p q =
     by (Long at) takes rest = refl
     by (Read tree k) takes rest = ap (λ l. heard (message_in tree) ∷ l) (rest k takes.0)
 
--- what is received begins with what stands in front
-pub received_front : (octets : List ℕ) → received octets ≡ received_first received octets (reading octets)
+-- what is received begins with what stands first
+pub received_prefix : (octets : List ℕ) → received octets ≡ received_first received octets (reading octets)
 unfolding received_within
-received_front [] = sym (ap (received_first received []) reading_none)
-received_front (octet ∷ octets) =
+received_prefix [] = sym (ap (received_first received []) reading_none)
+received_prefix (octet ∷ octets) =
     by (reading (octet ∷ octets)) (reading-takes (octet ∷ octets))
   where
     by : (r : Reading) → Takes (octet ∷ octets) r → received_first (received_within (length octets)) (octet ∷ octets) r ≡ received_first received (octet ∷ octets) r
@@ -49,10 +49,10 @@ received_front (octet ∷ octets) =
         let shorter : length rest ≤ length octets = omega (arith, length-drop k (octet ∷ octets)) in
         ap (λ l. heard (message_in tree) ∷ l) (received_enough (length octets) (length rest) rest shorter (omega arith))
 
--- a front that is settled is received as it is, and then what is behind it
+-- a prefix that is settled is received as it is, and then what is after it
 pub received-settled : (octets more : List ℕ) (r : Reading) → reading octets ≡ r → IsSettled r → received (octets ++ more) ≡ received_first received (octets ++ more) r
 received-settled octets more r is settled =
-    received_front (octets ++ more)
+    received_prefix (octets ++ more)
     ∙ ap (received_first received (octets ++ more)) (reading-append octets more (subst IsSettled (sym is) settled) ∙ is)
 
 pub received-read : (octets more : List ℕ) (tree : Tree) (n : ℕ) → reading octets ≡ Read tree n

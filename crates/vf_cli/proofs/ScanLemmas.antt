@@ -1,4 +1,4 @@
--- Where a scan stands behind octets that were read as no whole value.
+-- Where a scan stands after octets that were read as no whole value.
 use Rattle.std.proofs.Common.{◌≡◌, true, false, ◌++◌, ℕ, List, [], ◌∷◌, subst, sym, append-nil, append_assoc}
 use Rattle.std.proofs.lemmas.List.{take-append-drop}
 use Rattle.std.specs.Prelude.{Option, Some, None, OnSome, is_some, take, drop}
@@ -9,15 +9,15 @@ use Rattle.vf_ber.specs.Reading.{IsReading, IsSpelling, Short, bounded}
 use Rattle.vf_ber_scan.specs.Scanned.{HasTaken, IsFed}
 use Rattle.vf_ber_scan.specs.declared.scan.Scan.{Scan}
 
--- where octets are wanting behind some, they are behind those in front
+-- where octets are wanting after some, they are after the first ones
 prefix_short : (octets more : List ℕ) → reading (octets ++ more) ≡ Short → reading octets ≡ Short
 prefix_short octets [] e = subst (λ (l : List ℕ). reading l ≡ Short) (append-nil octets) e
 prefix_short octets (next ∷ more) e =
     let whole : IsReading (octets ++ next ∷ more) Short =
     subst (λ v. IsReading (octets ++ next ∷ more) v) e (reading_found (octets ++ next ∷ more)) in
-    let front : IsReading octets Short =
+    let prefix : IsReading octets Short =
     (next, more ++ whole.0 ∷ whole.1, whole.2, subst (λ (l : List ℕ). IsSpelling bounded l whole.2) (append_assoc octets (next ∷ more) (whole.0 ∷ whole.1)) whole.3) in
-    one_reading octets (reading octets) Short (reading_found octets) front
+    one_reading octets (reading octets) Short (reading_found octets) prefix
 
 pub scanned : (rest : List ℕ) (result : Option ℕ) (scan : Scan) → reading rest ≡ Short → IsFed [] rest result scan → HasTaken scan rest
 scanned rest None scan short fed = fed

@@ -20,8 +20,8 @@ not_ready stream is_so says one two holds fails = absurd (true≢false (sym hold
 -- octets in a stream of another spelling
 continues_as : (state next : State) (octets pending replies rest left : List ℕ) → octets ≡ pending → rest ≡ left
     → Continues state octets replies next rest → Continues state pending replies next left
-continues_as state next octets pending replies rest left same behind continues =
-    subst (λ (l : List ℕ). Continues state pending replies next l) behind (subst (λ (l : List ℕ). Continues state l replies next rest) same continues)
+continues_as state next octets pending replies rest left same tail continues =
+    subst (λ (l : List ℕ). Continues state pending replies next l) tail (subst (λ (l : List ℕ). Continues state l replies next rest) same continues)
 
 -- a piece joins the octets that wait
 pub piece_added : (state : State) (tables : Tables) (before stream : Stream) (party : Party) (octets piece : List ℕ) (scan : Scan)

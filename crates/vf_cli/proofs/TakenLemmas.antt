@@ -1,4 +1,4 @@
--- What the party takes from the front of octets, and what is still printed after it.
+-- What the party takes from the first octets, and what is still printed after it.
 use Rattle.std.proofs.Common.{◌≡◌, ℕ, ◌+◌, List, [], ◌∷◌, ◌++◌, drop, Option, Some, Ok, refl, ap, sym, subst, ◌∙◌, append_assoc, option_to_list}
 use Rattle.std.specs.List.{flat_map}
 use Rattle.std.proofs.lemmas.List.{drop-drop}
@@ -18,8 +18,8 @@ use Rattle.vf_regime.specs.State.{State, StandingParty}
 use Rattle.vf_regime.specs.Transition.{Consequence, after_transition, transition}
 use Rattle.vf_cli.specs.declared.conversation.After.{After}
 use Rattle.vf_cli.specs.declared.conversation.After.TheVariants as after
-use Rattle.vf_cli.specs.declared.message.Front.TheVariants as front
-use Rattle.vf_cli.specs.Conversation.{Aborts, Appends, Continues, Holds, IsAfter, IsFront, Makes, Took}
+use Rattle.vf_cli.specs.declared.message.Prefix.TheVariants as prefix
+use Rattle.vf_cli.specs.Conversation.{Aborts, Appends, Continues, Holds, IsAfter, IsPrefix, Makes, Took}
 use Rattle.vf_cli.specs.Dialogue.{Faulty, Received, heard, received, link, outside, reply, said_to}
 use Rattle.vf_cli.proofs.ContinuesLemmas.{aborts, aborts_fault, after_one, continues, continues-aborts, continues-continues, says_message}
 use Rattle.vf_cli.proofs.ReceivedLemmas.{received-read, received-settled}
@@ -29,14 +29,14 @@ use Rattle.vf_cli.proofs.ConsequenceLemmas.{keeps_link}
 pub with_tables-same : (tables : Tables) (state : State) → state.files ≡ tables.files → with_tables tables state ≡ state
 with_tables-same tables state same = λ i. record { users = state.users; files = sym same i; parties = state.parties; transitions = state.transitions }
 
--- where a fault stands in front, it is received first
+-- where a fault stands first, it is received first
 same_fault : (things later : List Received) (place at : ℕ) → place ≡ at → things ≡ Faulty at ∷ later → things ≡ Faulty place ∷ later
 same_fault things later place at there is = is ∙ ap (λ k. Faulty k ∷ later) (sym there)
 
-faulty : (rest more : List ℕ) (place : ℕ) → IsFront (reading rest) (Ok (front.Fault place)) → (later : List Received) × (received (rest ++ more) ≡ Faulty place ∷ later)
+faulty : (rest more : List ℕ) (place : ℕ) → IsPrefix (reading rest) (Ok (prefix.Fault place)) → (later : List Received) × (received (rest ++ more) ≡ Faulty place ∷ later)
 faulty rest more place found = by (reading rest) refl found
   where
-    by : (r : Reading) → reading rest ≡ r → IsFront r (Ok (front.Fault place)) → (later : List Received) × (received (rest ++ more) ≡ Faulty place ∷ later)
+    by : (r : Reading) → reading rest ≡ r → IsPrefix r (Ok (prefix.Fault place)) → (later : List Received) × (received (rest ++ more) ≡ Faulty place ∷ later)
     by Short e found = absurd found
     by (Bad at) e found = ([], same_fault (received (rest ++ more)) [] place at found (received-settled rest more (Bad at) e tt))
     by (Deep at) e found = ([], same_fault (received (rest ++ more)) [] place at found (received-settled rest more (Deep at) e tt))
@@ -48,12 +48,12 @@ faulty rest more place found = by (reading rest) refl found
               (received-read rest more tree n e ∙ ap (λ o. heard o ∷ later) found.1),
         )
 
--- a message in front was read
-read_message : (rest : List ℕ) (message : Message) (n : ℕ) → IsFront (reading rest) (Ok (front.Heard message n))
+-- a first message was read
+read_message : (rest : List ℕ) (message : Message) (n : ℕ) → IsPrefix (reading rest) (Ok (prefix.Heard message n))
     → (tree : Tree) × (reading rest ≡ Read tree n) × (message_in tree ≡ Ok message)
 read_message rest message n found = by (reading rest) refl found
   where
-    by : (r : Reading) → reading rest ≡ r → IsFront r (Ok (front.Heard message n)) → (tree : Tree) × (reading rest ≡ Read tree n) × (message_in tree ≡ Ok message)
+    by : (r : Reading) → reading rest ≡ r → IsPrefix r (Ok (prefix.Heard message n)) → (tree : Tree) × (reading rest ≡ Read tree n) × (message_in tree ≡ Ok message)
     by Short e found = absurd found
     by (Bad at) e found = absurd found
     by (Deep at) e found = absurd found
@@ -87,15 +87,15 @@ module _ (first state next : State) (octets between rest said : List ℕ) (conse
 
 module _ (first state : State) (party : Party) (tables : Tables) (octets said old : List ℕ) (at : ℕ)
     (holds : Holds party tables state) (before : Continues first octets said state (drop at octets)) where
-  pub takes_fault : (place : ℕ) → IsFront (reading (drop at octets)) (Ok (front.Fault place)) → Aborts first octets (said ++ reply (answers.Abort outside place))
+  pub takes_fault : (place : ℕ) → IsPrefix (reading (drop at octets)) (Ok (prefix.Fault place)) → Aborts first octets (said ++ reply (answers.Abort outside place))
   takes_fault place found =
       let rest = drop at octets in
       continues-aborts first state state octets rest [] said (reply (answers.Abort outside place)) before
       (aborts_fault state holds.0 rest place holds.1 holds.2 (λ more. faulty rest more place found))
 
-  -- what is printed goes on with the consequence of a message in front
+  -- what is printed goes on with the consequence of a first message
   pub takes_message : (message : Message) (n : ℕ) (new replies : List ℕ) (made : Tables) (rest : After) → replies ≡ old ++ said
-      → IsFront (reading (drop at octets)) (Ok (front.Heard message n))
+      → IsPrefix (reading (drop at octets)) (Ok (prefix.Heard message n))
       → Makes (transition (with_tables tables state) holds.0 0 message) replies new tables made rest
       → Appends first octets old new made rest (drop (at + n) octets)
   takes_message message n new replies made rest so_far found makes =

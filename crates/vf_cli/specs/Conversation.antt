@@ -20,35 +20,35 @@ use Rattle.vf_cli.specs.declared.conversation.After.TheVariants as after
 use Rattle.vf_cli.specs.declared.conversation.Conversation.{Conversation}
 use Rattle.vf_cli.specs.declared.conversation.Stream.{Stream}
 use Rattle.vf_cli.specs.declared.conversation.Stream.TheVariants as stream
-use Rattle.vf_cli.specs.declared.message.Front.{Front}
-use Rattle.vf_cli.specs.declared.message.Front.TheVariants as front
+use Rattle.vf_cli.specs.declared.message.Prefix.{Prefix}
+use Rattle.vf_cli.specs.declared.message.Prefix.TheVariants as prefix
 use Rattle.vf_cli.specs.Dialogue.{dialogue, dialogue_from, received, is_abort, link, reply, said_to}
 use Rattle.vf_cli.specs.declared.lines.NextLine.{NextLine}
 use Rattle.vf_cli.specs.Lines.{Input, input_limit}
 use Rattle.vf_cli.specs.Reader.{Answers, Place}
 use Rattle.vf_cli.specs.declared.dialogue.Interruption.{Interruption}
 use Rattle.vf_cli.specs.Ftam.{EndsDialogue}
-use Rattle.vf_cli.specs.Printed.{Printed, Wrote, WroteFront}
+use Rattle.vf_cli.specs.Printed.{Printed, Wrote, WrotePrefix}
 
--- what stands in front of octets of this reading
-abbrev pub IsFront : Reading → Result Front NoMemory → Type 0
-IsFront reading (Ok front.Nothing) = reading ≡ Short
-IsFront Short (Ok (front.Fault place)) = ⊥
-IsFront (Bad at) (Ok (front.Fault place)) = place ≡ at
-IsFront (Deep at) (Ok (front.Fault place)) = place ≡ at
-IsFront (Long at) (Ok (front.Fault place)) = place ≡ at
-IsFront (Read tree n) (Ok (front.Fault place)) = (fault : Fault) × (message_in tree ≡ Err fault) × (place ≡ place_of fault)
-IsFront (Read tree n) (Ok (front.Heard message length)) = (message_in tree ≡ Ok message) × (n ≡ length)
-IsFront reading (Ok (front.Heard message length)) = ⊥
-IsFront reading (Err error) = Unit {0}
+-- what stands first of octets of this reading
+abbrev pub IsPrefix : Reading → Result Prefix NoMemory → Type 0
+IsPrefix reading (Ok prefix.Nothing) = reading ≡ Short
+IsPrefix Short (Ok (prefix.Fault place)) = ⊥
+IsPrefix (Bad at) (Ok (prefix.Fault place)) = place ≡ at
+IsPrefix (Deep at) (Ok (prefix.Fault place)) = place ≡ at
+IsPrefix (Long at) (Ok (prefix.Fault place)) = place ≡ at
+IsPrefix (Read tree n) (Ok (prefix.Fault place)) = (fault : Fault) × (message_in tree ≡ Err fault) × (place ≡ place_of fault)
+IsPrefix (Read tree n) (Ok (prefix.Heard message length)) = (message_in tree ≡ Ok message) × (n ≡ length)
+IsPrefix reading (Ok (prefix.Heard message length)) = ⊥
+IsPrefix reading (Err error) = Unit {0}
 
--- what a value in front means
-abbrev pub MeansFront : Tree → ℕ → Result Front NoMemory → Type 0
-MeansFront tree n result = IsFront (Read tree n) result
+-- what a first value means
+abbrev pub MeansPrefix : Tree → ℕ → Result Prefix NoMemory → Type 0
+MeansPrefix tree n result = IsPrefix (Read tree n) result
 
--- a message in front is some of the octets
-abbrev pub Advances : List ℕ → Result Front NoMemory → Type 0
-Advances octets (Ok (front.Heard message length)) = (0 < length) × (length ≤ length_of octets)
+-- a first message is some of the octets
+abbrev pub Advances : List ℕ → Result Prefix NoMemory → Type 0
+Advances octets (Ok (prefix.Heard message length)) = (0 < length) × (length ≤ length_of octets)
 Advances octets _ = Unit {0}
 
 -- A party that goes on, with these tables, stands for the one party of the state.
@@ -94,13 +94,13 @@ IsRest (after.Goes party) true rest = Unit {0}
 IsRest after.Gone more rest = Unit {0}
 IsRest after.Aborted more rest = Unit {0}
 
--- the same printed behind some octets
-abbrev pub behind : List ℕ → Printed → Printed
-behind octets printed = record { octets = octets ++ printed.octets; status = printed.status }
+-- the same printed after some octets
+abbrev pub printed_after : List ℕ → Printed → Printed
+printed_after octets printed = record { octets = octets ++ printed.octets; status = printed.status }
 
 -- what is still printed after octets were taken, whatever comes: the replies, and what the next state prints
 pub record Continues (old : State) (pending : List ℕ) (replies : List ℕ) (new : State) (rest : List ℕ) : Type 0 where
-  pub prints : (input : Input) → dialogue_from old pending input ≡ behind replies (dialogue_from new rest input)
+  pub prints : (input : Input) → dialogue_from old pending input ≡ printed_after replies (dialogue_from new rest input)
 
 -- what is still printed is these replies and no more, since an abort was said
 pub record Aborts (old : State) (pending : List ℕ) (replies : List ℕ) : Type 0 where
@@ -153,16 +153,16 @@ Told (Some input) holds = holds input
 -- status.
 abbrev pub Steps : State → List ℕ → Option Input → Option Input → Option (List ℕ) → Option (List ℕ) → Conversation → Option ℕ → Type 0
 Steps state pending old_input new_input old new conversation None =
-    (next : State) × (front : List ℕ) × Stands conversation next × Wrote front old new
+    (next : State) × (prefix : List ℕ) × Stands conversation next × Wrote prefix old new
     × Told old_input (λ input. (rest : Input) × (new_input ≡ Some rest)
-    × (dialogue_from state pending input ≡ behind front (dialogue_from next (octets_in conversation.stream) rest)))
+    × (dialogue_from state pending input ≡ printed_after prefix (dialogue_from next (octets_in conversation.stream) rest)))
 Steps state pending old_input new_input old new conversation (Some status) =
-    (front : List ℕ) × Wrote front old new × Told old_input (λ input. dialogue_from state pending input ≡ record { octets = front; status = status })
+    (prefix : List ℕ) × Wrote prefix old new × Told old_input (λ input. dialogue_from state pending input ≡ record { octets = prefix; status = status })
     × EndsDialogue status
 
 -- where a step was interrupted, a prefix of what would be printed was written
 abbrev pub IsInterrupted : State → List ℕ → Option Input → Option (List ℕ) → Option (List ℕ) → Type 0
-IsInterrupted state pending input old new = Told input (λ input. WroteFront (dialogue_from state pending input).octets old new)
+IsInterrupted state pending input old new = Told input (λ input. WrotePrefix (dialogue_from state pending input).octets old new)
 
 -- a reader's answer, where the source's faults are those of the input
 abbrev pub ReadsLine : Option Input → Option Input → List ℕ → Result NextLine Interruption → Type 0
@@ -184,6 +184,6 @@ abbrev pub PrintsAll : Option (List ℕ) → ℕ → Option (List ℕ) → Optio
 PrintsAll None status old new = Unit {0}
 PrintsAll (Some input) status old new = (status ≡ (dialogue input).status) × Wrote (dialogue input).octets old new
 
-abbrev pub PrintsFront : Option (List ℕ) → Option (List ℕ) → Option (List ℕ) → Type 0
-PrintsFront None old new = Unit {0}
-PrintsFront (Some input) old new = WroteFront (dialogue input).octets old new
+abbrev pub PrintsPrefix : Option (List ℕ) → Option (List ℕ) → Option (List ℕ) → Type 0
+PrintsPrefix None old new = Unit {0}
+PrintsPrefix (Some input) old new = WrotePrefix (dialogue input).octets old new

@@ -31,15 +31,15 @@ abbrev pub heard : Result Message Fault → Received
 heard (Ok message) = Heard message
 heard (Err fault) = Faulty (place_of fault)
 
--- what the octets in front are received as, and behind them what `behind` makes of the rest
+-- what the first octets are received as, and after them what `after` makes of the rest
 abbrev pub received_first : (List ℕ → List Received) → List ℕ → Reading → List Received
-received_first behind octets Short = []
-received_first behind octets (Bad at) = Faulty at ∷ []
-received_first behind octets (Deep at) = Faulty at ∷ []
-received_first behind octets (Long at) = Faulty at ∷ []
-received_first behind octets (Read tree n) = heard (message_in tree) ∷ behind (drop n octets)
+received_first after octets Short = []
+received_first after octets (Bad at) = Faulty at ∷ []
+received_first after octets (Deep at) = Faulty at ∷ []
+received_first after octets (Long at) = Faulty at ∷ []
+received_first after octets (Read tree n) = heard (message_in tree) ∷ after (drop n octets)
 
--- The messages of a stream, one after another. A rest that is no whole value yet is nothing, and behind octets
+-- The messages of a stream, one after another. A rest that is no whole value yet is nothing, and after octets
 -- that begin no value nothing is read. The bound is on their number; the number of octets is always enough.
 unfoldable pub received_within : ℕ → List ℕ → List Received
 received_within zero octets = []
@@ -92,15 +92,15 @@ abbrev pub is_abort : Said → Bool
 is_abort (answers.Abort number place) = true
 is_abort _ = false
 
-abbrev pub behind_replies : Option ℕ → Printed
-behind_replies None = record { octets = []; status = 0 }
-behind_replies (Some number) = record { octets = bad_line number; status = 11 }
+abbrev pub after_replies : Option ℕ → Printed
+after_replies None = record { octets = []; status = 0 }
+after_replies (Some number) = record { octets = bad_line number; status = 11 }
 
 -- Replies to the pieces before the first bad line. After an abort that was said nothing is read, and so the bad
 -- line isn't told.
 abbrev pub prints_after : List Said → Option ℕ → Printed
 prints_after said bad =
-    let last = if list_any is_abort said then record { octets = []; status = 7 } else behind_replies bad in
+    let last = if list_any is_abort said then record { octets = []; status = 7 } else after_replies bad in
     record { octets = flat_map reply said ++ last.octets; status = last.status }
 
 abbrev pub joined : List (List ℕ) → List ℕ

@@ -1,5 +1,5 @@
 -- The lines of an input (profile). A line ends with a line feed and spells a piece, one octet at least, in
--- hexadecimal. Any other line is bad, and so is one without a line feed, or one that ends behind the limit.
+-- hexadecimal. Any other line is bad, and so is one without a line feed, or one that ends after the limit.
 use Rattle.std.specs.Prelude.{◌≢◌, All, ℕ, ◌+◌, ◌++◌, nat_le, nat_eq, if◌then◌else◌, List, [], ◌∷◌, length, Option, Some, None, codes, decimal}
 use Rattle.vf_cli.specs.Hex.{octets_of, hex_of}
 
@@ -10,7 +10,7 @@ line_feed = 10
 abbrev pub input_limit : ℕ
 input_limit = 67108864
 
--- the lines of some octets, without their line feeds, and the octets behind the last line feed
+-- the lines of some octets, without their line feeds, and the octets after the last line feed
 pub record Cut : Type 0 where
   pub lines : List (List ℕ)
   pub rest : List ℕ
@@ -22,9 +22,9 @@ octet_before octet (line ∷ lines) rest = record { lines = (octet ∷ line) ∷
 abbrev pub cut : List ℕ → Cut
 cut [] = record { lines = []; rest = [] }
 cut (octet ∷ octets) =
-    let behind = cut octets in
-    if nat_eq octet line_feed then record { lines = [] ∷ behind.lines; rest = behind.rest }
-    else octet_before octet behind.lines behind.rest
+    let after = cut octets in
+    if nat_eq octet line_feed then record { lines = [] ∷ after.lines; rest = after.rest }
+    else octet_before octet after.lines after.rest
 
 -- octets within a line
 abbrev pub IsInLine : List ℕ → Type 0
@@ -53,7 +53,7 @@ abbrev pub line_before : Option (List ℕ) → ℕ → Input → Input
 line_before (Some piece) number input = piece_before piece input
 line_before None number input = bad_at number
 
--- what lines and the octets behind them say, from the line of this number on, with so many octets before it
+-- what lines and the octets after them say, from the line of this number on, with so many octets before it
 abbrev pub lines_say : ℕ → ℕ → List (List ℕ) → List ℕ → Input
 lines_say count number [] [] = ended
 lines_say count number [] (octet ∷ octets) = bad_at number

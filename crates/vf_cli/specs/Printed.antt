@@ -16,14 +16,14 @@ abbrev pub Wrote : List ℕ → Option (List ℕ) → Option (List ℕ) → Type
 Wrote octets (Some old) new = new ≡ Some (old ++ octets)
 Wrote octets None new = Unit {0}
 
--- a front of the octets was appended
-abbrev pub WroteFront : List ℕ → Option (List ℕ) → Option (List ℕ) → Type 0
-WroteFront octets old new = (front rest : List ℕ) × (octets ≡ front ++ rest) × Wrote front old new
+-- a prefix of the octets was appended
+abbrev pub WrotePrefix : List ℕ → Option (List ℕ) → Option (List ℕ) → Type 0
+WrotePrefix octets old new = (prefix rest : List ℕ) × (octets ≡ prefix ++ rest) × Wrote prefix old new
 
--- all was written, with the status that goes with it, or a front of it before one of these faults
+-- all was written, with the status that goes with it, or a prefix of it before one of these faults
 abbrev pub Prints : List ℕ → Printed → ℕ → Option (List ℕ) → Option (List ℕ) → Type 0
 Prints faults printed status old new =
-    ((status ≡ printed.status) × Wrote printed.octets old new) ⊎ (IsOneOf faults status × WroteFront printed.octets old new)
+    ((status ≡ printed.status) × Wrote printed.octets old new) ⊎ (IsOneOf faults status × WrotePrefix printed.octets old new)
 
 -- a fault of the input or the output is answered only where its count rose
 pub record HasCauses (status : ℕ) (input_old input_new out_old out_new : ℕ) : Type 0 where

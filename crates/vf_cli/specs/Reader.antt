@@ -10,10 +10,10 @@ use Rattle.vf_cli.specs.declared.lines.LineError.{LineError}
 use Rattle.vf_cli.specs.declared.lines.Found.{Found}
 use Rattle.vf_cli.specs.declared.lines.Found.TheVariants as found
 
--- octets in front of those that a source has left, where it tells them
-abbrev pub with_front : List ℕ → Option (List ℕ) → Option (List ℕ)
-with_front front None = None
-with_front front (Some left) = Some (front ++ left)
+-- octets before those that a source has left, where it tells them
+abbrev pub with_prefix : List ℕ → Option (List ℕ) → Option (List ℕ)
+with_prefix prefix None = None
+with_prefix prefix (Some left) = Some (prefix ++ left)
 
 -- Where a reader stands: the octets of the lines that it answered, the number of the next line, and the octets
 -- that it read and has not answered.
@@ -24,7 +24,7 @@ pub record Place : Type 0 where
 
 -- what a reader will answer, where its source tells what it has left
 abbrev pub will_say : Place → Option (List ℕ) → Option Input
-will_say place left = option_map (says_from place.count place.number) (with_front place.ahead left)
+will_say place left = option_map (says_from place.count place.number) (with_prefix place.ahead left)
 
 -- A call answers what comes first. It leaves what comes after a piece, and otherwise what there was.
 abbrev pub Answers : Option Input → Option Input → List ℕ → Result NextLine LineError → Type 0

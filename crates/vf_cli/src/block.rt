@@ -3,7 +3,7 @@ ghost use Rattle.std.specs.Prelude.{◌≡◌, ◌<◌, ◌≤◌, length, slice
 ghost use Rattle.vf_base.specs.Faults.{HasRisen, NeverFalls};
 ghost use Rattle.vf_cli.specs.Hex.{half_of};
 ghost use Rattle.vf_cli.specs.Lines.{IsInLine};
-ghost use Rattle.vf_cli.specs.Reader.{with_front, IsFilled, MovesDigits, Stops};
+ghost use Rattle.vf_cli.specs.Reader.{with_prefix, IsFilled, MovesDigits, Stops};
 
 use crate::hex::Digits;
 use std::alloc::Global;
@@ -57,7 +57,7 @@ impl Block {
     /// Reads octets into an empty block, and says whether there were any.
     pub(crate) fn fill<S: Source>(&mut self, input: &mut S) -> Result<bool, Failed>
         requires { self.old ≡ [] }
-        ensures octets { with_front self.new (S.left input.new) ≡ S.left input.old }
+        ensures octets { with_prefix self.new (S.left input.new) ≡ S.left input.old }
         ensures filled { IfOk result (IsFilled self.new (S.left input.new)) }
         ensures err { OnErr result (self.new ≡ []) }
         ensures falls { NeverFalls (S.fault_count input.old) (S.fault_count input.new) }
@@ -70,7 +70,7 @@ impl Block {
         Ok(count > 0)
     }
 
-    /// Moves the digits in front to others, and says what stands after them.
+    /// Moves the first digits to others, and says what stands after them.
     pub(crate) fn move_digits(&mut self, digits: &mut Digits) -> Result<Stop, NoMemory>
         ensures ok { IfOk result (λ stop. MovesDigits self.old self.new digits.old digits.new stop) }
         ensures line { IsInLine digits.new }

@@ -12,7 +12,7 @@ ghost use Rattle.vf_files.specs.declared.tables.Tables.{Tables};
 ghost use Rattle.vf_cli.specs.Conversation.{Adds, Appends, Holds, IsRest, Makes, Stands, StandsBy, TakesReady, is_ready as ready_test, octets_in, size_of};
 ghost use Rattle.vf_cli.specs.Dialogue.{is_abort as abort_test, opened, outside, reply};
 
-use crate::message::{Front, append_reply, front_of};
+use crate::message::{Prefix, append_reply, prefix_of};
 use std::alloc::Global;
 use std::mem;
 use vf_base::{Moment, NoMemory, Octets};
@@ -31,7 +31,7 @@ pub(crate) enum Stream {
         pending: Vec<u8>,
         scan: Scan,
     },
-    /// There may be messages in front of them.
+    /// There may be messages before them.
     Ready {
         party: Party,
         octets: Octets,
@@ -263,15 +263,15 @@ pub(crate) fn take_messages(
             });
         }
         let rest = rest_of(octets, at)?;
-        match front_of(alloc, &rest)? {
-            Front::Nothing => {
+        match prefix_of(alloc, &rest)? {
+            Prefix::Nothing => {
                 return Ok(Taken {
                     after: After::Goes(party),
                     used: at,
                     more: false,
                 });
             }
-            Front::Fault { place } => {
+            Prefix::Fault { place } => {
                 append_abort(alloc, place, replies)?;
                 return Ok(Taken {
                     after: After::Aborted,
@@ -279,7 +279,7 @@ pub(crate) fn take_messages(
                     more: false,
                 });
             }
-            Front::Heard { message, length } => {
+            Prefix::Heard { message, length } => {
                 at += length;
                 match take_message(alloc, party, tables, message, replies)? {
                     After::Goes(next) => {

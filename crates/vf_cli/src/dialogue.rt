@@ -3,10 +3,10 @@ ghost use Rattle.std.specs.Prelude.{◌≡◌, ◌<◌, [], true, false, IsErrOf
 ghost use Rattle.vf_base.specs.Faults.{HasRisen, NeverFalls};
 ghost use Rattle.vf_regime.specs.State.{State};
 ghost use Rattle.vf_cli.specs.declared.command.Command.TheVariants as commands;
-ghost use Rattle.vf_cli.specs.Conversation.{Goes, IsInterrupted, PrintsAll, PrintsFront, ReadsLine, Stands, Steps, is_ready, left_of, octets_in, size_of};
+ghost use Rattle.vf_cli.specs.Conversation.{Goes, IsInterrupted, PrintsAll, PrintsPrefix, ReadsLine, Stands, Steps, is_ready, left_of, octets_in, size_of};
 ghost use Rattle.vf_cli.specs.Lines.{Input, bad_line};
 ghost use Rattle.vf_cli.specs.Ftam.{EndsDialogue, MeetsCommand};
-ghost use Rattle.vf_cli.specs.Printed.{HasCauses, Wrote, WroteFront};
+ghost use Rattle.vf_cli.specs.Printed.{HasCauses, Wrote, WrotePrefix};
 ghost use Rattle.vf_cli.specs.Reader.{Progresses, will_say};
 
 use crate::conversation::Conversation;
@@ -64,7 +64,7 @@ const BAD_LINE: u8 = 11;
 /// Writes lines, if there are any.
 pub(crate) fn write_lines<O: Sink>(out: &mut O, lines: &[u8]) -> Result<(), Interruption>
     ensures ok { OnOk result (Wrote lines.now (O.taken out.old) (O.taken out.new)) }
-    ensures front { OnErr result (WroteFront lines.now (O.taken out.old) (O.taken out.new)) }
+    ensures prefix { OnErr result (WrotePrefix lines.now (O.taken out.old) (O.taken out.new)) }
     ensures falls { NeverFalls (O.fault_count out.old) (O.fault_count out.new) }
     ensures failed { OnErr result (HasRisen (O.fault_count out.old) (O.fault_count out.new)) }
     ensures cause { IfErr result (λ interruption. interruption ≡ Interruption.Output) }
@@ -98,7 +98,7 @@ fn converse<I: Source, O: Sink>(
     out: &mut O,
 ) -> Result<u8, Interruption>
     ensures ends { IfOk result (λ status. EndsDialogue status × PrintsAll (I.left input.old) status (O.taken out.old) (O.taken out.new)) }
-    ensures interrupted { OnErr result (PrintsFront (I.left input.old) (O.taken out.old) (O.taken out.new)) }
+    ensures interrupted { OnErr result (PrintsPrefix (I.left input.old) (O.taken out.old) (O.taken out.new)) }
     ensures input { IsErrOf result Interruption.Input → HasRisen (I.fault_count input.old) (I.fault_count input.new) }
     ensures output { IsErrOf result Interruption.Output → HasRisen (O.fault_count out.old) (O.fault_count out.new) }
 {
@@ -219,7 +219,7 @@ fn write_bad_line<O: Sink>(
     out: &mut O,
 ) -> Result<(), Interruption>
     ensures ok { OnOk result (Wrote (bad_line number) (O.taken out.old) (O.taken out.new)) }
-    ensures front { OnErr result (WroteFront (bad_line number) (O.taken out.old) (O.taken out.new)) }
+    ensures prefix { OnErr result (WrotePrefix (bad_line number) (O.taken out.old) (O.taken out.new)) }
     ensures falls { NeverFalls (O.fault_count out.old) (O.fault_count out.new) }
     ensures output { IsErrOf result Interruption.Output → HasRisen (O.fault_count out.old) (O.fault_count out.new) }
     ensures cause { IsErrOf result Interruption.Input → ⊥ }

@@ -2,7 +2,7 @@
 ghost use Rattle.std.specs.Prelude.{◌≡◌, ◌≤◌, ◌<◌, ◌++◌, [], IfOk, IsErrOf, OnErr};
 ghost use Rattle.vf_base.specs.Faults.{HasRisen, NeverFalls};
 ghost use Rattle.vf_cli.specs.Lines.{IsInLine};
-ghost use Rattle.vf_cli.specs.Reader.{with_front, will_say, Answers, EndsAt, Finds, Progresses};
+ghost use Rattle.vf_cli.specs.Reader.{with_prefix, will_say, Answers, EndsAt, Finds, Progresses};
 
 use crate::block::{Block, Stop};
 use crate::hex::Digits;
@@ -149,7 +149,7 @@ fn find_end<S: Source>(
     room: usize,
     input: &mut S,
 ) -> Result<Found, LineError>
-    ensures octets { with_front (digits.new ++ block.new) (S.left input.new) ≡ with_front (digits.old ++ block.old) (S.left input.old) }
+    ensures octets { with_prefix (digits.new ++ block.new) (S.left input.new) ≡ with_prefix (digits.old ++ block.old) (S.left input.old) }
     ensures line { IsInLine digits.new }
     ensures found { IfOk result (Finds room digits.new block.new (S.left input.new)) }
     ensures falls { NeverFalls (S.fault_count input.old) (S.fault_count input.new) }

@@ -1,10 +1,10 @@
-//! Messages in front of octets, and replies as lines.
+//! Messages before octets, and replies as lines.
 ghost use Rattle.std.specs.Prelude.{◌≡◌, ◌++◌, OnOk};
 ghost use Rattle.vf_ber.specs.Limits.{IsTooLarge};
 ghost use Rattle.vf_ber.specs.Reader.{reading};
 ghost use Rattle.vf_ber.specs.Spelling.{spell};
 ghost use Rattle.vf_ber.specs.Views.{tree_of};
-ghost use Rattle.vf_cli.specs.Conversation.{Advances, IsFront, MeansFront};
+ghost use Rattle.vf_cli.specs.Conversation.{Advances, IsPrefix, MeansPrefix};
 ghost use Rattle.vf_cli.specs.Dialogue.{reply};
 ghost use Rattle.vf_cli.specs.Lines.{hex_line};
 ghost use Rattle.vf_elements.specs.ElementValue.{IsWritable, value as element_value};
@@ -21,10 +21,10 @@ use vf_elements::{Message, Said};
 use vf_pdu::Pdu;
 use vf_pdu_fields::PduError;
 
-/// What stands in front of octets.
+/// What stands before octets.
 #[derive(Drop)]
-pub(crate) enum Front {
-    /// A proper front of a message.
+pub(crate) enum Prefix {
+    /// A proper prefix of a message.
     Nothing,
     /// Octets outside the grammar, with the place of their fault from 0 on.
     Fault { place: u32 },
@@ -32,41 +32,41 @@ pub(crate) enum Front {
     Heard { message: Message, length: usize },
 }
 
-/// What stands in front of the octets, which the message shares.
-pub(crate) fn front_of(alloc: Global, octets: &Octets) -> Result<Front, NoMemory>
-    ensures front { IsFront (reading octets.now) result }
+/// What stands before the octets, which the message shares.
+pub(crate) fn prefix_of(alloc: Global, octets: &Octets) -> Result<Prefix, NoMemory>
+    ensures prefix { IsPrefix (reading octets.now) result }
     ensures advances { Advances octets.now result }
 {
     let (value, length) = match vf_ber::read_shared(alloc, octets) {
         Ok(read) => read,
         Err(BerError::NoMemory) => return Err(NoMemory),
-        Err(BerError::Short) => return Ok(Front::Nothing),
+        Err(BerError::Short) => return Ok(Prefix::Nothing),
         Err(BerError::Bad { at }) => return Ok(fault(at)),
         Err(BerError::Deep { at }) => return Ok(fault(at)),
         Err(BerError::Long { at }) => return Ok(fault(at)),
     };
-    let front = front_by(alloc, &value, length)?;
-    Ok(front)
+    let prefix = prefix_by(alloc, &value, length)?;
+    Ok(prefix)
 }
 
-fn fault(place: u32) -> Front
-    ensures { result ≡ Front.Fault place }
+fn fault(place: u32) -> Prefix
+    ensures { result ≡ Prefix.Fault place }
 {
-    Front::Fault { place }
+    Prefix::Fault { place }
 }
 
-/// What a value of so many octets in front means.
-fn front_by(alloc: Global, value: &Value, length: usize) -> Result<Front, NoMemory>
-    ensures { MeansFront (tree_of value.now) length result }
+/// What a first value of so many octets means.
+fn prefix_by(alloc: Global, value: &Value, length: usize) -> Result<Prefix, NoMemory>
+    ensures { MeansPrefix (tree_of value.now) length result }
 {
     match vf_elements::message_of(alloc, value) {
-        Ok(message) => Ok(Front::Heard { message, length }),
-        Err(PduError::Unknown { .. }) => Ok(Front::Fault { place: 0 }),
-        Err(PduError::Field { place }) => Ok(Front::Fault { place }),
-        Err(PduError::Range { field }) => Ok(Front::Fault {
+        Ok(message) => Ok(Prefix::Heard { message, length }),
+        Err(PduError::Unknown { .. }) => Ok(Prefix::Fault { place: 0 }),
+        Err(PduError::Field { place }) => Ok(Prefix::Fault { place }),
+        Err(PduError::Range { field }) => Ok(Prefix::Fault {
             place: u32::from(field),
         }),
-        Err(PduError::Missing { field }) => Ok(Front::Fault {
+        Err(PduError::Missing { field }) => Ok(Prefix::Fault {
             place: u32::from(field),
         }),
         Err(PduError::NoMemory) => Err(NoMemory),

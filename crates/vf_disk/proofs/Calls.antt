@@ -1,4 +1,4 @@
--- What a crash may leave behind each call of a disk in memory.
+-- What a crash may leave after each call of a disk in memory.
 use Rattle.std.proofs.Common.{◌≡◌, ℕ, ◌≤◌, Bool, List, [], ◌∷◌, ◌++◌, length, sym, ap, subst, arith, Some}
 use Rattle.vf_disk.specs.Disk.{Torn, Shortened, Follows, Within, LeavesShown}
 use Rattle.vf_disk.specs.declared.step.Step.{Step}

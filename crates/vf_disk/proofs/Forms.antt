@@ -1,4 +1,4 @@
--- The images of the forms of a crash, made from the calls up to the last sync and those behind it.
+-- The images of the forms of a crash, made from the calls up to the last sync and those after it.
 use Rattle.std.proofs.Common.{◌≡◌, ℕ, true, List, [], ◌∷◌, take, drop, refl, sym, ◌∙◌, ap}
 use Rattle.std.specs.Prelude.{fold}
 use Rattle.std.specs.List.{list_all}

@@ -1,4 +1,4 @@
--- What a crash may leave behind a call, from what it may have left before.
+-- What a crash may leave after a call, from what it may have left before.
 use Rattle.std.proofs.Common.{◌≡◌, ◌⊎◌, inl, inr, ℕ, ◌+◌, ◌-◌, ◌<◌, ◌≤◌, min, max, Bool, true, false, ◌||◌, if◌then◌else◌, List, [], ◌∷◌, ◌++◌, length, get_or, take, drop, replicate, fold, refl, sym, ◌∙◌, ap, subst, arith, append_assoc, length-append, length-drop}
 use Rattle.std.proofs.lemmas.List.{length-take, length-take-le, get_or-take, get_or-drop, get_or_append_left, get_or-append_right, ext_get_or, length-replicate, take_all, drop_all}
 use Rattle.std.proofs.lemmas.Bool.{cases_lt}
@@ -9,9 +9,9 @@ use Rattle.vf_disk.specs.declared.step.Step.TheVariants.{Wrote, CutTo, Synced}
 use Rattle.vf_disk.specs.State.{State, IsImage, settled, after, state_of, lengthened, is_within, is_torn, filled_in, filled, left_by}
 use Rattle.vf_disk.specs.declared.crash_form.CrashForm.{CrashForm}
 use Rattle.vf_disk.specs.declared.crash_form.CrashForm.TheVariants.{Keep, Lose, Fill}
-use Rattle.vf_disk.proofs.Patch.{patched, same_front, same_back, length-patched, patched_before, patched_in, patched_behind}
+use Rattle.vf_disk.proofs.Patch.{patched, same_prefix, same_back, length-patched, patched_before, patched_in, patched_tail}
 
--- what holds of the state behind any calls
+-- what holds of the state after any calls
 pub record IsSound (s : State) : Type 0 where
   pub shown : IsImage s s.shown
   pub made : IsImage s s.made
@@ -47,7 +47,7 @@ not_within place at count ranges now = elim (cases_lt place at) [
     no true b is none = cc
     no false b is none = cc
 
--- behind a write
+-- after a write
 module _ (s : State) (at : ℕ) (octets : List ℕ) (good : Bool) where
   over : (x : List ℕ) → s.least ≤ length x → length x ≤ max s.greatest (at + length octets)
       → ((place : ℕ) → place < s.least → is_torn place s.ranges ≡ false → get_or x place 0 ≡ get_or s.synced place 0)
@@ -61,11 +61,11 @@ module _ (s : State) (at : ℕ) (octets : List ℕ) (good : Bool) where
           ∙ get_or_append_left (take at x) (octets ++ drop (at + length octets) x) 0 place (omega (arith, length-take at x))
           ∙ get_or-take at x place 0 before
           ∙ stays place lt (was place (at, length octets) s.ranges out)
-      | inr behind ↦
-          let front : length (take at x) ≡ at = length-take-le at x (omega arith) in
+      | inr tail ↦
+          let prefix : length (take at x) ≡ at = length-take-le at x (omega arith) in
           let to : at + length octets + (place - at - length octets) ≡ place = omega arith in
           ap (λ (l : List ℕ). get_or l place 0) flat
-          ∙ get_or-append_right (take at x) (octets ++ drop (at + length octets) x) at place 0 front (omega arith)
+          ∙ get_or-append_right (take at x) (octets ++ drop (at + length octets) x) at place 0 prefix (omega arith)
           ∙ get_or-append_right octets (drop (at + length octets) x) (length octets) (place - at) 0 refl (omega arith)
           ∙ get_or-drop (at + length octets) x (place - at - length octets) 0
           ∙ ap (λ (k : ℕ). get_or x k 0) to
@@ -138,16 +138,16 @@ module _ (s : State) (at : ℕ) (octets : List ℕ) (good : Bool) where
                 | inl here ↦ head place here ∙ new.stays place lt (still place (at, length octets) s.ranges (outside place at (length octets) (inl here)) out)
                 | inr past ↦ get_or-take s.greatest whole place 0 (omega (arith, sound.order)) ∙ elim (cases_lt place m) [
                   | inl inside ↦ patched_in at m s.synced image in_base le place past inside
-                  | inr outer ↦ patched_behind at m s.synced image in_base le place past outer ∙ new.stays place lt (still place (at, length octets) s.ranges (outside place at (length octets) (inr (omega arith))) out)
+                  | inr outer ↦ patched_tail at m s.synced image in_base le place past outer ∙ new.stays place lt (still place (at, length octets) s.ranges (outside place at (length octets) (inr (omega arith))) out)
                 ]
               ];
             },
             record {
-              before = same_front at image before le (omega (arith, size)) (λ place lt. sym (head place lt));
+              before = same_prefix at image before le (omega (arith, size)) (λ place lt. sym (head place lt));
               past = elim (cases_lt s.greatest (length image)) [
                 | inl longer ↦ drop_all (at + length octets) image (omega (arith, new.no_longer)) ∙ sym (drop_all (at + length octets) before (omega (arith, size, new.no_longer)))
                 | inr within ↦
-                    same_back (at + length octets) image whole (sym long) (λ place ge. sym (patched_behind at m s.synced image in_base le place (omega arith) (omega arith)))
+                    same_back (at + length octets) image whole (sym long) (λ place ge. sym (patched_tail at m s.synced image in_base le place (omega arith) (omega arith)))
                     ∙ ap (λ (l : List ℕ). drop (at + length octets) l) (sym (take_all s.greatest whole (omega (arith, long))))
               ];
               no_shorter = omega (arith, size);
@@ -155,7 +155,7 @@ module _ (s : State) (at : ℕ) (octets : List ℕ) (good : Bool) where
             },
           )
 
--- behind a cut
+-- after a cut
 module _ (s : State) (to : ℕ) (good : Bool) where
   cut_image : (x : List ℕ) → IsImage s x → IsImage (after s (CutTo to good)) (take to x)
   cut_image x image = record {
@@ -195,12 +195,12 @@ module _ (s : State) (to : ℕ) (good : Bool) where
             no_shorter = omega (arith, size);
             no_longer = omega (arith, size, new.no_longer, sound.order);
             stays = λ place here out. elim (cases_lt place to) [
-              | inl front ↦ patched_before to s.least s.synced image sound.base in_image place front ∙ new.stays place (omega arith) out
+              | inl prefix ↦ patched_before to s.least s.synced image sound.base in_image place prefix ∙ new.stays place (omega arith) out
               | inr back ↦ patched_in to s.least s.synced image sound.base in_image place back here
             ];
           },
           record {
-            kept = same_front to image before in_image (omega (arith, size)) (λ place here. sym (patched_before to s.least s.synced image sound.base in_image place here));
+            kept = same_prefix to image before in_image (omega (arith, size)) (λ place here. sym (patched_before to s.least s.synced image sound.base in_image place here));
             no_shorter = omega arith;
             no_longer = omega (arith, size);
           },
@@ -216,7 +216,7 @@ module _ (s : State) (to : ℕ) (good : Bool) where
     )
   ]
 
--- behind a sync
+-- after a sync
 pub only_shown : (octets image : List ℕ) → IsImage (settled octets) image → image ≡ octets
 only_shown octets image left =
     ext_get_or 0 image octets (omega (arith, left.no_shorter, left.no_longer)) (λ place lt. left.stays place (omega (arith, left.no_longer)) refl)
@@ -279,7 +279,7 @@ fills octet image at count = (long, stays)
         ap (λ (l : List ℕ). get_or l place 0) flat
         ∙ get_or_append_left (take at image) (replicate (min count (length image - at)) octet ++ drop (at + count) image) 0 place (omega (arith, length-take at image))
         ∙ get_or-take at image place 0 before
-    stays place lt (inr behind) =
+    stays place lt (inr tail) =
         let whole : min count (length image - at) ≡ count = omega arith in
         let to : at + count + (place - at - count) ≡ place = omega arith in
         ap (λ (l : List ℕ). get_or l place 0) flat

@@ -7,7 +7,7 @@ use Rattle.vf_base.specs.Faults.{HasRisen}
 use Rattle.vf_disk.specs.Plans.{StopPlan, SyncsAsPlanned, after_change, change_fails, is_after_stop, is_stopped}
 use Rattle.vf_disk.specs.State.{State, after, settled, state_of}
 use Rattle.vf_disk.specs.Memory.{is_settled, with_sync}
-use Rattle.vf_disk.specs.Steps.{LeavesState, MakesSteps, as_failed, ending_of, is_long, noted, step_fails}
+use Rattle.vf_disk.specs.Steps.{LeavesState, MakesSteps, ending_of, is_long, noted, step_fails}
 use Rattle.vf_disk.specs.declared.step.Step.{Step}
 use Rattle.vf_disk.specs.declared.step.Step.TheVariants.{Synced}
 use Rattle.vf_disk.proofs.Rows.{or_left, or_right}

@@ -20,7 +20,7 @@ continued whole None rest = whole ++ rest.1
 continued whole (Some unit) rest = whole ++ ((unit ++ rest.0) ∷ rest.1)
 
 begun : (whole : List (List Element)) (last : Option (List Element)) (element : Element) (rest : List Element) → is_descriptor element ≡ true → continued whole last (grouped (element ∷ rest)) ≡ continued (whole ++ option_to_list last) (Some []) (grouped rest)
-begun whole None (Descriptor name filled) rest e = ap (λ (front : List (List Element)). front ++ ((grouped rest).0 ∷ (grouped rest).1)) (sym (append-nil whole))
+begun whole None (Descriptor name filled) rest e = ap (λ (prefix : List (List Element)). prefix ++ ((grouped rest).0 ∷ (grouped rest).1)) (sym (append-nil whole))
 begun whole (Some unit) (Descriptor name filled) rest e = rw (append-nil unit) (sym (append_assoc whole (unit ∷ []) ((grouped rest).0 ∷ (grouped rest).1)))
 begun whole last Enter rest e = cc
 begun whole last Exit rest e = cc

@@ -1,6 +1,6 @@
 -- How long the parts of spellings are.
 use Rattle.std.proofs.Common.{◌≡◌, ℕ, ◌+◌, ◌<◌, ◌≤◌, Bool, true, false, List, length, arith, length-append}
-use Rattle.std.specs.Prelude.{IsTrue, Option, Some, None}
+use Rattle.std.specs.Prelude.{IsTrue, Option, Some}
 use Rattle.std.proofs.lemmas.Bool.Decides.{nat_tests}
 use Rattle.vf_base.specs.Name.{IsName}
 use Rattle.vf_ber.specs.Spelling.{header, identifier, length_octets, spell, spells}

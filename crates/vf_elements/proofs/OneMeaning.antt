@@ -1,14 +1,11 @@
 -- A value means one element at most, which is found in it, and then has no fault.
-use Rattle.std.proofs.Common.{◌≡◌, ℕ, ◌+◌, Bool, true, false, cond, List, [], refl, ap, sym, subst, ◌∙◌, arith, rules}
-use Rattle.std.specs.Prelude.{Option, Some, None, Result, Ok, Err, ◌&&◌, ◌||◌, IsTrue, nat_eq, is_some}
-use Rattle.std.specs.Option.{option_and_then}
-use Rattle.std.proofs.lemmas.Bool.{eqb-true, and_parts}
+use Rattle.std.proofs.Common.{◌≡◌, ℕ, ◌+◌, Bool, true, List, [], refl, ap, sym, ◌∙◌, arith, rules}
+use Rattle.std.specs.Prelude.{Option, Some, None, Ok, ◌&&◌, ◌||◌, IsTrue, is_some}
 use Rattle.vf_base.specs.declared.element.Element.{Element}
 use Rattle.vf_base.specs.declared.element.Element.TheVariants.{Descriptor, Enter, Exit, Text, Binary}
-use Rattle.vf_ber.specs.Primitive.{in_front, is_octet_string, octets_in, octets_of}
+use Rattle.vf_ber.specs.Primitive.{octets_in, octets_of}
 use Rattle.vf_ber.specs.Tree.{Tag, Tree, plain, built, Trees, none, more, root}
 use Rattle.vf_pdu_fields.specs.Content.{slots}
-use Rattle.vf_pdu_fields.specs.Fault.{Fault, Unknown, Field}
 use Rattle.vf_pdu_fields.specs.Meaning.{all_fit, universal}
 use Rattle.vf_pdu_fields.specs.Reading.{reading}
 use Rattle.vf_pdu_fields.proofs.Faulty.{fault_told}
@@ -17,9 +14,9 @@ use Rattle.vf_pdu_fields.proofs.Found.{ok_is}
 use Rattle.vf_pdu_fields.proofs.ReadBack.{read_back}
 use Rattle.vf_elements.specs.ElementFaults.{element_fault, is_segment, is_string, wrong_segment}
 use Rattle.vf_elements.specs.ElementLaws.{MeaningHasNoFault, MeaningIsFound, MeaningIsOne, WrittenIsReadAgain}
-use Rattle.vf_elements.specs.ElementReading.{descriptor_as, descriptor_from, element_in, string_as, string_from}
+use Rattle.vf_elements.specs.ElementReading.{descriptor_as, descriptor_from, element_in, string_as}
 use Rattle.vf_elements.specs.ElementValue.{value}
-use Rattle.vf_elements.specs.Elements.{IsDescriptor, Means, application, descriptor, descriptor_slots, is_text, octet_string}
+use Rattle.vf_elements.specs.Elements.{IsDescriptor, Means, descriptor, descriptor_slots, is_text, octet_string}
 use Rattle.vf_elements.proofs.Written.{value_is}
 
 true_of : (b : Bool) → IsTrue b → b ≡ true

@@ -2,13 +2,13 @@
 use Rattle.std.proofs.Common.{◌≡◌, ℕ, ◌+◌, Bool, true, false, cond, List, ap, sym, subst, ◌∙◌, refl}
 use Rattle.std.specs.Prelude.{Option, Some, None, is_some, ◌&&◌}
 use Rattle.std.specs.Option.{option_and_then, option_map}
-use Rattle.vf_ber.specs.Primitive.{in_front, is_octet_string, octets_in, octets_of}
+use Rattle.vf_ber.specs.Primitive.{in_prefix, is_octet_string, octets_in, octets_of}
 use Rattle.vf_ber.specs.Tree.{Tag, Tree, built, Trees, none, more, root}
 use Rattle.vf_elements.specs.ElementFaults.{is_segment, wrong_segment}
 use Rattle.vf_pdu_fields.specs.Fault.{Field}
 
 joined : (first : Option (List ℕ)) (rest : Option (List ℕ)) → is_some first ≡ true → is_some rest ≡ true
-    → is_some (option_and_then (λ octets. in_front octets rest) first) ≡ true
+    → is_some (option_and_then (λ octets. in_prefix octets rest) first) ≡ true
 joined None rest f r = absurd cc
 joined (Some octets) None f r = absurd cc
 joined (Some octets) (Some others) f r = refl
@@ -18,7 +18,7 @@ segments_by : (part : Tree) (parts : Trees) (a b : Bool) → a ≡ is_octet_stri
 segments_by part parts false b p q w r = absurd cc
 segments_by part parts true false p q w r = absurd cc
 segments_by part parts true true p q w r =
-    ap (λ (x : Bool). is_some (cond x (option_and_then (λ octets. in_front octets (octets_in parts)) (octets_of part)) None)) (sym p)
+    ap (λ (x : Bool). is_some (cond x (option_and_then (λ octets. in_prefix octets (octets_in parts)) (octets_of part)) None)) (sym p)
     ∙ joined (octets_of part) (octets_in parts) (sym q) r
 
 segments_at : (place : ℕ) (part : Tree) (parts : Trees) (b : Bool) → b ≡ is_segment part

@@ -1,5 +1,5 @@
 -- How long the values of data elements are.
-use Rattle.std.specs.Prelude.{◌≤◌, List, length}
+use Rattle.std.specs.Prelude.{◌≤◌, length}
 use Rattle.vf_base.specs.declared.element.Element.{Element}
 use Rattle.vf_base.specs.declared.element.Element.TheVariants.{Text, Binary}
 use Rattle.vf_base.specs.declared.limits.TheConstants.{MOST_STRING_OCTETS}

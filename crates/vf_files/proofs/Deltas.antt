@@ -5,14 +5,14 @@ use Rattle.std.specs.Option.{option_or}
 use Rattle.std.specs.Cmp.Lexicographic.{pointwise}
 use Rattle.std.proofs.lemmas.List.{append-nil}
 use Rattle.std.proofs.lemmas.Slice.Eq.{bytes_eq-Decides}
-use Rattle.vf_attr.specs.Attributes.{are_same_attributes, attributes_of, is_same_option}
+use Rattle.vf_attr.specs.Attributes.{attributes_of, is_same_option}
 use Rattle.vf_attr.specs.declared.file.File.{File}
 use Rattle.vf_attr.specs.declared.stamp.Stamp.{Stamp}
 use Rattle.vf_attr.proofs.EqualAttributes.{attributes_refl, other_version, same_but_read}
 use Rattle.vf_tree.specs.Same.{are_same_units}
 use Rattle.vf_tree.proofs.EqualUnits.{units_refl}
 use Rattle.vf_files.specs.declared.changes.Change.{Change}
-use Rattle.vf_files.specs.declared.changes.Change.TheVariants.{PutAttributes, PutFile}
+use Rattle.vf_files.specs.declared.changes.Change.TheVariants.{PutFile}
 use Rattle.vf_files.specs.Delta.{change_of, change_where, delta}
 use Rattle.vf_files.specs.declared.ending.Ending.{Ending}
 use Rattle.vf_files.specs.declared.limits.TheConstants.{MOST_FILESTORE_OCTETS}

@@ -40,9 +40,9 @@ puts_here file e es keyed here =
       keyed = λ i. (key ∙ sym same) i ∷ rest i;
     }
 
-puts_behind : (file : File) (e : List ℕ × File) (es new : List (List ℕ × File)) → IsKeyed (e ∷ es) → pointwise nat_eq file.name e.1.name ≡ false
+puts_after : (file : File) (e : List ℕ × File) (es new : List (List ℕ × File)) → IsKeyed (e ∷ es) → pointwise nat_eq file.name e.1.name ≡ false
     → Puts file es new → Puts file (e ∷ es) (e ∷ new)
-puts_behind file e es new keyed other puts =
+puts_after file e es new keyed other puts =
     record {
       values = λ i. cond (sym other i) (file ∷ values_of es) (e.1 ∷ puts.values i);
       keyed = λ i. head_keyed e es keyed i ∷ puts.keyed i;
@@ -56,7 +56,7 @@ puts file (e ∷ es) keyed =
     by : (b : Bool) → pointwise nat_eq file.name e.1.name ≡ b → Puts file es (insert_entry (pointwise nat_eq) es file.name file)
         → Puts file (e ∷ es) (cond b ((e.0, file) ∷ es) (e ∷ insert_entry (pointwise nat_eq) es file.name file))
     by true is rest = puts_here file e es keyed is
-    by false is rest = puts_behind file e es _ keyed is rest
+    by false is rest = puts_after file e es _ keyed is rest
 
 pub values-insert_entry : (file : File) (es : List (List ℕ × File)) → IsKeyed es
     → values_of (insert_entry (pointwise nat_eq) es file.name file) ≡ with_file file (values_of es)

@@ -1,15 +1,13 @@
 -- The changes between tables lead from the one to the other.
-use Rattle.std.proofs.Common.{◌≡◌, ℕ, Bool, true, false, cond, List, [], ◌∷◌, nat_eq, Option, None, Some, refl, ap, sym, ◌∙◌}
+use Rattle.std.proofs.Common.{◌≡◌, ℕ, Bool, true, false, cond, List, [], ◌∷◌, nat_eq, Some, refl, ap, sym, ◌∙◌}
 use Rattle.std.specs.Cmp.Lexicographic.{pointwise}
 use Rattle.std.proofs.lemmas.Slice.Eq.{bytes_eq-Decides}
 use Rattle.vf_attr.specs.Attributes.{are_same_attributes, attributes_of, with_attributes}
-use Rattle.vf_attr.specs.declared.attributes.Attributes.{Attributes}
 use Rattle.vf_attr.specs.declared.file.File.{File}
 use Rattle.vf_attr.proofs.EqualAttributes.{attributes_true}
-use Rattle.vf_tree.specs.FileTree.{FileTree}
 use Rattle.vf_tree.specs.Same.{are_same_units}
 use Rattle.vf_tree.proofs.EqualUnits.{units_true}
-use Rattle.vf_files.specs.Delta.{change_of, change_where, delta}
+use Rattle.vf_files.specs.Delta.{change_where}
 use Rattle.vf_files.specs.Files.{after_changes, file_named, with_attributes_of, with_file}
 use Rattle.vf_files.specs.Laws.{LeadOn, PutsNew}
 use Rattle.vf_files.proofs.Deltas.{delta-new_file, delta-with_file, found_itself, found_name}

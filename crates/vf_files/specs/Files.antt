@@ -1,8 +1,7 @@
 -- The files of a filestore (ISO 8571-2), in the order of their creation, found by name.
-use Rattle.std.specs.Prelude.{◌≡◌, ℕ, List, [], ◌∷◌, Option, None, Some, if◌then◌else◌, nat_eq, map}
+use Rattle.std.specs.Prelude.{◌≡◌, ℕ, List, [], ◌∷◌, Option, None, Some, if◌then◌else◌, nat_eq}
 use Rattle.std.specs.Cmp.Lexicographic.{pointwise}
 use Rattle.std.specs.List.{sum_by}
-use Rattle.std.specs.Map.{keys_of, values_of}
 use Rattle.vf_attr.specs.Attributes.{with_attributes}
 use Rattle.vf_attr.specs.declared.attributes.Attributes.{Attributes}
 use Rattle.vf_attr.specs.declared.file.File.{File}

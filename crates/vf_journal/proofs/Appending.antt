@@ -11,7 +11,7 @@ use Rattle.vf_journal.specs.JournalState.{JournalState, StandsOn, after_append, 
 use Rattle.vf_journal.specs.Writes.{MadeBy, Shows}
 use Rattle.vf_journal.proofs.Lengths.{entry_short, length-entry_of}
 use Rattle.vf_journal.proofs.Counts.{counts_push}
-use Rattle.vf_journal.proofs.Images.{SameHead, gate_head, gate_of, gate_open, gate_torn, gate_within, written_behind}
+use Rattle.vf_journal.proofs.Images.{SameHead, gate_head, gate_of, gate_open, gate_torn, gate_within, written_after}
 use Rattle.vf_journal.proofs.Parts.{overwritten_from, torn_whole}
 
 module _ {D : Type 0} (shown : D → Option (List ℕ)) (may_leave : D → List ℕ → Type 0) (moment : D → ℕ) (left_since : D → ℕ → List ℕ → Type 0)
@@ -24,7 +24,7 @@ module _ {D : Type 0} (shown : D → Option (List ℕ)) (may_leave : D → List 
   short : length item ≤ longest
   short = entry_short entry item built is
 
-  -- where the entry is written, behind the closed gate
+  -- where the entry is written, after the closed gate
   abbrev end : ℕ
   end = journal.area.end
 
@@ -38,25 +38,25 @@ module _ {D : Type 0} (shown : D → Option (List ℕ)) (may_leave : D → List 
   from_image from left = leaves_octets (shown old) (may_leave old) on.image from on.synced on.shows left
 
   -- the first write, whole or cut short
-  behind : (new : List ℕ) → Torn end (length entry) on.image new → SameHead on.image new × Holds new records
-  behind new torn = written_behind records end (length entry) on.image new on.holds (omega (arith, end_is)) torn
+  after : (new : List ℕ) → Torn end (length entry) on.image new → SameHead on.image new × Holds new records
+  after new torn = written_after records end (length entry) on.image new on.holds (omega (arith, end_is)) torn
 
   pub append_staged : (mid : D) → LeavesOnly moment left_since old mid (MadeBy (Torn end (length entry)) (may_leave old)) → LeavesOnly moment left_since old mid Allowed
   append_staged mid run = weaker moment left_since old mid (MadeBy (Torn end (length entry)) (may_leave old)) Allowed run (λ image left.
-      inl (behind image (subst (λ (l : List ℕ). Torn end (length entry) l image) (from_image left.0 left.1) left.2)).1)
+      inl (after image (subst (λ (l : List ℕ). Torn end (length entry) l image) (from_image left.0 left.1) left.2)).1)
 
   -- the image between the two writes
   abbrev staged : List ℕ
   staged = overwritten on.image end entry
 
   staged_kept : SameHead on.image staged × Holds staged records
-  staged_kept = behind staged (torn_whole on.image end entry end_within)
+  staged_kept = after staged (torn_whole on.image end entry end_within)
 
   gate_is : gate_of staged records ≡ end - 1
   gate_is = omega (arith, end_is, staged_kept.0.start)
 
-  entry_behind : drop (gate_of staged records + 1) staged ≡ entry_of item ++ drop (end + length entry) on.image
-  entry_behind =
+  entry_after : drop (gate_of staged records + 1) staged ≡ entry_of item ++ drop (end + length entry) on.image
+  entry_after =
       let place : gate_of staged records + 1 ≡ end = omega (arith, gate_is, end_is) in
       ap (λ (n : ℕ). drop n staged) place ∙ overwritten_from on.image end entry end_within ∙ ap (λ (l : List ℕ). l ++ drop (end + length entry) on.image) is
 
@@ -67,13 +67,13 @@ module _ {D : Type 0} (shown : D → Option (List ℕ)) (may_leave : D → List 
       → LeavesOnly moment left_since mid new (MadeBy (Torn (end - 1) 1) (may_leave mid)) → LeavesOnly moment left_since old new Allowed
   append_opened mid new shows synced first second = joined moment left_since old mid new Allowed (MadeBy (Torn (end - 1) 1) (may_leave mid)) Allowed (append_staged mid first) second (λ image allowed. allowed) (λ image left.
       let from : left.0 ≡ staged = leaves_octets (shown mid) (may_leave mid) staged left.0 synced shows left.1 in
-      gate_torn records item (drop (end + length entry) on.image) staged image staged_kept.1 short entry_behind (gate_left image (subst (λ (l : List ℕ). Torn (end - 1) 1 l image) from left.2)))
+      gate_torn records item (drop (end + length entry) on.image) staged image staged_kept.1 short entry_after (gate_left image (subst (λ (l : List ℕ). Torn (end - 1) 1 l image) from left.2)))
 
   pub append_seen_first : (new : Option (List ℕ)) → Shows new (Torn end (length entry) on.image) → Shows new Allowed
-  append_seen_first new seen = (seen.0, seen.1, inl (behind seen.0 seen.2).1)
+  append_seen_first new seen = (seen.0, seen.1, inl (after seen.0 seen.2).1)
 
   pub append_seen : (new : Option (List ℕ)) → Shows new (Torn (end - 1) 1 staged) → Shows new Allowed
-  append_seen new seen = (seen.0, seen.1, gate_torn records item (drop (end + length entry) on.image) staged seen.0 staged_kept.1 short entry_behind (gate_left seen.0 seen.2))
+  append_seen new seen = (seen.0, seen.1, gate_torn records item (drop (end + length entry) on.image) staged seen.0 staged_kept.1 short entry_after (gate_left seen.0 seen.2))
 
   abbrev last : List ℕ
   last = overwritten staged (end - 1) (1 ∷ [])
@@ -94,14 +94,14 @@ module _ {D : Type 0} (shown : D → Option (List ℕ)) (may_leave : D → List 
   pub append_done : (new : D) → shown new ≡ Some last → LeavesShown (shown new) (may_leave new) → StandsOn shown may_leave (after_append journal (length entry - 5)) new (records ++ item ∷ [])
   append_done new shows synced =
       let rest = drop (end + length entry) on.image in
-      let same = gate_head records item rest staged last staged_kept.1 short entry_behind last_torn in
+      let same = gate_head records item rest staged last staged_kept.1 short entry_after last_torn in
       let start : selected_start last ≡ selected_start on.image = same.start ∙ staged_kept.0.start in
       let count : length entry - 5 ≡ length item = omega (arith, ap length is, length-entry_of item) in
       record {
         image = last;
         shows = shows;
         synced = synced;
-        holds = gate_open records item rest staged last staged_kept.1 short entry_behind last_torn gate_octet;
+        holds = gate_open records item rest staged last staged_kept.1 short entry_after last_torn gate_octet;
         second = on.second ∙ sym (same.second ∙ staged_kept.0.second);
         area = ap (λ (n : ℕ). with_record journal.area n) count ∙ ap (λ (area : Area). with_record area (length item)) on.area ∙ counts_push (selected_start on.image) records item
             ∙ ap (λ (n : ℕ). area_of n (records ++ item ∷ [])) (sym start);

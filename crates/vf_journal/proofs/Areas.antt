@@ -15,24 +15,24 @@ gated gate item = gate ∷ sized item
 pub length-gated : (gate : ℕ) (item : List ℕ) → length (gated gate item) ≡ length item + 5
 length-gated gate item = omega (arith, length-sized item)
 
--- octets that agree with a list and what follows it, up to a place behind the list
-pub split_alike : (front rest other : List ℕ) (count : ℕ) → take (length front + count) other ≡ take (length front + count) (front ++ rest)
-    → (other ≡ front ++ drop (length front) other) × (take count (drop (length front) other) ≡ take count rest)
-split_alike front rest other count same =
-    let le : length front ≤ length front + count = omega arith in
-    let head : take (length front) other ≡ front =
-    sym (take-take (length front) (length front + count) other le) ∙ ap (λ (l : List ℕ). take (length front) l) same
-    ∙ take-take (length front) (length front + count) (front ++ rest) le ∙ take_at front rest (length front) refl in (
-      sym (take-append-drop (length front) other) ∙ ap (λ (l : List ℕ). l ++ drop (length front) other) head,
-      sym (drop-take (length front) count other) ∙ ap (λ (l : List ℕ). drop (length front) l) same
-          ∙ drop-take (length front) count (front ++ rest) ∙ ap (λ (l : List ℕ). take count l) (drop_at front rest (length front) refl),
+-- octets that agree with a list and what follows it, up to a place after the list
+pub split_alike : (prefix rest other : List ℕ) (count : ℕ) → take (length prefix + count) other ≡ take (length prefix + count) (prefix ++ rest)
+    → (other ≡ prefix ++ drop (length prefix) other) × (take count (drop (length prefix) other) ≡ take count rest)
+split_alike prefix rest other count same =
+    let le : length prefix ≤ length prefix + count = omega arith in
+    let head : take (length prefix) other ≡ prefix =
+    sym (take-take (length prefix) (length prefix + count) other le) ∙ ap (λ (l : List ℕ). take (length prefix) l) same
+    ∙ take-take (length prefix) (length prefix + count) (prefix ++ rest) le ∙ take_at prefix rest (length prefix) refl in (
+      sym (take-append-drop (length prefix) other) ∙ ap (λ (l : List ℕ). l ++ drop (length prefix) other) head,
+      sym (drop-take (length prefix) count other) ∙ ap (λ (l : List ℕ). drop (length prefix) l) same
+          ∙ drop-take (length prefix) count (prefix ++ rest) ∙ ap (λ (l : List ℕ). take count l) (drop_at prefix rest (length prefix) refl),
     )
 
 -- Octets that begin as an area does, up to its closed gate, and go on there with another area, are an area of both.
 pub area_joined : (records more : List (List ℕ)) (octets other : List ℕ) → HoldsArea octets records → take (octets_of records) other ≡ take (octets_of records) octets
     → HoldsArea (drop (octets_of records) other) more → HoldsArea other (records ++ more)
-area_joined [] more octets other holds same behind = behind
-area_joined (item ∷ records) more octets other (gate, rest, open_gate, short, is, holds) same behind =
+area_joined [] more octets other holds same after = after
+area_joined (item ∷ records) more octets other (gate, rest, open_gate, short, is, holds) same after =
     let count : octets_of (item ∷ records) ≡ length (gated gate item) + octets_of records = omega (arith, length-gated gate item) in
     let alike : take (length (gated gate item) + octets_of records) other ≡ take (length (gated gate item) + octets_of records) (gated gate item ++ rest) =
     ap (λ (n : ℕ). take n other) (sym count) ∙ same ∙ ap (λ (n : ℕ). take n octets) count ∙ ap (λ (l : List ℕ). take (length (gated gate item) + octets_of records) l) is in
@@ -44,7 +44,7 @@ area_joined (item ∷ records) more octets other (gate, rest, open_gate, short, 
       open_gate,
       short,
       parts.0,
-      area_joined records more rest (drop (length (gated gate item)) other) holds parts.1 (subst (λ (l : List ℕ). HoldsArea l more) back behind),
+      area_joined records more rest (drop (length (gated gate item)) other) holds parts.1 (subst (λ (l : List ℕ). HoldsArea l more) back after),
     )
 
 -- where the closed gate of an area stands
@@ -62,7 +62,7 @@ area_closed (item ∷ records) octets (gate, rest, open_gate, short, is, holds) 
 pub area_length : (records : List (List ℕ)) (octets : List ℕ) → HoldsArea octets records → octets_of records + 1 ≤ length octets
 area_length records octets holds = let closed = area_closed records octets holds in omega (arith, ap length closed.1, length-drop (octets_of records) octets)
 
-starts_closed : (rest other : List ℕ) → take 1 other ≡ take 1 (0 ∷ rest) → (behind : List ℕ) × (other ≡ 0 ∷ behind)
+starts_closed : (rest other : List ℕ) → take 1 other ≡ take 1 (0 ∷ rest) → (after : List ℕ) × (other ≡ 0 ∷ after)
 starts_closed rest [] same = absurd (cc same)
 starts_closed rest (x ∷ xs) same = let closed : x ≡ 0 = cc in (xs, ap (λ (gate : ℕ). gate ∷ xs) closed)
 
@@ -73,10 +73,10 @@ area_kept records octets other holds same =
     let n = octets_of records in
     let closed = area_closed records octets holds in
     let le : n ≤ n + 1 = omega arith in
-    let front : take n other ≡ take n octets = sym (take-take n (n + 1) other le) ∙ ap (λ (l : List ℕ). take n l) same ∙ take-take n (n + 1) octets le in
+    let prefix : take n other ≡ take n octets = sym (take-take n (n + 1) other le) ∙ ap (λ (l : List ℕ). take n l) same ∙ take-take n (n + 1) octets le in
     let gate : take 1 (drop n other) ≡ take 1 (0 ∷ closed.0) =
     sym (drop-take n 1 other) ∙ ap (λ (l : List ℕ). drop n l) same ∙ drop-take n 1 octets ∙ ap (λ (l : List ℕ). take 1 l) closed.1 in
-    subst (λ (rs : List (List ℕ)). HoldsArea other rs) (append-nil records) (area_joined records [] octets other holds front (starts_closed closed.0 (drop n other) gate))
+    subst (λ (rs : List (List ℕ)). HoldsArea other rs) (append-nil records) (area_joined records [] octets other holds prefix (starts_closed closed.0 (drop n other) gate))
 
 -- an area of one record
 pub area_alone : (gate : ℕ) (item rest : List ℕ) → gate ≢ 0 → length item ≤ longest → HoldsArea (gate ∷ (entry_of item ++ rest)) (item ∷ [])

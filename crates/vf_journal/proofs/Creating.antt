@@ -52,19 +52,19 @@ starts_zero : (image : List ℕ) → take 1 image ≡ 0 ∷ [] → IsSome (refus
 starts_zero [] same = absurd (cc same)
 starts_zero (octet ∷ rest) same = let zero : octet ≡ 0 = cc in first_refused octet rest (omega arith)
 
--- behind the first write
+-- after the first write
 pub first_left : (image : List ℕ) → Torn 0 1 [] image → IsNoneOrNew image
 first_left image torn = inl (short_refused image (omega (arith, torn.no_longer)))
 
--- behind the second
+-- after the second
 pub second_left : (image : List ℕ) → Torn 1 (length rest_of_new) (0 ∷ []) image → IsNoneOrNew image
 second_left image torn = inl (starts_zero image torn.before)
 
 first_octet : (image : List ℕ) → 1 ≤ length image → drop 1 image ≡ rest_of_new → (octet : ℕ) × (image ≡ octet ∷ rest_of_new)
-first_octet [] long behind = absurd (omega arith)
-first_octet (octet ∷ rest) long behind = (octet, ap (λ (l : List ℕ). octet ∷ l) behind)
+first_octet [] long after = absurd (omega arith)
+first_octet (octet ∷ rest) long after = (octet, ap (λ (l : List ℕ). octet ∷ l) after)
 
--- behind the last
+-- after the last
 pub third_left : (image : List ℕ) → Torn 0 1 (0 ∷ rest_of_new) image → IsNoneOrNew image
 third_left image torn =
     let found = first_octet image (omega (arith, torn.no_shorter)) torn.past in
@@ -82,14 +82,14 @@ module _ {D : Type 0} (shown : D → Option (List ℕ)) (may_leave : D → List 
   -- one write and sync more
   more : (mid new : D) (image octets : List ℕ) (at : ℕ) → shown mid ≡ Some image → LeavesShown (shown mid) (may_leave mid) → ((left : List ℕ) → Torn at (length octets) image left → IsNoneOrNew left)
       → LeavesOnly moment left_since old mid IsNoneOrNew → LeavesOnly moment left_since mid new (MadeBy (Torn at (length octets)) (may_leave mid)) → LeavesOnly moment left_since old new IsNoneOrNew
-  more mid new image octets at shows synced_mid allows so_far run = joined moment left_since old mid new IsNoneOrNew (MadeBy (Torn at (length octets)) (may_leave mid)) IsNoneOrNew so_far run (λ left allowed. allowed) (λ left behind.
-      let same : behind.0 ≡ image = leaves_octets (shown mid) (may_leave mid) image behind.0 synced_mid shows behind.1 in
-      allows left (subst (λ (l : List ℕ). Torn at (length octets) l left) same behind.2))
+  more mid new image octets at shows synced_mid allows so_far run = joined moment left_since old mid new IsNoneOrNew (MadeBy (Torn at (length octets)) (may_leave mid)) IsNoneOrNew so_far run (λ left allowed. allowed) (λ left after.
+      let same : after.0 ≡ image = leaves_octets (shown mid) (may_leave mid) image after.0 synced_mid shows after.1 in
+      allows left (subst (λ (l : List ℕ). Torn at (length octets) l left) same after.2))
 
   pub create_first : (one : D) → LeavesOnly moment left_since old one (MadeBy (Torn 0 1) (may_leave old)) → LeavesOnly moment left_since old one IsNoneOrNew
-  create_first one run = weaker moment left_since old one (MadeBy (Torn 0 1) (may_leave old)) IsNoneOrNew run (λ left behind.
-      let same : behind.0 ≡ [] = leaves_octets (shown old) (may_leave old) [] behind.0 synced empty behind.1 in
-      first_left left (subst (λ (l : List ℕ). Torn 0 1 l left) same behind.2))
+  create_first one run = weaker moment left_since old one (MadeBy (Torn 0 1) (may_leave old)) IsNoneOrNew run (λ left after.
+      let same : after.0 ≡ [] = leaves_octets (shown old) (may_leave old) [] after.0 synced empty after.1 in
+      first_left left (subst (λ (l : List ℕ). Torn 0 1 l left) same after.2))
 
   pub create_second : (one two : D) → LeavesOnly moment left_since old one (MadeBy (Torn 0 1) (may_leave old)) → shown one ≡ Some (0 ∷ []) → LeavesShown (shown one) (may_leave one)
       → LeavesOnly moment left_since one two (MadeBy (Torn 1 (length rest_of_new)) (may_leave one)) → LeavesOnly moment left_since old two IsNoneOrNew

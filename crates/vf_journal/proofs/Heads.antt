@@ -35,21 +35,21 @@ head_same second second' start start' count count' p q r =
 at_anchor : ℕ → Option Refusal
 at_anchor place = Some (record { place = place; found = None; expected = 0 })
 
--- octets that were read into a front, as the front of an image
-pub front_begins : (image into rest : List ℕ) (n count : ℕ) → into ≡ take n image → length into ≡ count → take count (into ++ rest) ≡ take (length (take count (into ++ rest))) image
-front_begins image into rest n count is size =
+-- octets that were read into a prefix, as the prefix of an image
+pub prefix_begins : (image into rest : List ℕ) (n count : ℕ) → into ≡ take n image → length into ≡ count → take count (into ++ rest) ≡ take (length (take count (into ++ rest))) image
+prefix_begins image into rest n count is size =
     let whole : take count (into ++ rest) ≡ into = take_at into rest count size in
     let long : length (take count (into ++ rest)) ≡ min n (length image) = ap length (whole ∙ is) ∙ length-take n image in
     whole ∙ is ∙ sym (take_min n image) ∙ ap (λ (k : ℕ). take k image) (sym long)
 
--- octets differ from those wanted as a front of them does that is long enough
-pub difference_front : (wanted octets : List ℕ) (place count : ℕ) → length wanted ≤ count → difference place wanted (take count octets) ≡ difference place wanted octets
-difference_front [] octets place count le = refl
-difference_front (expected ∷ wanted) octets place zero le = absurd (omega arith)
-difference_front (expected ∷ wanted) [] place (suc count) le = refl
-difference_front (expected ∷ wanted) (found ∷ octets) place (suc count) le =
+-- octets differ from those wanted as a prefix of them does that is long enough
+pub difference_prefix : (wanted octets : List ℕ) (place count : ℕ) → length wanted ≤ count → difference place wanted (take count octets) ≡ difference place wanted octets
+difference_prefix [] octets place count le = refl
+difference_prefix (expected ∷ wanted) octets place zero le = absurd (omega arith)
+difference_prefix (expected ∷ wanted) [] place (suc count) le = refl
+difference_prefix (expected ∷ wanted) (found ∷ octets) place (suc count) le =
     ap (λ (other : Option Refusal). if found == expected then other else Some (record { place = place; found = Some found; expected = expected }))
-    (difference_front wanted octets (place + 1) count (omega arith))
+    (difference_prefix wanted octets (place + 1) count (omega arith))
 
 -- the octets end, differ, or agree at a place
 module _ (wanted octets : List ℕ) (place : ℕ) (less : place < length wanted) where
@@ -85,11 +85,11 @@ module _ (image : List ℕ) (error : JournalError) where
       subst (λ (e : JournalError). HeadAnswers image (Err e)) (sym told) (ap (λ (r : Option Refusal). or_else r (misplaced image)) same)
 
 module _ (octets : List ℕ) (count : ℕ) (image : List ℕ) (size : length octets ≡ min first_start count) (begins : BeginsWith octets count image) where
-  pub front_is : octets ≡ take first_start image
-  front_is = begins.0 ∙ ap (λ (n : ℕ). take n image) (size ∙ ap (λ (n : ℕ). min first_start n) (sym begins.1)) ∙ take_min first_start image
+  pub prefix_is : octets ≡ take first_start image
+  prefix_is = begins.0 ∙ ap (λ (n : ℕ). take n image) (size ∙ ap (λ (n : ℕ). min first_start n) (sym begins.1)) ∙ take_min first_start image
 
   same_difference : difference 0 header octets ≡ difference 0 header image
-  same_difference = ap (λ (l : List ℕ). difference 0 header l) front_is ∙ difference_front header image 0 first_start (omega arith)
+  same_difference = ap (λ (l : List ℕ). difference 0 header l) prefix_is ∙ difference_prefix header image 0 first_start (omega arith)
 
   -- the octets differ from the header
   pub head_refused : (error : JournalError) → Some error ≡ option_map not_a_store (difference 0 header octets) → HeadAnswers image (Err error)
@@ -115,15 +115,15 @@ module _ (octets : List ℕ) (count : ℕ) (image : List ℕ) (size : length oct
 
     module _ (long : first_start < count) where
       pub head_selects : not (get_or octets selector_place 0 == 0) ≡ selects_second image
-      head_selects = ap (λ (n : ℕ). not (n == 0)) (ap (λ (l : List ℕ). get_or l selector_place 0) front_is ∙ get_or-take first_start image selector_place 0 (omega arith))
+      head_selects = ap (λ (n : ℕ). not (n == 0)) (ap (λ (l : List ℕ). get_or l selector_place 0) prefix_is ∙ get_or-take first_start image selector_place 0 (omega arith))
 
       pub head_starts : (second : Bool) → place_named (drop (anchor_place second) octets) ≡ anchor image second
       head_starts second =
           sym (place_named-take (drop (anchor_place second) octets))
-          ∙ ap (λ (l : List ℕ). place_named (part l (anchor_place second) 8)) front_is
+          ∙ ap (λ (l : List ℕ). place_named (part l (anchor_place second) 8)) prefix_is
           ∙ ap place_named (part_before first_start (anchor_place second) 8 image (take first_start image) (take-take first_start first_start image (omega arith)) (anchor_low second))
 
-      -- the selected anchor names a place before the areas, or behind the end
+      -- the selected anchor names a place before the areas, or after the end
       pub head_misplaced : (place : ℕ) → place ≡ anchor_place (selects_second image) → (selected_start image < first_start) ⊎ (count ≤ selected_start image) → refusal image ≡ Some (record { place = place; found = None; expected = 0 })
       unfolding at_anchor
       head_misplaced place at outside =

@@ -7,25 +7,25 @@ use Rattle.vf_journal.proofs.Images.{gate_within}
 use Rattle.vf_journal.proofs.Gates.{area_read}
 
 -- octets that begin with those wanted don't differ from them
-pub same_front : (wanted rest : List ℕ) (place : ℕ) → difference place wanted (wanted ++ rest) ≡ None
-same_front [] rest place = refl
-same_front (octet ∷ wanted) rest place =
+pub same_prefix : (wanted rest : List ℕ) (place : ℕ) → difference place wanted (wanted ++ rest) ≡ None
+same_prefix [] rest place = refl
+same_prefix (octet ∷ wanted) rest place =
     let test : (octet == octet) ≡ true = grind (arith, nat_tests) in
-    rw test (same_front wanted rest (place + 1))
+    rw test (same_prefix wanted rest (place + 1))
 
 -- what an area wants of the length and the selected start
 pub placed_right : (image : List ℕ) → first_start < length image → first_start ≤ selected_start image → selected_start image < length image → misplaced image ≡ None
 placed_right image long high within =
     let enough : nat_le (length image) first_start ≡ false = grind (arith, nat_tests) in
-    let behind : nat_lt (selected_start image) first_start ≡ false = grind (arith, nat_tests) in
+    let after : nat_lt (selected_start image) first_start ≡ false = grind (arith, nat_tests) in
     let inside : nat_le (length image) (selected_start image) ≡ false = grind (arith, nat_tests) in
-    rw (enough, behind, inside) refl
+    rw (enough, after, inside) refl
 
 pub not_refused : (image : List ℕ) (records : List (List ℕ)) → Holds image records → refusal image ≡ None
 unfolding refusal
 not_refused image records holds =
     let whole : image ≡ header ++ drop 16 image = sym (take-append-drop 16 image) ∙ ap (λ (l : List ℕ). l ++ drop 16 image) holds.head in
-    let head : difference 0 header image ≡ None = ap (difference 0 header) whole ∙ same_front header (drop 16 image) 0 in
+    let head : difference 0 header image ≡ None = ap (difference 0 header) whole ∙ same_prefix header (drop 16 image) 0 in
     let within = gate_within image records holds in
     ap (λ (r : Option Refusal). or_else r (misplaced image)) head ∙ placed_right image (omega (arith, holds.start)) holds.start (omega arith)
 

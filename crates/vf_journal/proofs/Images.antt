@@ -1,4 +1,4 @@
--- What the images of a journal hold behind each of its writes, whole or cut short.
+-- What the images of a journal hold after each of its writes, whole or cut short.
 use Rattle.std.proofs.Common.{◌≡◌, ◌==◌, ◌⊎◌, inl, inr, ⊎_elim, ℕ, ◌+◌, ◌≤◌, Bool, true, false, not, List, [], ◌∷◌, ◌++◌, length, get_or, take, drop, refl, sym, ◌∙◌, ap, subst, arith, length-drop}
 use Rattle.std.proofs.lemmas.List.{drop-drop, drop_more, get_or-take, get_or-drop, append-nil}
 use Rattle.std.proofs.lemmas.Bool.{cases_eq}
@@ -7,7 +7,7 @@ use Rattle.vf_journal.specs.Layout.{header, selector_place, anchor_place, anchor
 use Rattle.vf_journal.specs.Records.{HoldsArea, entry_of, longest, octets_of}
 use Rattle.vf_journal.specs.Image.{Holds, HoldsEither}
 use Rattle.vf_journal.proofs.Areas.{area_alone, area_joined, area_kept, area_length}
-use Rattle.vf_journal.proofs.Parts.{drop_behind, part_before, part_behind}
+use Rattle.vf_journal.proofs.Parts.{drop_after, part_before, part_after}
 
 -- a part that lies outside a range
 abbrev pub IsApart : ℕ → ℕ → ℕ → ℕ → Type 0
@@ -16,7 +16,7 @@ IsApart at count place size = (place + size ≤ at) ⊎ (at + count ≤ place)
 -- a write cut short leaves it as it was
 pub part_apart : (at count place size : ℕ) (old new : List ℕ) → Torn at count old new → IsApart at count place size → part new place size ≡ part old place size
 part_apart at count place size old new torn (inl before) = part_before at place size old new torn.before before
-part_apart at count place size old new torn (inr behind) = part_behind (at + count) place size old new torn.past behind
+part_apart at count place size old new torn (inr after) = part_after (at + count) place size old new torn.past after
 
 -- the head of an image: the header, the selector and the selected anchor
 pub record SameHead (old new : List ℕ) : Type 0 where
@@ -62,9 +62,9 @@ anchor_high : (second : Bool) → selector_place + 1 ≤ anchor_place second
 anchor_high true = omega arith
 anchor_high false = omega arith
 
--- behind the anchors nothing changes the head
-pub head_behind : (at count : ℕ) (old new : List ℕ) → Torn at count old new → first_start ≤ at → SameHead old new
-head_behind at count old new torn high =
+-- after the anchors nothing changes the head
+pub head_after : (at count : ℕ) (old new : List ℕ) → Torn at count old new → first_start ≤ at → SameHead old new
+head_after at count old new torn high =
     head_apart at count old new torn (inl (omega arith)) (inl (omega arith)) (inl (omega (arith, anchor_low (selects_second old))))
 
 -- what an image holds, while its head and its selected area stay
@@ -76,18 +76,18 @@ holds_kept records old new holds same area = record {
   area = subst (λ (n : ℕ). HoldsArea (drop n new) records) (sym same.start) (area_kept records (drop (selected_start old) old) (drop (selected_start old) new) holds.area area);
 }
 
--- a write behind the selected area
-pub written_behind : (records : List (List ℕ)) (at count : ℕ) (old new : List ℕ) → Holds old records → selected_start old + 1 + octets_of records ≤ at → Torn at count old new
+-- a write after the selected area
+pub written_after : (records : List (List ℕ)) (at count : ℕ) (old new : List ℕ) → Holds old records → selected_start old + 1 + octets_of records ≤ at → Torn at count old new
     → SameHead old new × Holds new records
-written_behind records at count old new holds high torn =
-    let same = head_behind at count old new torn (omega (arith, holds.start)) in
+written_after records at count old new holds high torn =
+    let same = head_after at count old new torn (omega (arith, holds.start)) in
     (same, holds_kept records old new holds same (part_apart at count (selected_start old) (octets_of records + 1) old new torn (inl (omega arith))))
 
--- a write before it and behind the anchors
+-- a write before it and after the anchors
 pub written_before : (records : List (List ℕ)) (at count : ℕ) (old new : List ℕ) → Holds old records → first_start ≤ at → at + count ≤ selected_start old → Torn at count old new
     → SameHead old new × Holds new records
 written_before records at count old new holds high low torn =
-    let same = head_behind at count old new torn high in
+    let same = head_after at count old new torn high in
     (same, holds_kept records old new holds same (part_apart at count (selected_start old) (octets_of records + 1) old new torn (inr low)))
 
 others_apart : (second : Bool) → IsApart (anchor_place (not second)) 8 (anchor_place second) 8
@@ -110,9 +110,9 @@ gate_of image records = selected_start image + octets_of records
 pub gate_within : (image : List ℕ) (records : List (List ℕ)) → Holds image records → gate_of image records + 1 ≤ length image
 gate_within image records holds = omega (arith, area_length records (drop (selected_start image) image) holds.area, length-drop (selected_start image) image)
 
--- A write of the gate behind which an entry stands: it's closed still, or open, and then the record counts.
+-- A write of the gate after which an entry stands: it's closed still, or open, and then the record counts.
 module _ (records : List (List ℕ)) (entry rest old new : List ℕ) (holds : Holds old records) (short : length entry ≤ longest)
-    (behind : drop (gate_of old records + 1) old ≡ entry_of entry ++ rest) (torn : Torn (gate_of old records) 1 old new) where
+    (after : drop (gate_of old records + 1) old ≡ entry_of entry ++ rest) (torn : Torn (gate_of old records) 1 old new) where
   gate : ℕ
   gate = gate_of old records
 
@@ -121,25 +121,25 @@ module _ (records : List (List ℕ)) (entry rest old new : List ℕ) (holds : Ho
 
   pub gate_head : SameHead old new
   unfolding gate
-  gate_head = head_behind (gate_of old records) 1 old new torn (omega (arith, holds.start))
+  gate_head = head_after (gate_of old records) 1 old new torn (omega (arith, holds.start))
 
-  front : take (octets_of records) (drop (selected_start old) new) ≡ take (octets_of records) (drop (selected_start old) old)
+  prefix : take (octets_of records) (drop (selected_start old) new) ≡ take (octets_of records) (drop (selected_start old) old)
   unfolding gate
-  front = part_apart (gate_of old records) 1 (selected_start old) (octets_of records) old new torn (inl (omega arith))
+  prefix = part_apart (gate_of old records) 1 (selected_start old) (octets_of records) old new torn (inl (omega arith))
 
   back : drop (octets_of records) (drop (selected_start old) new) ≡ octet ∷ (entry_of entry ++ rest)
   unfolding gate octet
   back =
       drop-drop (octets_of records) (selected_start old) new
       ∙ drop_more new (gate_of old records) 0 (omega (arith, torn.no_shorter, gate_within old records holds))
-      ∙ ap (λ (l : List ℕ). get_or new (gate_of old records) 0 ∷ l) (torn.past ∙ behind)
+      ∙ ap (λ (l : List ℕ). get_or new (gate_of old records) 0 ∷ l) (torn.past ∙ after)
 
   holding : (more : List (List ℕ)) → HoldsArea (octet ∷ (entry_of entry ++ rest)) more → Holds new (records ++ more)
   holding more tail = record {
     head = gate_head.head ∙ holds.head;
     start = subst (λ (n : ℕ). first_start ≤ n) (sym gate_head.start) holds.start;
     area = subst (λ (n : ℕ). HoldsArea (drop n new) (records ++ more)) (sym gate_head.start)
-        (area_joined records more (drop (selected_start old) old) (drop (selected_start old) new) holds.area front (subst (λ (l : List ℕ). HoldsArea l more) (sym back) tail));
+        (area_joined records more (drop (selected_start old) old) (drop (selected_start old) new) holds.area prefix (subst (λ (l : List ℕ). HoldsArea l more) (sym back) tail));
   }
 
   closed_tail : octet ≡ 0 → HoldsArea (octet ∷ (entry_of entry ++ rest)) []
@@ -162,7 +162,7 @@ module _ (records others : List (List ℕ)) (old new : List ℕ) (holds : Holds 
   anchors second = same_anchor second old new (part_apart selector_place 1 (anchor_place second) 8 old new torn (inr (anchor_high second)))
 
   areas : (place : ℕ) → first_start ≤ place → drop place new ≡ drop place old
-  areas place high = drop_behind (selector_place + 1) place old new torn.past (omega arith)
+  areas place high = drop_after (selector_place + 1) place old new torn.past (omega arith)
 
   same_header : take 16 new ≡ header
   same_header = part_apart selector_place 1 0 16 old new torn (inl (omega arith)) ∙ holds.head

@@ -12,7 +12,7 @@ mod Switching
 mod Creating
 mod Gates
 mod Held
-mod Fronts
+mod Prefixes
 mod Looks
 mod Heads
 mod Opening

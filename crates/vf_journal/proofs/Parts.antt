@@ -4,40 +4,40 @@ use Rattle.std.proofs.lemmas.List.{take-take, take_at, drop_at, drop-drop, drop-
 use Rattle.vf_disk.specs.Disk.{Torn, overwritten}
 use Rattle.vf_journal.specs.Layout.{part}
 
--- a part is the back of a front
-pub part_of_front : (image : List ℕ) (place count : ℕ) → part image place count ≡ drop place (take (place + count) image)
-part_of_front image place count = sym (drop-take place count image)
+-- a part is the end of a prefix
+pub part_of_prefix : (image : List ℕ) (place count : ℕ) → part image place count ≡ drop place (take (place + count) image)
+part_of_prefix image place count = sym (drop-take place count image)
 
 -- parts of images that agree up to a place, or from one on
 pub part_before : (at place count : ℕ) (old new : List ℕ) → take at new ≡ take at old → place + count ≤ at → part new place count ≡ part old place count
 part_before at place count old new same le =
-    let front : (image : List ℕ) → take (place + count) image ≡ take (place + count) (take at image) = λ image. sym (take-take (place + count) at image le) in
-    part_of_front new place count
-    ∙ ap (λ (octets : List ℕ). drop place octets) (front new ∙ ap (λ (octets : List ℕ). take (place + count) octets) same ∙ sym (front old))
-    ∙ sym (part_of_front old place count)
+    let prefix : (image : List ℕ) → take (place + count) image ≡ take (place + count) (take at image) = λ image. sym (take-take (place + count) at image le) in
+    part_of_prefix new place count
+    ∙ ap (λ (octets : List ℕ). drop place octets) (prefix new ∙ ap (λ (octets : List ℕ). take (place + count) octets) same ∙ sym (prefix old))
+    ∙ sym (part_of_prefix old place count)
 
-pub drop_behind : (from place : ℕ) (old new : List ℕ) → drop from new ≡ drop from old → from ≤ place → drop place new ≡ drop place old
-drop_behind from place old new same le =
+pub drop_after : (from place : ℕ) (old new : List ℕ) → drop from new ≡ drop from old → from ≤ place → drop place new ≡ drop place old
+drop_after from place old new same le =
     let to : from + (place - from) ≡ place = omega arith in
     let back : (image : List ℕ) → drop place image ≡ drop (place - from) (drop from image) = λ image. ap (λ (n : ℕ). drop n image) (sym to) ∙ sym (drop-drop (place - from) from image) in
     back new ∙ ap (λ (octets : List ℕ). drop (place - from) octets) same ∙ sym (back old)
 
-pub part_behind : (from place count : ℕ) (old new : List ℕ) → drop from new ≡ drop from old → from ≤ place → part new place count ≡ part old place count
-part_behind from place count old new same le = ap (λ (octets : List ℕ). take count octets) (drop_behind from place old new same le)
+pub part_after : (from place count : ℕ) (old new : List ℕ) → drop from new ≡ drop from old → from ≤ place → part new place count ≡ part old place count
+part_after from place count old new same le = ap (λ (octets : List ℕ). take count octets) (drop_after from place old new same le)
 
 -- what a write that succeeds gives
 module _ (old : List ℕ) (at : ℕ) (octets : List ℕ) (low : at ≤ length old) where
-  front_length : length (take at old) ≡ at
-  front_length = length-take-le at old low
+  prefix_length : length (take at old) ≡ at
+  prefix_length = length-take-le at old low
 
   grouped : overwritten old at octets ≡ take at old ++ (octets ++ drop (at + length octets) old)
   grouped = append_assoc (take at old) octets (drop (at + length octets) old)
 
-  pub overwritten_front : take at (overwritten old at octets) ≡ take at old
-  overwritten_front = ap (λ (image : List ℕ). take at image) grouped ∙ take_at (take at old) (octets ++ drop (at + length octets) old) at front_length
+  pub overwritten_prefix : take at (overwritten old at octets) ≡ take at old
+  overwritten_prefix = ap (λ (image : List ℕ). take at image) grouped ∙ take_at (take at old) (octets ++ drop (at + length octets) old) at prefix_length
 
   pub overwritten_from : drop at (overwritten old at octets) ≡ octets ++ drop (at + length octets) old
-  overwritten_from = ap (λ (image : List ℕ). drop at image) grouped ∙ drop_at (take at old) (octets ++ drop (at + length octets) old) at front_length
+  overwritten_from = ap (λ (image : List ℕ). drop at image) grouped ∙ drop_at (take at old) (octets ++ drop (at + length octets) old) at prefix_length
 
   pub overwritten_back : drop (at + length octets) (overwritten old at octets) ≡ drop (at + length octets) old
   overwritten_back =
@@ -46,12 +46,12 @@ module _ (old : List ℕ) (at : ℕ) (octets : List ℕ) (low : at ≤ length ol
       ∙ drop_at octets (drop (at + length octets) old) (length octets) refl
 
   pub length-overwritten : length (overwritten old at octets) ≡ max (length old) (at + length octets)
-  length-overwritten = omega (arith, ap length grouped, length-append (take at old) (octets ++ drop (at + length octets) old), length-append octets (drop (at + length octets) old), length-drop (at + length octets) old, front_length)
+  length-overwritten = omega (arith, ap length grouped, length-append (take at old) (octets ++ drop (at + length octets) old), length-append octets (drop (at + length octets) old), length-drop (at + length octets) old, prefix_length)
 
   -- it is one that a crash may have cut short
   pub torn_whole : Torn at (length octets) old (overwritten old at octets)
   torn_whole = record {
-    before = overwritten_front;
+    before = overwritten_prefix;
     past = overwritten_back;
     no_shorter = omega (arith, length-overwritten);
     no_longer = omega (arith, length-overwritten);

@@ -16,9 +16,9 @@ use Rattle.vf_journal.specs.JournalState.{HasPrepared, JournalState, StandsOn, a
 use Rattle.vf_journal.specs.Writes.{MadeBy, Shows, prepare_steps, written_steps}
 use Rattle.vf_journal.proofs.Areas.{area_alone}
 use Rattle.vf_journal.proofs.Lengths.{area_short, length-area_with}
-use Rattle.vf_journal.proofs.Images.{SameHead, anchor_low, gate_within, other_anchor, written_before, written_behind}
+use Rattle.vf_journal.proofs.Images.{SameHead, anchor_low, gate_within, other_anchor, written_before, written_after}
 use Rattle.vf_journal.proofs.Numbers.{length-place_octets, place_named-take, place_read_back}
-use Rattle.vf_journal.proofs.Parts.{drop_behind, overwritten_from, length-overwritten, torn_whole}
+use Rattle.vf_journal.proofs.Parts.{drop_after, overwritten_from, length-overwritten, torn_whole}
 
 -- where a new area starts
 pub new_start_cases : (journal : JournalState) (count : ℕ) → ((new_start journal count ≡ first_start) × (first_start + count ≤ journal.area.start)) ⊎ (new_start journal count ≡ journal.area.end)
@@ -40,7 +40,7 @@ alone start count item is =
     let first : count - 6 ≡ length item = omega (arith, is) in
     ap (λ (n : ℕ). made start n (count - 6)) end ∙ ap (λ (n : ℕ). made start (start + 1 + (length item + 5 + 0)) n) first
 
--- what a read gives behind it
+-- what a read gives after it
 pub prepared_shown : (told : Option (List ℕ)) (image : List ℕ) (start start' at at' : ℕ) (area name : List ℕ) → told ≡ Some (overwritten (overwritten image start area) at name) → start ≡ start' → at ≡ at' → name ≡ place_octets start
     → told ≡ Some (overwritten (overwritten image start' area) at' (place_octets start'))
 prepared_shown told image start start' at at' area name shows start_is at_is name_is =
@@ -78,7 +78,7 @@ module _ {D : Type 0} (shown : D → Option (List ℕ)) (may_leave : D → List 
   area_left : (new : List ℕ) → Torn start (length octets) on.image new → SameHead on.image new × Holds new records
   area_left new torn = ⊎_elim
       (λ low. written_before records start (length octets) on.image new on.holds start_high (omega (arith, place, low.0, low.1, starts)) torn)
-      (λ high. written_behind records start (length octets) on.image new on.holds (omega (arith, place, high, ends)) torn)
+      (λ high. written_after records start (length octets) on.image new on.holds (omega (arith, place, high, ends)) torn)
       (new_start_cases journal (length octets))
 
   -- and then the anchor that isn't selected
@@ -139,9 +139,9 @@ module _ {D : Type 0} (shown : D → Option (List ℕ)) (may_leave : D → List 
         ∙ ap place_named (overwritten_from with_area other (place_octets start) other_within)
         ∙ place_read_back start (drop (other + length (place_octets start)) with_area) (omega (arith, bound))
 
-    area_behind : drop start last ≡ 1 ∷ (entry_of item ++ drop (start + length octets) on.image)
-    area_behind =
-        drop_behind (other + 8) start with_area last last_torn.past (omega (arith, other_low, start_high))
+    area_after : drop start last ≡ 1 ∷ (entry_of item ++ drop (start + length octets) on.image)
+    area_after =
+        drop_after (other + 8) start with_area last last_torn.past (omega (arith, other_low, start_high))
         ∙ overwritten_from on.image start octets start_within
         ∙ ap (λ (l : List ℕ). l ++ drop (start + length octets) on.image) is
 
@@ -162,7 +162,7 @@ module _ {D : Type 0} (shown : D → Option (List ℕ)) (may_leave : D → List 
             shows = shows;
             start = subst (λ (n : ℕ). first_start ≤ n) (sym named) start_high;
             holds = subst (λ (n : ℕ). HoldsArea (drop n last) (item ∷ [])) (sym named)
-                (subst (λ (l : List ℕ). HoldsArea l (item ∷ [])) (sym area_behind) (area_alone 1 item (drop (start + length octets) on.image) (omega arith) (area_short octets item built is)));
+                (subst (λ (l : List ℕ). HoldsArea l (item ∷ [])) (sym area_after) (area_alone 1 item (drop (start + length octets) on.image) (omega arith) (area_short octets item built is)));
             area = ap Some (alone start (length octets) item (ap length is ∙ length-area_with item) ∙ ap (λ (n : ℕ). area_of n (item ∷ [])) (sym named));
           },
         )

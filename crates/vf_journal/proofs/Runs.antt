@@ -15,15 +15,15 @@ module _ {D : Type 0} (moment : D → ℕ) (left_since : D → ℕ → List ℕ 
   abbrev Left : List ℕ → Type 0
   Left = MadeBy (Torn at count) (may_leave old)
 
-  -- behind the write
+  -- after the write
   pub write_run : LeavesOnly moment left_since old mid Left
   write_run = leaves_after moment left_since old old mid Left (may_leave mid) (leaves_at_first moment left_since old Left (λ image left. (image, only_now old image left, torn_self at count image))) time follows
 
-  -- and behind the sync
+  -- and after the sync
   pub synced_run : (new : D) → Elapses (moment mid) (moment new) (left_since mid) (left_since new) (may_leave new) → Within (may_leave mid) (may_leave new) → LeavesOnly moment left_since old new Left
   synced_run new later within = leaves_after moment left_since old mid new Left (may_leave new) write_run later (λ image left. follows image (within image left))
 
-  -- behind the write and another, with its sync
+  -- after the write and another, with its sync
   pub both_run : (then_at then : ℕ) (new : D) → LeavesOnly moment left_since mid new (MadeBy (Torn then_at then) (may_leave mid)) → LeavesOnly moment left_since old new (MadeBy (Torn then_at then) Left)
   both_run then_at then new second = joined moment left_since old mid new Left (MadeBy (Torn then_at then) (may_leave mid)) (MadeBy (Torn then_at then) Left) write_run second
       (λ image left. (image, left, torn_self then_at then image))
@@ -32,7 +32,7 @@ module _ {D : Type 0} (moment : D → ℕ) (left_since : D → ℕ → List ℕ 
   pub first_run : (then_at then : ℕ) → LeavesOnly moment left_since old mid (MadeBy (Torn then_at then) Left)
   first_run then_at then = weaker moment left_since old mid Left (MadeBy (Torn then_at then) Left) write_run (λ image left. (image, left, torn_self then_at then image))
 
--- what a read gives behind a write, however it went
+-- what a read gives after a write, however it went
 pub written_seen : (told new : Option (List ℕ)) (old : List ℕ) (at : ℕ) (octets : List ℕ) (result : Result (Unit {0}) Failed) → at ≤ length old → told ≡ Some old → Writes told new at octets result
     → Shows new (Torn at (length octets) old)
 written_seen None new old at octets result low is writes = cc
@@ -47,7 +47,7 @@ written_seen (Some shown) new old at octets (Err failed) low is writes =
 pub seen_still : (mid new : Option (List ℕ)) (P : List ℕ → Type 0) → new ≡ mid → Shows mid P → Shows new P
 seen_still mid new P same seen = (seen.0, same ∙ seen.1, seen.2)
 
--- behind a first write, and behind a second one
+-- after a first write, and after a second one
 pub first_seen : (new : Option (List ℕ)) (old : List ℕ) (at count then_at then : ℕ) → Shows new (Torn at count old) → Shows new (MadeBy (Torn then_at then) (Torn at count old))
 first_seen new old at count then_at then seen = (seen.0, seen.1, (seen.0, seen.2, torn_self then_at then seen.0))
 

@@ -1,4 +1,4 @@
--- Records that are taken one after another from the front of a block.
+-- Records that are taken one after another from the start of a block.
 use Rattle.std.proofs.Common.{◌≡◌, ℕ, ◌+◌, ◌-◌, ◌<◌, ◌≤◌, Bool, true, false, if◌then◌else◌, List, [], ◌∷◌, ◌++◌, length, take, drop, Option, None, Some, IsTrue, refl, sym, ◌∙◌, ap, subst, arith, append_assoc, length-append, length-drop}
 use Rattle.std.proofs.lemmas.List.{append-nil, drop-drop, drop-take, length-take-le, take-take, take_at}
 use Rattle.vf_disk.specs.Disk.{greatest_length}
@@ -10,7 +10,7 @@ use Rattle.vf_journal.specs.JournalState.{IsPlaced, area_of, with_record}
 use Rattle.vf_journal.proofs.Counts.{octets_push, placed_more}
 use Rattle.vf_journal.proofs.Gates.{first_rest, reads_none, reads_some}
 
--- where a block, and what stands behind it, was taken from so far
+-- where a block, and what stands after it, was taken from so far
 pub record Taking (block : List ℕ) (count : ℕ) (area : Area) (old : List (List ℕ)) (rest : List ℕ) (left : ℕ) (now : Area) (new : List (List ℕ)) : Type 0 where
   pub taken : List (List ℕ)
   pub records : new ≡ old ++ taken
@@ -53,19 +53,19 @@ module _ (block : List ℕ) (count : ℕ) (area : Area) (old : List (List ℕ)) 
   }
 
   -- one record more
-  pub taking_more : (size : ℕ) (item : List ℕ) (next : List (List ℕ)) (further : Area) (behind : List ℕ) → size + 6 ≤ length rest → item ≡ take size (drop 5 rest) → next ≡ new ++ item ∷ [] → further ≡ with_record now size → behind ≡ drop (5 + size) rest
-      → ((all : List ℕ) → BeginsWith rest left all → first_record all ≡ Some (take size (drop 5 rest), drop (size + 5) all)) → Taking block count area old behind (left - (5 + size)) further next
-  taking_more size item next further behind long item_is next_is further_is behind_is found =
+  pub taking_more : (size : ℕ) (item : List ℕ) (next : List (List ℕ)) (further : Area) (after : List ℕ) → size + 6 ≤ length rest → item ≡ take size (drop 5 rest) → next ≡ new ++ item ∷ [] → further ≡ with_record now size → after ≡ drop (5 + size) rest
+      → ((all : List ℕ) → BeginsWith rest left all → first_record all ≡ Some (take size (drop 5 rest), drop (size + 5) all)) → Taking block count area old after (left - (5 + size)) further next
+  taking_more size item next further after long item_is next_is further_is after_is found =
       let item_size : length item ≡ size = ap length item_is ∙ length-take-le size (drop 5 rest) (omega (arith, length-drop 5 rest)) in
       let octets : octets_of (taking.taken ++ item ∷ []) ≡ octets_of taking.taken + (5 + size) = omega (arith, octets_push taking.taken item, item_size) in
-      let rest_size = ap length behind_is ∙ length-drop (5 + size) rest in
+      let rest_size = ap length after_is ∙ length-drop (5 + size) rest in
       let end_is = ap (λ (a : Area). a.end) further_is in
       let less = taking.within in
       record {
         taken = taking.taken ++ item ∷ [];
         records = next_is ∙ ap (λ (l : List (List ℕ)). l ++ item ∷ []) taking.records ∙ append_assoc old taking.taken (item ∷ []);
         counts = further_is ∙ ap (λ (n : ℕ). with_record now n) (sym item_size) ∙ ap (λ (a : Area). with_record a (length item)) taking.counts ∙ sym (with_records_push area taking.taken item);
-        rest_is = behind_is ∙ ap (λ (l : List ℕ). drop (5 + size) l) taking.rest_is ∙ drop-drop (5 + size) (octets_of taking.taken) block ∙ ap (λ (n : ℕ). drop n block) (sym octets);
+        rest_is = after_is ∙ ap (λ (l : List ℕ). drop (5 + size) l) taking.rest_is ∙ drop-drop (5 + size) (octets_of taking.taken) block ∙ ap (λ (n : ℕ). drop n block) (sym octets);
         left_is = omega (arith, octets, taking.left_is);
         some = omega (arith, rest_size);
         within = omega (arith, rest_size);
@@ -81,14 +81,14 @@ module _ (block : List ℕ) (count : ℕ) (area : Area) (old : List (List ℕ)) 
             let begins_here = begins_more rest left here (5 + size) so_far.1 (omega arith) in
             let step : 5 + size ≡ size + 5 = omega arith in (
               so_far.0 ∙ ap (λ (l : List (List ℕ)). taking.taken ++ l) next_record ∙ sym (append_assoc taking.taken (item ∷ []) (records_in (drop (octets_of (taking.taken ++ item ∷ [])) all))),
-              subst (λ (l : List ℕ). BeginsWith l (left - (5 + size)) (drop (octets_of (taking.taken ++ item ∷ [])) all)) (sym behind_is)
+              subst (λ (l : List ℕ). BeginsWith l (left - (5 + size)) (drop (octets_of (taking.taken ++ item ∷ [])) all)) (sym after_is)
                   (subst (λ (l : List ℕ). BeginsWith (drop (5 + size) rest) (left - (5 + size)) l) (ap (λ (n : ℕ). drop n here) step ∙ on) begins_here),
             );
       }
 
--- what was there stays in front
-pub front_stays : (old new taken : List (List ℕ)) → new ≡ old ++ taken → take (length old) new ≡ old
-front_stays old new taken is = ap (λ (l : List (List ℕ)). take (length old) l) is ∙ take_at old taken (length old) refl
+-- what was there stays first
+pub prefix_stays : (old new taken : List (List ℕ)) → new ≡ old ++ taken → take (length old) new ≡ old
+prefix_stays old new taken is = ap (λ (l : List (List ℕ)). take (length old) l) is ∙ take_at old taken (length old) refl
 
 -- what the first record is, from what a read of it found
 none_first : (found : Option (List ℕ × List ℕ)) → None ≡ option_map (λ (x : List ℕ × List ℕ). x.0) found → found ≡ None
@@ -163,12 +163,12 @@ takes_joined IsAll IsRest old mid new count left area found further more first r
   bound = omega (arith, octets_append first.taken second.taken, second.bound);
   reads = λ all is.
       let k = octets_of first.taken in
-      let behind : drop (octets_of second.taken) (drop k all) ≡ drop (octets_of (first.taken ++ second.taken)) all =
+      let after : drop (octets_of second.taken) (drop k all) ≡ drop (octets_of (first.taken ++ second.taken)) all =
       drop-drop (octets_of second.taken) k all ∙ ap (λ (n : ℕ). drop n all) (sym (octets_append first.taken second.taken)) in
       first.reads all is
       ∙ ap (λ (l : List (List ℕ)). first.taken ++ l) (second.reads (drop k all) (rests all is))
       ∙ sym (append_assoc first.taken second.taken (if more then records_in (drop (octets_of second.taken) (drop k all)) else []))
-      ∙ ap (λ (l : List ℕ). (first.taken ++ second.taken) ++ (if more then records_in l else [])) behind;
+      ∙ ap (λ (l : List ℕ). (first.taken ++ second.taken) ++ (if more then records_in l else [])) after;
 }
 
 pub area_end : (IsAll : List ℕ → Type 0) (start count : ℕ) (old new : List (List ℕ)) (found : Area) (more : Bool) → (takes : Takes IsAll old new count (area_of start []) found more) → found.end ≡ start + 1 + octets_of takes.taken
@@ -196,11 +196,11 @@ area_more shown told same start size within old mid new area found more first se
 pub when_more : (IsAll : List ℕ → Type 0) (count : ℕ) (old new : List (List ℕ)) (area found : Area) (more now : Bool) → more ≡ now → Takes IsAll old new count area found more → Takes IsAll old new count area found now
 when_more IsAll count old new area found more now is takes = subst (λ (b : Bool). Takes IsAll old new count area found b) is takes
 
--- a front that stays while another stays
-pub front_kept : (old mid new taken : List (List ℕ)) → mid ≡ old ++ taken → take (length mid) new ≡ mid → take (length old) new ≡ old
-front_kept old mid new taken is kept =
+-- a prefix that stays while another stays
+pub prefix_kept : (old mid new taken : List (List ℕ)) → mid ≡ old ++ taken → take (length mid) new ≡ mid → take (length old) new ≡ old
+prefix_kept old mid new taken is kept =
     let le : length old ≤ length mid = omega (arith, ap length is, length-append old taken) in
-    sym (take-take (length old) (length mid) new le) ∙ ap (λ (l : List (List ℕ)). take (length old) l) kept ∙ front_stays old mid taken is
+    sym (take-take (length old) (length mid) new le) ∙ ap (λ (l : List (List ℕ)). take (length old) l) kept ∙ prefix_stays old mid taken is
 
 -- the measure of reading an area falls
 pub falls : (size old new : ℕ) (now more : Bool) → now ≡ true → old ≤ size → new ≤ size → old ≤ new → (IsTrue more → old < new)

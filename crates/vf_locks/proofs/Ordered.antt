@@ -22,37 +22,37 @@ abbrev differs : Holder → Held → Bool
 differs holder held = not (is_same held.holder holder)
 
 -- of those that stand after a holder none is it
-others_behind : (holder : Holder) (hs : List Held) → list_all (before holder) hs ≡ true → others holder hs ≡ hs
-others_behind holder [] all = refl
-others_behind holder (x ∷ xs) all =
+others_after : (holder : Holder) (hs : List Held) → list_all (before holder) hs ≡ true → others holder hs ≡ hs
+others_after holder [] all = refl
+others_after holder (x ∷ xs) all =
     let here = less_from (holder_cmp holder x.holder) (first_so (before holder x) (list_all (before holder) xs) all) in
-    let behind : holder_cmp x.holder holder ≡ Greater = reversed holder x.holder Less here in
-    let rest = others_behind holder xs (second_so (before holder x) (list_all (before holder) xs) all) in
-    λ i. cond (not (is_eq (behind i))) (x ∷ rest i) (others holder xs)
+    let after : holder_cmp x.holder holder ≡ Greater = reversed holder x.holder Less here in
+    let rest = others_after holder xs (second_so (before holder x) (list_all (before holder) xs) all) in
+    λ i. cond (not (is_eq (after i))) (x ∷ rest i) (others holder xs)
 
-pub controls_behind : (holder : Holder) (hs : List Held) → list_all (before holder) hs ≡ true → controls_of holder hs ≡ None
-controls_behind holder [] all = refl
-controls_behind holder (x ∷ xs) all =
+pub controls_after : (holder : Holder) (hs : List Held) → list_all (before holder) hs ≡ true → controls_of holder hs ≡ None
+controls_after holder [] all = refl
+controls_after holder (x ∷ xs) all =
     let here = less_from (holder_cmp holder x.holder) (first_so (before holder x) (list_all (before holder) xs) all) in
-    let behind : holder_cmp x.holder holder ≡ Greater = reversed holder x.holder Less here in
-    (λ i. option_map (λ (held : Held). held.controls) (cond (is_eq (behind i)) (Some x) (find (λ (held : Held). is_same held.holder holder) xs)))
-    ∙ controls_behind holder xs (second_so (before holder x) (list_all (before holder) xs) all)
+    let after : holder_cmp x.holder holder ≡ Greater = reversed holder x.holder Less here in
+    (λ i. option_map (λ (held : Held). held.controls) (cond (is_eq (after i)) (Some x) (find (λ (held : Held). is_same held.holder holder) xs)))
+    ∙ controls_after holder xs (second_so (before holder x) (list_all (before holder) xs) all)
 
 -- one that stands before all others comes first
 first_in_order : (h : Held) (hs : List Held) → list_all (before h.holder) hs ≡ true → in_order h hs ≡ h ∷ hs
 first_in_order h [] all = refl
 first_in_order h (x ∷ xs) all =
     let here = less_from (holder_cmp h.holder x.holder) (first_so (before h.holder x) (list_all (before h.holder) xs) all) in
-    let behind : holder_cmp x.holder h.holder ≡ Greater = reversed h.holder x.holder Less here in
-    λ i. cond (is_lt (behind i)) (x ∷ in_order h xs) (h ∷ x ∷ xs)
+    let after : holder_cmp x.holder h.holder ≡ Greater = reversed h.holder x.holder Less here in
+    λ i. cond (is_lt (after i)) (x ∷ in_order h xs) (h ∷ x ∷ xs)
 
 -- what stands after one that stands after the holder
-pub all_behind : (holder other : Holder) (hs : List Held) → holder_cmp holder other ≡ Less → list_all (before other) hs ≡ true → list_all (before holder) hs ≡ true
-all_behind holder other [] ahead all = refl
-all_behind holder other (x ∷ xs) ahead all =
+pub all_after : (holder other : Holder) (hs : List Held) → holder_cmp holder other ≡ Less → list_all (before other) hs ≡ true → list_all (before holder) hs ≡ true
+all_after holder other [] ahead all = refl
+all_after holder other (x ∷ xs) ahead all =
     let here = less_from (holder_cmp other x.holder) (first_so (before other x) (list_all (before other) xs) all) in
     let first : holder_cmp holder x.holder ≡ Less = holder_total.trans holder other x.holder ahead here in
-    let rest = all_behind holder other xs ahead (second_so (before other x) (list_all (before other) xs) all) in
+    let rest = all_after holder other xs ahead (second_so (before other x) (list_all (before other) xs) all) in
     λ i. is_lt (first i) && rest i
 
 -- the holder stands at the place
@@ -72,8 +72,8 @@ pub record AbsentAt (holder : Holder) (hs : List Held) (place : ℕ) : Type 0 wh
   pub controls : controls_of holder hs ≡ None
   pub within : place ≤ length hs
 
-behind_first : (holder : Holder) (x : Held) (xs : List Held) (place : ℕ) (h : Held) → holder_cmp x.holder holder ≡ Less → StandsAt holder xs place h → StandsAt holder (x ∷ xs) (suc place) h
-behind_first holder x xs place h ahead rest =
+after_first : (holder : Holder) (x : Held) (xs : List Held) (place : ℕ) (h : Held) → holder_cmp x.holder holder ≡ Less → StandsAt holder xs place h → StandsAt holder (x ∷ xs) (suc place) h
+after_first holder x xs place h ahead rest =
     let within = rest.within in
     record {
       found = rest.found;
@@ -88,12 +88,12 @@ behind_first holder x xs place h ahead rest =
 at_first : (holder : Holder) (x : Held) (xs : List Held) → holder_cmp x.holder holder ≡ Equal → list_all (before x.holder) xs ≡ true → StandsAt holder (x ∷ xs) 0 x
 at_first holder x xs level all =
     let same : x.holder ≡ holder = same_from_equal x.holder holder level in
-    let behind : list_all (before holder) xs ≡ true = subst (λ holder. list_all (before holder) xs ≡ true) same all in
+    let after : list_all (before holder) xs ≡ true = subst (λ holder. list_all (before holder) xs ≡ true) same all in
     record {
       found = λ d. refl;
       within = grind arith;
       same = same;
-      rest = λ i. cond (not (is_eq (level i))) (x ∷ others holder xs) (others_behind holder xs behind i);
+      rest = λ i. cond (not (is_eq (level i))) (x ∷ others holder xs) (others_after holder xs after i);
       back = first_in_order x xs all;
       replaced = λ new is. first_in_order new xs (subst (λ holder. list_all (before holder) xs ≡ true) (same ∙ sym is) all);
       controls = λ i. option_map (λ (held : Held). held.controls) (cond (is_eq (level i)) (Some x) (find (λ (held : Held). is_same held.holder holder) xs));
@@ -106,14 +106,14 @@ stands_at holder (x ∷ xs) place ordered is = by (holder_cmp x.holder holder) r
     by : (r : Ordering) → holder_cmp x.holder holder ≡ r → (q : Result ℕ ℕ) → ((p : ℕ) → q ≡ Ok p → (h : Held) × StandsAt holder xs p h) → place_by r q ≡ Ok place → (h : Held) × StandsAt holder (x ∷ xs) place h
     by Less ahead (Ok p) later e =
         let found = later p refl in
-        subst (λ place. (h : Held) × StandsAt holder (x ∷ xs) place h) (ap (λ (r : Result ℕ ℕ). result_unwrap_or r 0) e) (found.0, behind_first holder x xs p found.0 ahead found.1)
+        subst (λ place. (h : Held) × StandsAt holder (x ∷ xs) place h) (ap (λ (r : Result ℕ ℕ). result_unwrap_or r 0) e) (found.0, after_first holder x xs p found.0 ahead found.1)
     by Less ahead (Err p) later e = absurd (true≢false (sym (ap is_ok e)))
     by Equal level q later e =
         subst (λ place. (h : Held) × StandsAt holder (x ∷ xs) place h) (ap (λ (r : Result ℕ ℕ). result_unwrap_or r 0) e) (x, at_first holder x xs level ordered.0)
     by Greater ahead q later e = absurd (true≢false (sym (ap is_ok e)))
 
-absent_behind_first : (holder : Holder) (x : Held) (xs : List Held) (place : ℕ) → holder_cmp x.holder holder ≡ Less → AbsentAt holder xs place → AbsentAt holder (x ∷ xs) (suc place)
-absent_behind_first holder x xs place ahead rest =
+absent_after_first : (holder : Holder) (x : Held) (xs : List Held) (place : ℕ) → holder_cmp x.holder holder ≡ Less → AbsentAt holder xs place → AbsentAt holder (x ∷ xs) (suc place)
+absent_after_first holder x xs place ahead rest =
     let within = rest.within in
     record {
       rest = λ i. cond (not (is_eq (ahead i))) (x ∷ rest.rest i) (others holder xs);
@@ -124,9 +124,9 @@ absent_behind_first holder x xs place ahead rest =
 
 absent_at_first : (holder : Holder) (hs : List Held) → list_all (before holder) hs ≡ true → AbsentAt holder hs 0
 absent_at_first holder hs all = record {
-  rest = others_behind holder hs all;
+  rest = others_after holder hs all;
   placed = λ new is. first_in_order new hs (subst (λ holder. list_all (before holder) hs ≡ true) (sym is) all);
-  controls = controls_behind holder hs all;
+  controls = controls_after holder hs all;
   within = omega arith;
 }
 
@@ -144,11 +144,11 @@ absent_at holder (x ∷ xs) place ordered is = by (holder_cmp x.holder holder) r
 
     by : (r : Ordering) → holder_cmp x.holder holder ≡ r → (q : Result ℕ ℕ) → ((p : ℕ) → q ≡ Err p → AbsentAt holder xs p) → place_by r q ≡ Err place → AbsentAt holder (x ∷ xs) place
     by Less ahead (Ok p) later e = absurd (true≢false (ap is_ok e))
-    by Less ahead (Err p) later e = subst (AbsentAt holder (x ∷ xs)) (ap error_of e) (absent_behind_first holder x xs p ahead (later p refl))
+    by Less ahead (Err p) later e = subst (AbsentAt holder (x ∷ xs)) (ap error_of e) (absent_after_first holder x xs p ahead (later p refl))
     by Equal level q later e = absurd (true≢false (ap is_ok e))
-    by Greater behind q later e =
-        let ahead : holder_cmp holder x.holder ≡ Less = reversed x.holder holder Greater behind in
-        let rest = all_behind holder x.holder xs ahead ordered.0 in
+    by Greater after q later e =
+        let ahead : holder_cmp holder x.holder ≡ Less = reversed x.holder holder Greater after in
+        let rest = all_after holder x.holder xs ahead ordered.0 in
         subst (AbsentAt holder (x ∷ xs)) (ap error_of e) (absent_at_first holder (x ∷ xs) (λ i. is_lt (ahead i) && rest i))
 
 all_filtered : (p test : Held → Bool) (hs : List Held) → list_all p hs ≡ true → list_all p (filter test hs) ≡ true
@@ -194,9 +194,9 @@ ordered_in_order h (x ∷ xs) ordered differ =
     by : (r : Ordering) → holder_cmp x.holder h.holder ≡ r → not (is_eq (holder_cmp x.holder h.holder)) ≡ true → IsOrdered (in_order h xs) → IsOrdered (cond (is_lt r) (x ∷ in_order h xs) (h ∷ x ∷ xs))
     by Less ahead other rest = (all_in_order (before x.holder) h xs (ap is_lt ahead) ordered.0, rest)
     by Equal level other rest = absurd (true≢false (sym other ∙ ap (λ r. not (is_eq r)) level))
-    by Greater behind other rest =
-        let ahead : holder_cmp h.holder x.holder ≡ Less = reversed x.holder h.holder Greater behind in
-        let later = all_behind h.holder x.holder xs ahead ordered.0 in
+    by Greater after other rest =
+        let ahead : holder_cmp h.holder x.holder ≡ Less = reversed x.holder h.holder Greater after in
+        let later = all_after h.holder x.holder xs ahead ordered.0 in
         ((λ i. is_lt (ahead i) && later i), ordered)
 
 -- what a grant leaves stands in order

@@ -36,12 +36,12 @@ not_below holder x y ahead = by (from holder x) (from holder y) refl refl
         lowest Greater = omega arith
     by Equal s p q =
         let same : x.holder ≡ holder = same_from_equal x.holder holder p in
-        let behind : holder_cmp y.holder holder ≡ Greater = reversed holder y.holder Less (subst (λ h. holder_cmp h y.holder ≡ Less) same ahead) in
-        subst (λ s. ordering_index Equal ≤ ordering_index s) (sym behind ∙ q) (omega arith)
+        let after : holder_cmp y.holder holder ≡ Greater = reversed holder y.holder Less (subst (λ h. holder_cmp h y.holder ≡ Less) same ahead) in
+        subst (λ s. ordering_index Equal ≤ ordering_index s) (sym after ∙ q) (omega arith)
     by Greater s p q =
         let first : holder_cmp holder x.holder ≡ Less = reversed x.holder holder Greater p in
-        let behind : holder_cmp y.holder holder ≡ Greater = reversed holder y.holder Less (holder_total.trans holder x.holder y.holder first ahead) in
-        subst (λ s. ordering_index Greater ≤ ordering_index s) (sym behind ∙ q) (omega arith)
+        let after : holder_cmp y.holder holder ≡ Greater = reversed holder y.holder Less (holder_total.trans holder x.holder y.holder first ahead) in
+        subst (λ s. ordering_index Greater ≤ ordering_index s) (sym after ∙ q) (omega arith)
 
 rises : (holder : Holder) (hs : List Held) → IsOrdered hs → IsNonDecreasingBy (λ y. ordering_index (from holder y)) hs
 rises holder [] ordered i j d a b = absurd (omega arith)

@@ -5,7 +5,7 @@ use Rattle.vf_pdu_fields.specs.Contained.{context_in, fadu_in, operation_in, slo
 use Rattle.vf_pdu_fields.specs.Content.{Slot}
 use Rattle.vf_pdu_fields.specs.Rows.{required, optional, Row, row, a, int, or, fadu}
 use Rattle.vf_pdu_fields.specs.Slots.{context_slot, fadu_slot, num, operation_slot}
-use Rattle.vf_pdu_parameters.specs.Parameters.{contents, diagnostic}
+use Rattle.vf_pdu_parameters.specs.Parameters.{diagnostic}
 use Rattle.vf_pdu_parameters.specs.ParameterSlots.{maybe_diagnostic}
 use Rattle.vf_pdu.specs.PduEntry.{Entry, answer, answered, entry, number_at}
 use Rattle.vf_pdu.specs.declared.pdu.Pdu.{Pdu}

@@ -5,7 +5,7 @@ use Rattle.vf_pdu_fields.specs.declared.limits.TheConstants.{MOST_PLACE}
 use Rattle.vf_pdu_fields.specs.Content.{Slot}
 use Rattle.vf_pdu_fields.specs.Rows.{Text, String, required, optional, one, Row, row, a, int, or}
 use Rattle.vf_pdu_fields.specs.Slots.{maybe_octets, num}
-use Rattle.vf_pdu_parameters.specs.Parameters.{contents, diagnostic}
+use Rattle.vf_pdu_parameters.specs.Parameters.{diagnostic}
 use Rattle.vf_pdu_parameters.specs.ParameterSlots.{maybe_diagnostic}
 use Rattle.vf_pdu.specs.PduEntry.{Entry, answered, bare, entry, number_at, octets_at}
 use Rattle.vf_pdu.specs.declared.pdu.Pdu.{Pdu}

@@ -7,7 +7,7 @@ use Rattle.vf_pdu_fields.specs.Contained.{number_in, slot_in, there, truth_in}
 use Rattle.vf_pdu_fields.specs.Content.{Slot, Truth}
 use Rattle.vf_pdu_fields.specs.Rows.{Boolean, required, optional, default, one, Row, row, a, int, or, activity, point}
 use Rattle.vf_pdu_fields.specs.Slots.{maybe_num, num}
-use Rattle.vf_pdu_parameters.specs.Parameters.{contents, diagnostic}
+use Rattle.vf_pdu_parameters.specs.Parameters.{diagnostic}
 use Rattle.vf_pdu_parameters.specs.ParameterSlots.{maybe_diagnostic}
 use Rattle.vf_pdu.specs.PduEntry.{Entry, answered, bare, entry, number_at}
 use Rattle.vf_pdu.specs.declared.pdu.Pdu.{Pdu}

@@ -4,7 +4,7 @@ use Rattle.std.specs.Prelude.{List, [], ◌∷◌}
 use Rattle.vf_pdu_fields.specs.Content.{Slot}
 use Rattle.vf_pdu_fields.specs.Rows.{Row, row, a, or, point}
 use Rattle.vf_pdu_fields.specs.Slots.{num}
-use Rattle.vf_pdu_parameters.specs.Parameters.{contents, diagnostic}
+use Rattle.vf_pdu_parameters.specs.Parameters.{diagnostic}
 use Rattle.vf_pdu_parameters.specs.ParameterSlots.{maybe_diagnostic}
 use Rattle.vf_pdu.specs.PduEntry.{Entry, answer, answered, bare, entry, number_at}
 use Rattle.vf_pdu.specs.declared.pdu.Pdu.{Pdu}

@@ -24,8 +24,8 @@ use vf_pdu_fields::{
     put_maybe_natural, put_maybe_text, small,
 };
 use vf_pdu_parameters::{
-    copy_contents, copy_list, is_parameter, optional_parameter, put_diagnostic,
-    put_maybe_attributes, put_maybe_contents, put_maybe_list,
+    is_parameter, optional_parameter, put_diagnostic, put_maybe_attributes, put_maybe_contents,
+    put_maybe_list,
 };
 
 /// The PDU of this number, of 14 to 21, whose fields these parts have.
@@ -146,7 +146,7 @@ pub(crate) fn copy_attribute(alloc: Global, pdu: &Pdu) -> Result<Pdu, NoMemory>
             others,
         } => {
             let name = copy_option(alloc, name)?;
-            let terms = copy_list(alloc, terms)?;
+            let terms = copy_option(alloc, terms)?;
             Ok(Pdu::ChangeAttribRequest {
                 name,
                 permitted: *permitted,
@@ -163,7 +163,7 @@ pub(crate) fn copy_attribute(alloc: Global, pdu: &Pdu) -> Result<Pdu, NoMemory>
             controls,
             activity,
         } => {
-            let contents = copy_contents(alloc, contents)?;
+            let contents = copy_option(alloc, contents)?;
             Ok(Pdu::OpenRequest {
                 mode: *mode,
                 contents,
@@ -175,7 +175,7 @@ pub(crate) fn copy_attribute(alloc: Global, pdu: &Pdu) -> Result<Pdu, NoMemory>
             diagnostic,
             contents,
         } => {
-            let contents = copy_contents(alloc, contents)?;
+            let contents = copy_option(alloc, contents)?;
             Ok(Pdu::OpenResponse {
                 diagnostic: *diagnostic,
                 contents,

@@ -46,14 +46,14 @@ later (field n form need row) least parts s number t lt h =
       | inr a ↦ later row (n + 1) parts a.1 number q.rest (omega (arith, above)) a.4
     ]
 
-behind_none : (number : ℕ) (parts : Trees) → part_here number parts ≡ None → parts_after number parts ≡ parts
+after_none : (number : ℕ) (parts : Trees) → part_here number parts ≡ None → parts_after number parts ≡ parts
 unfolding part_here parts_after
-behind_none number none e = refl
-behind_none number (more part parts) e = behind_by number part parts (is_field number (root part)) refl e
+after_none number none e = refl
+after_none number (more part parts) e = after_by number part parts (is_field number (root part)) refl e
   where
-    behind_by : (number : ℕ) (part : Tree) (parts : Trees) (b : Bool) → b ≡ is_field number (root part) → cond b (Some part) None ≡ None → cond b parts (more part parts) ≡ more part parts
-    behind_by number part parts true s e = absurd cc
-    behind_by number part parts false s e = refl
+    after_by : (number : ℕ) (part : Tree) (parts : Trees) (b : Bool) → b ≡ is_field number (root part) → cond b (Some part) None ≡ None → cond b parts (more part parts) ≡ more part parts
+    after_by number part parts true s e = absurd cc
+    after_by number part parts false s e = refl
 
 is_lacking : (need : Need) (first : Slot) → Lacks need first → lacking need ≡ Some first
 is_lacking required first l = absurd l
@@ -88,7 +88,7 @@ absent_field : (number : ℕ) (form : Form) (need : Need) (row : Row) (parts : T
     → s ≡ slot first rest → Lacks need first → part_here number parts ≡ None → shapes row parts ≡ Some rest → shapes (field number form need row) parts ≡ Some s
 unfolding slot_at
 absent_field number form need row parts s first rest e l f o =
-    step number form need row parts parts first rest (ap (slot_at (shape form) (lacking need)) f ∙ is_lacking need first l) (sym (behind_none number parts f)) o
+    step number form need row parts parts first rest (ap (slot_at (shape form) (lacking need)) f ∙ is_lacking need first l) (sym (after_none number parts f)) o
     ∙ ap (λ (x : Slots). Some x) (sym e)
 
 in_sequence : (row : Row) (tree : Tree) (content : Content) (tag : Tag) (parts : Trees) (inside : Slots) → tree ≡ built tag parts → content ≡ Fields inside

@@ -83,15 +83,15 @@ skip whole row place least number form need part parts q agree other =
     agree (root part).number le ∙ ap (λ b. cond b (Some form) (form_of row (root part).number)) ne ∙ form_below row (number + 1) (root part).number q.rest lt)
 
 -- a field that is there: its fault, or that of those after it
-part_is_told : (place number : ℕ) (form : Form) (o : Option Content) (k : Slot → Result (List Slot) Fault) (behind_it : Option Fault)
-    → ((content : Content) → behind_it ≡ told (k (Some content)))
-    → or_else (judged place number form o) behind_it ≡ told (checked place number form o >>= k)
+part_is_told : (place number : ℕ) (form : Form) (o : Option Content) (k : Slot → Result (List Slot) Fault) (after_it : Option Fault)
+    → ((content : Content) → after_it ≡ told (k (Some content)))
+    → or_else (judged place number form o) after_it ≡ told (checked place number form o >>= k)
 part_is_told place number form None k after h = refl
 part_is_told place number form (Some content) k after h = fits_told place number (fits form content) content k after h
   where
-    fits_told : (place number : ℕ) (b : Bool) (content : Content) (k : Slot → Result (List Slot) Fault) (behind_it : Option Fault)
-        → ((content : Content) → behind_it ≡ told (k (Some content)))
-        → or_else (cond b None (Some (Range number))) behind_it ≡ told ((let r : Result Slot Fault = cond b (Ok (Some content)) (Err (Range number)) in r) >>= k)
+    fits_told : (place number : ℕ) (b : Bool) (content : Content) (k : Slot → Result (List Slot) Fault) (after_it : Option Fault)
+        → ((content : Content) → after_it ≡ told (k (Some content)))
+        → or_else (cond b None (Some (Range number))) after_it ≡ told ((let r : Result Slot Fault = cond b (Ok (Some content)) (Err (Range number)) in r) >>= k)
     fits_told place number true content k after h = h content
     fits_told place number false content k after h = refl
 

@@ -1,5 +1,5 @@
 -- The tags of each row rise, and each default is in range.
-use Rattle.std.proofs.Common.{ℕ, ◌+◌, Bool, true, List, [], ◌∷◌, get_or}
+use Rattle.std.proofs.Common.{ℕ, ◌+◌, Bool, true, [], ◌∷◌}
 use Rattle.std.specs.Prelude.{◌&&◌, nat_le, nat_lt}
 use Rattle.vf_pdu_fields.specs.Meaning.{fits}
 use Rattle.vf_pdu_fields.specs.Rows.{Range, Any, FromTo, Fadu, Simple, Integer, Boolean, Text, String, Controls, Oid, Date, Need, required, optional, default, Form, one, sequence, list, Row, end, field}

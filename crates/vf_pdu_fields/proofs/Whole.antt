@@ -1,5 +1,5 @@
 -- What is made of contents in range has these contents.
-use Rattle.std.proofs.Common.{◌≡◌, ℕ, zero, suc, ◌<◌, ◌≤◌, true, false, List, [], ◌∷◌, length, map, refl, ap, ◌∙◌, arith}
+use Rattle.std.proofs.Common.{◌≡◌, ℕ, zero, suc, ◌<◌, ◌≤◌, true, List, [], ◌∷◌, length, map, refl, ap, ◌∙◌, arith}
 use Rattle.std.specs.Prelude.{pos, negsuc, nat_eq, nat_le, Some, None}
 use Rattle.std.specs.List.{list_all}
 use Rattle.std.specs.Option.{option_map}

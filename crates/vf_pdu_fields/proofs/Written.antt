@@ -2,7 +2,7 @@
 use Rattle.std.proofs.Common.{◌≡◌, Bool, true, false, cond, List, [], ◌∷◌, ◌++◌, map, refl, ap, sym, ◌∙◌}
 use Rattle.std.specs.Prelude.{Some, None}
 use Rattle.vf_ber.specs.Tree.{Tree, built, Trees, none, more, joined}
-use Rattle.vf_pdu_fields.specs.Content.{Slots, item, items_of, Slot, slots}
+use Rattle.vf_pdu_fields.specs.Content.{Slots, items_of, Slot, slots}
 use Rattle.vf_pdu_fields.specs.Meaning.{context, universal}
 use Rattle.vf_pdu_fields.specs.Rows.{Row, end, field}
 use Rattle.vf_pdu_fields.specs.Writing.{◌▸◌, appended, fields, is_default, spelled, spelled_items}

@@ -83,8 +83,8 @@ impl Attributes {
         ensures { IfOk result (λ made. made ≡ self.now) }
     {
         let name = copy_option(alloc, &self.name)?;
-        let contents = copy_contents(alloc, &self.contents)?;
-        let terms = copy_list(alloc, &self.terms)?;
+        let contents = copy_option(alloc, &self.contents)?;
+        let terms = copy_option(alloc, &self.terms)?;
         let created = copy_option(alloc, &self.created)?;
         let modified = copy_option(alloc, &self.modified)?;
         let read = copy_option(alloc, &self.read)?;
@@ -107,37 +107,5 @@ impl Duplicate for Attributes {
     fn duplicate(&self, alloc: Global) -> Result<Attributes, NoMemory> {
         let made = self.copy(alloc)?;
         Ok(made)
-    }
-}
-
-/// The same contents type, where there is one.
-pub fn copy_contents(
-    alloc: Global,
-    contents: &Option<Contents>,
-) -> Result<Option<Contents>, NoMemory>
-    ensures { IfOk result (λ made. made ≡ contents.now) }
-{
-    match contents {
-        Some(contents) => {
-            let made = contents.copy(alloc)?;
-            Ok(Some(made))
-        }
-        None => Ok(None),
-    }
-}
-
-/// An equal list, where there is one; octets are shared.
-pub fn copy_list<T: Duplicate>(
-    alloc: Global,
-    list: &Option<Sequence<T>>,
-) -> Result<Option<Sequence<T>>, NoMemory>
-    ensures { IfOk result (λ made. made ≡ list.now) }
-{
-    match list {
-        Some(list) => {
-            let made = list.copy(alloc)?;
-            Ok(Some(made))
-        }
-        None => Ok(None),
     }
 }

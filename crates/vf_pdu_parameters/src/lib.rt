@@ -16,7 +16,7 @@ mod stamps;
 mod writing;
 mod writing_attributes;
 
-pub use file_attributes::{Attributes, Grant, Grants, Stamp, copy_contents, copy_list};
+pub use file_attributes::{Attributes, Grant, Grants, Stamp};
 pub use laws::{dates_are_moments, moments_are_dates};
 pub use lists::{put_maybe_list, put_terms_or_none, terms_or_none};
 pub use parameters::{Parameter, is_parameter, optional_parameter};

@@ -1,4 +1,4 @@
--- What a state represents behind an entry more.
+-- What a state represents after an entry more.
 use Rattle.std.proofs.Common.{◌≡◌, ℕ, ◌+◌, true, List, [], ◌∷◌, ◌++◌, map, Option, None, Some, refl, ap, sym, ◌∙◌, append_assoc, zero-add}
 use Rattle.std.proofs.lemmas.List.Sums.{sum_by-append}
 use Rattle.vf_base.specs.declared.access.Context.{Context}
@@ -23,17 +23,17 @@ pub given_kept : (row : Option Diagnostic) → given_unless row Nothing ≡ give
 given_kept None = refl
 given_kept (Some diagnostic) = refl
 
-shown_behind : (elements : List Element) (diagnostic : Option Diagnostic)
+shown_after : (elements : List Element) (diagnostic : Option Diagnostic)
     → has_data_end (map answers.Element elements ++ answers.Pdu (DataEnd diagnostic) ∷ []) ≡ true
-shown_behind [] diagnostic = refl
-shown_behind (element ∷ elements) diagnostic = shown_behind elements diagnostic
+shown_after [] diagnostic = refl
+shown_after (element ∷ elements) diagnostic = shown_after elements diagnostic
 
 -- a read says the end of its data
 pub read_shown : (reading : Reading) → has_data_end (read_said (given_of reading)) ≡ true
 read_shown (readings.Refused diagnostic) = refl
-read_shown (readings.Showed version elements position) = shown_behind elements.items None
+read_shown (readings.Showed version elements position) = shown_after elements.items None
 
--- a value more stands behind the others
+-- a value more stands after the others
 pub value_survives : (start : ℕ) (element : Element) (entries : List TransferEntry)
     → surviving start (Value element ∷ entries) ≡ surviving start entries ++ element ∷ []
 value_survives start element entries =

@@ -57,7 +57,6 @@ use Rattle.vf_files.specs.declared.ending.Ending.{Ending}
 use Rattle.vf_files.specs.declared.opening.Opened.{Opened}
 use Rattle.vf_files.specs.declared.opening.Opened.TheVariants as openings
 use Rattle.vf_tree.specs.Actions.{Outcome, replaced, replacement}
-use Rattle.vf_tree.specs.Contexts.{shown}
 use Rattle.vf_tree.specs.Same.{are_same_units}
 use Rattle.vf_tree.specs.FileTree.{DataUnit, FileTree, new_file}
 use Rattle.vf_tree.specs.TreeRefusal.{TreeRefusal}

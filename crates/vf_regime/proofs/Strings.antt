@@ -1,5 +1,5 @@
 -- Values that a document type takes make units of strings, and what is shown of these has values.
-use Rattle.std.proofs.Common.{◌≡◌, ℕ, zero, suc, ◌-◌, ◌≤◌, Bool, true, false, cond, not, true≢false, List, [], ◌∷◌, ◌++◌, length, refl, ap, sym, ◌∙◌}
+use Rattle.std.proofs.Common.{◌≡◌, ℕ, zero, suc, ◌-◌, ◌≤◌, Bool, true, false, not, true≢false, List, [], ◌∷◌, ◌++◌, length, refl, ap, sym, ◌∙◌}
 use Rattle.std.specs.Prelude.{◌&&◌, ◌||◌, nat_eq, nat_le, slice_get, Option, None, Some, IfSome, IsTrue, Result, Ok, Err, if◌then◌else◌}
 use Rattle.std.specs.List.{AllByRecursion, list_all}
 use Rattle.std.proofs.lemmas.Bool.{leb-true, eqb-true, and_parts}
@@ -99,15 +99,15 @@ all_strings doc known none is_open (element ∷ elements) e =
 
 -- in a sequential one each element but the descriptors
 pub record AreGrouped (groups : List Element × List (List Element)) : Type 0 where
-  pub front : AreStrings groups.0
+  pub prefix : AreStrings groups.0
   pub units : AllByRecursion AreStrings groups.1
 
 in_groups : (doc : DocType) → is_class doc.class ≡ true → (is_open : Bool) (elements : List Element) → first_fault doc is_open elements ≡ None → AreGrouped (grouped elements)
-in_groups doc known is_open [] e = record { front = tt; units = tt }
+in_groups doc known is_open [] e = record { prefix = tt; units = tt }
 in_groups doc known is_open (Descriptor name filled ∷ elements) e =
     let both = or_none (fault_at doc is_open (Descriptor name filled)) (first_fault doc (is_open || true) elements) e in
     let rest = in_groups doc known (is_open || true) elements both.1 in
-    record { front = tt; units = (rest.front, rest.units) }
+    record { prefix = tt; units = (rest.prefix, rest.units) }
 in_groups doc known is_open (Enter ∷ elements) e =
     let both = or_none (fault_at doc is_open Enter) (first_fault doc (is_open || false) elements) e in
     untrue (unfaulty false true (placed (is_open || false) (fault doc Enter) both.0)).0
@@ -118,12 +118,12 @@ in_groups doc known is_open (Text class octets ∷ elements) e =
     let both = or_none (fault_at doc is_open (Text class octets)) (first_fault doc (is_open || false) elements) e in
     let found = placed (is_open || false) (fault doc (Text class octets)) both.0 in
     let rest = in_groups doc known (is_open || false) elements both.1 in
-    record { front = (taken_string doc known (Text class octets) refl found, rest.front); units = rest.units }
+    record { prefix = (taken_string doc known (Text class octets) refl found, rest.prefix); units = rest.units }
 in_groups doc known is_open (Binary octets ∷ elements) e =
     let both = or_none (fault_at doc is_open (Binary octets)) (first_fault doc (is_open || false) elements) e in
     let found = placed (is_open || false) (fault doc (Binary octets)) both.0 in
     let rest = in_groups doc known (is_open || false) elements both.1 in
-    record { front = (taken_string doc known (Binary octets) refl found, rest.front); units = rest.units }
+    record { prefix = (taken_string doc known (Binary octets) refl found, rest.prefix); units = rest.units }
 
 units_by : (doc : DocType) (kind : Kind) → doc.kind ≡ kind → is_class doc.class ≡ true → (values : List Element)
     → first_fault doc (starts_open (constraint_of kind)) values ≡ None → AllByRecursion AreStrings (units_of (constraint_of kind) values)

@@ -31,16 +31,16 @@ pub record Takes (element : Element) (old new : Write) : Type 0 where
   pub refused : new.refused ≡ old.refused
   pub ended : new.ended ≡ old.ended
 
-counted_behind : (element : Element) (old new : Write) → Takes element old new → (entries : List TransferEntry)
+counted_after : (element : Element) (old new : Write) → Takes element old new → (entries : List TransferEntry)
     → RepresentsReceived old.receiving entries → old.octets ≡ octets_of_unit old.receiving.values
     → new.octets ≡ octets_of_unit new.receiving.values
-counted_behind element old new t entries received counted =
+counted_after element old new t entries received counted =
     let start = old.receiving.checks.start in
-    let behind : octets_of_unit new.receiving.values ≡ octets_of_unit (surviving start entries) + octets_of element =
+    let after : octets_of_unit new.receiving.values ≡ octets_of_unit (surviving start entries) + octets_of element =
     ap octets_of_unit (t.received entries received).values
     ∙ ap (λ (checks : Checkpoints). octets_of_unit (surviving checks.start (Value element ∷ entries))) t.checks
     ∙ value_counts start element entries in
-    t.octets ∙ ap (λ n. n + octets_of element) (counted ∙ ap octets_of_unit received.values) ∙ sym behind
+    t.octets ∙ ap (λ n. n + octets_of element) (counted ∙ ap octets_of_unit received.values) ∙ sym after
 
 pub value_taken : (tables : Tables) (moving : Moving) (moment : ℕ) (element : Element) (old new : Write) (outcome : Outcome)
     → moving.movement ≡ movements.Writing old
@@ -71,7 +71,7 @@ value_taken tables moving moment element old new outcome is unpassed t says make
           ended = r.ended ∙ sym t.ended;
           started = ap (λ (checks : Checkpoints). checks.start) t.checks ∙ r.started;
           received = t.received (transferred standing.history) r.received;
-          counted = counted_behind element old new t (transferred standing.history) r.received r.counted;
+          counted = counted_after element old new t (transferred standing.history) r.received r.counted;
         };
       }),
     )

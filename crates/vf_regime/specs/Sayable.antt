@@ -1,6 +1,6 @@
 -- That what is said has a value: each field is in its range, and each string within its limit (profile). It holds where
 -- the files have document types and are of strings alone, and where the diagnostics that were given are such.
-use Rattle.std.specs.Prelude.{◌≡◌, ℕ, ◌≤◌, List, length, Option, None, Some, IsTrue}
+use Rattle.std.specs.Prelude.{◌≡◌, ℕ, ◌≤◌, length, Option, None, Some, IsTrue}
 use Rattle.std.specs.List.{AllByRecursion}
 use Rattle.vf_attr.specs.declared.file.File.{File}
 use Rattle.vf_base.specs.declared.diagnostic.Diagnostic.{Diagnostic}

@@ -2,7 +2,6 @@
 use Rattle.std.specs.Prelude.{ℕ, List}
 use Rattle.vf_attr.specs.declared.file.File.{File}
 use Rattle.vf_attr.specs.declared.stamp.Stamp.{Stamp}
-use Rattle.vf_base.specs.declared.diagnostic.Diagnostic.{Diagnostic}
 use Rattle.vf_files.specs.Effects.{read_ending, write_ending}
 use Rattle.vf_files.specs.Rows.{Given, Showed}
 use Rattle.vf_files.specs.declared.ending.Ending.{Ending}

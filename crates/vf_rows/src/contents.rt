@@ -186,7 +186,7 @@ fn a_filestore_has_1024_files(rt: HostRuntime) -> Result<(), NoMemory> {
     Ok(())
 }
 
-/// Whether `dialogue` prints this, behind what begins it, with this status.
+/// Whether `dialogue` prints this, after what begins it, with this status.
 fn prints(
     rt: &HostRuntime,
     begin: (&str, &str),

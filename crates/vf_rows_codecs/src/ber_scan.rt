@@ -38,11 +38,11 @@ fn in_pieces(octets: &[u8], most: u32, first: u32) -> Option<usize> {
     for _ in 0..octets.len() {
         seed = next(seed);
         let size = 1 + (seed >> 16) % most.max(1);
-        let (piece, behind) = rest.split_at((size as usize).min(rest.len()));
+        let (piece, after) = rest.split_at((size as usize).min(rest.len()));
         if let Some(n) = scan.feed(piece) {
             return Some(octets.len().wrapping_sub(rest.len()).wrapping_add(n));
         }
-        rest = behind;
+        rest = after;
     }
     None
 }

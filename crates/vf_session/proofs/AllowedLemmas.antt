@@ -1,12 +1,12 @@
 -- What holds of each trace that is allowed.
-use Rattle.std.proofs.Common.{◌≡◌, ◌≤◌, ◌∙◌, Bool, true, List, [], ◌∷◌, ◌++◌, refl, ap, sym, subst, arith}
+use Rattle.std.proofs.Common.{◌≡◌, ◌≤◌, ◌∙◌, Bool, true, [], ◌∷◌, ◌++◌, refl, ap, sym, subst, arith}
 use Rattle.vf_session.specs.declared.meaning.SpduMeaning.TheVariants.{Tells}
 use Rattle.vf_session_spdu.specs.declared.spdu.Spdu.{Spdu}
 use Rattle.vf_session.specs.declared.state.SessionState.{SessionState}
 use Rattle.vf_session.specs.declared.units.SessionSay.{SessionSay}
 use Rattle.vf_session.specs.declared.units.TokenSide.{TokenSide}
 use Rattle.vf_session.specs.Advances.{Grows, advanced, kept_after}
-use Rattle.vf_session.specs.Allowed.{IsAllowed, nothing, sent, received, IsRead, IsOrdered, numbers_up}
+use Rattle.vf_session.specs.Allowed.{IsAllowed, nothing, sent, received, IsRead, IsOrdered}
 use Rattle.vf_session_spdu.specs.Fields.{IsReadable}
 use Rattle.vf_session.specs.Receiving.{receives}
 use Rattle.vf_session.specs.Kept.{Kept, kept_of}

@@ -1,5 +1,5 @@
 -- One more unit, by what a session keeps: what the session's functions promise to one another.
-use Rattle.std.specs.Prelude.{◌≡◌, ◌+◌, ◌≤◌, ◌<◌, true, ◌⊎◌, List, Some, None, unwrap_or, if◌then◌else◌}
+use Rattle.std.specs.Prelude.{◌≡◌, ◌+◌, ◌≤◌, ◌<◌, true, ◌⊎◌, Some, None, unwrap_or, if◌then◌else◌}
 use Rattle.vf_session.specs.declared.phase.Phase.TheVariants.{Asked, Open, Leaving, Left, Aborted, Over}
 use Rattle.vf_session.specs.declared.state.SessionState.{SessionState}
 use Rattle.vf_session.specs.declared.units.SessionSay.{SessionSay}

@@ -12,7 +12,7 @@ use Rattle.vf_session_spdu.specs.declared.table.Form.TheVariants.{AtMost, Either
 use Rattle.vf_session_spdu.specs.Fields.{◌>>=◌, no_fields, bare, with_parts, complete}
 use Rattle.vf_session_spdu.specs.Kinds.{code_of, first_kind}
 use Rattle.vf_session_spdu.specs.Numbers.{number, digits, last_serial, length_octets}
-use Rattle.vf_session_spdu.specs.Parts.{measured, Opening, inner, outer}
+use Rattle.vf_session_spdu.specs.Parts.{Opening, inner, outer}
 use Rattle.vf_session_spdu.specs.Reading.{Followed, assembled, followed, is_gt, one, one_by, nothing_after, second, second_by, first_by}
 use Rattle.vf_session_spdu.specs.Spelling.{spelled, spelled_if, first_data, second_data, spelled_parameters, octets_after, spelling, IsWritten, HasFields, HasUnits, HasSerial, HasReason, HasAbort, HasToken, IsSide, ReadsAlone, ReadsAfter}
 use Rattle.vf_session_spdu.specs.Table.{fits, optional}

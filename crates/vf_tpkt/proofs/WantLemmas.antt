@@ -1,12 +1,10 @@
 -- What wants so many octets tells one thing at most of them.
-use Rattle.std.proofs.Common.{◌≡◌, ℕ, zero, suc, ◌+◌, ◌-◌, ◌*◌, ◌<◌, ◌≤◌, Bool, true, false, cond, nat_lt, nat_eq, List, [], ◌∷◌, ◌++◌, length, take, drop, refl, ap, sym, subst, ◌∙◌, arith, Option, None, Some, Result, Ok, Err, inl, inr, ◌⊎◌, length-drop, length-append, append_assoc, append-nil, slice_index}
-use Rattle.std.proofs.lemmas.Grind.{common_steps}
-use Rattle.vf_tpkt.specs.Receiving.{Kept, Progress, FirstPacket, part, bad, whole, first_packet, packet_by_size, Reading, resting, stopping, stopped, after_first_packet, after_tpdu, checked, receiving, receiving_in, onward, onward_from, place_at}
-use Rattle.vf_tpkt.specs.Steps.{FitsOne, WantsSome, size_in}
+use Rattle.std.proofs.Common.{◌≡◌, ℕ, ◌+◌, ◌-◌, ◌*◌, ◌<◌, ◌≤◌, Bool, true, false, cond, nat_eq, List, [], ◌∷◌, ◌++◌, length, refl, ap, sym, subst, ◌∙◌, arith, Option, None, Some, inl, inr, ◌⊎◌, length-drop, length-append, append_assoc}
+use Rattle.vf_tpkt.specs.Receiving.{Kept, FirstPacket, part, bad, whole, first_packet, packet_by_size, Reading, resting, stopping, receiving, onward, onward_from, place_at}
+use Rattle.vf_tpkt.specs.Steps.{FitsOne, size_in}
 use Rattle.vf_tpkt.specs.Wanting.{IsSilent, TellsOnce}
 use Rattle.vf_tpkt.specs.declared.error.TpktError.{TpktError}
 use Rattle.vf_tpkt.specs.declared.error.TpktError.TheVariants as errors
-use Rattle.vf_tpkt.specs.declared.kind.Kind.{Kind}
 use Rattle.vf_tpkt.proofs.ReceivingLemmas.{receiving-first_packet, is_whole}
 
 good : (b : Bool) (F : FirstPacket) (e : TpktError) (tpdu more : List ℕ) → cond b F (bad e) ≡ whole tpdu more → F ≡ whole tpdu more

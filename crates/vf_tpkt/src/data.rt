@@ -16,8 +16,8 @@ pub(crate) fn write_tsdu(most: usize, tsdu: &[u8], out: &mut Vec<u8>) -> Result<
 {
     let mut rest = tsdu;
     while rest.len() > most {
-        let (front, others) = rest.split_at(most);
-        write_dt(MORE, front, out)?;
+        let (prefix, others) = rest.split_at(most);
+        write_dt(MORE, prefix, out)?;
         rest = others;
     }
     write_dt(LAST, rest, out)

@@ -222,8 +222,8 @@ fn advance<'a>(
         Ok(lacks) => lacks,
         Err(fault) => return Err(fault),
     };
-    let (front, rest) = piece.split_at(lacks.min(piece.len()));
-    if packet.extend_from_slice(front).is_err() {
+    let (prefix, rest) = piece.split_at(lacks.min(piece.len()));
+    if packet.extend_from_slice(prefix).is_err() {
         return Err(TpktError::NoMemory);
     }
     match receive_whole(connection, packet, units, answers) {

@@ -1,10 +1,10 @@
 -- What stands once a transfer went on after a restart, and the last check that is acknowledged.
-use Rattle.std.proofs.Common.{◌≡◌, ℕ, ◌+◌, ◌-◌, ◌≤◌, min, max, List, [], ◌∷◌, ◌++◌, length, take, refl, sym, ap, ◌∙◌, arith, length-append}
+use Rattle.std.proofs.Common.{◌≡◌, ℕ, ◌+◌, ◌-◌, ◌≤◌, List, [], ◌∷◌, ◌++◌, length, take, refl, sym, ap, ◌∙◌, arith, length-append}
 use Rattle.std.proofs.lemmas.List.{append_assoc, append-nil, length-take-le}
 use Rattle.std.proofs.Math.Seq.{take-append-add}
 use Rattle.vf_base.specs.declared.element.Element.{Element}
 use Rattle.vf_transfer.specs.Laws.{PointStands, Recovers}
-use Rattle.vf_transfer.specs.Transfer.{Entry, Value, Check, Acknowledgement, Restart, IsKnown, NamesKnownChecks, before, joined, last_check, point, standing, survivors}
+use Rattle.vf_transfer.specs.Transfer.{Entry, Value, Check, Acknowledgement, Restart, IsKnown, NamesKnownChecks, joined, standing}
 use Rattle.vf_transfer.proofs.Cuts.{joined_append}
 
 -- so many checks stand before one that stands

@@ -12,7 +12,7 @@ use Rattle.vf_upper_grammar.specs.Forms as forms
 use Rattle.vf_upper_grammar.specs.Forms.{◌>>=◌, Form, Tags}
 use Rattle.vf_upper_grammar.specs.Marks.{Found, Mark}
 use Rattle.vf_upper_grammar.specs.Meanings as meanings
-use Rattle.vf_upper_grammar.specs.Meanings.{in_turn, is_of, is_tagged, known, list_of, Meaning}
+use Rattle.vf_upper_grammar.specs.Meanings.{in_turn, is_tagged, list_of, Meaning}
 use Rattle.vf_upper_grammar.specs.Meant.{Agrees, IsFault}
 use Rattle.vf_upper_grammar.specs.Parts.{ends, is_constructed, next, number_of, Part, Parts, parts_of}
 use Rattle.vf_upper_grammar.proofs.Spelled.{AreSpelled, first_of, IsPartOf, low, low-small, parts-spelled}

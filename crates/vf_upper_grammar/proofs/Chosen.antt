@@ -5,7 +5,7 @@ use Rattle.std.proofs.lemmas.Bool.Decides.{nat_tests}
 use Rattle.vf_ber.specs.Spelling.{first_octet}
 use Rattle.vf_ber.specs.Tree.{built, plain, Tree}
 use Rattle.vf_upper_grammar.specs.Forms as forms
-use Rattle.vf_upper_grammar.specs.Forms.{has_tag, in_order, leads, leading, ordered, Tags}
+use Rattle.vf_upper_grammar.specs.Forms.{in_order, leads, leading, ordered}
 use Rattle.vf_upper_grammar.specs.Marks.{Found, Mark}
 use Rattle.vf_upper_grammar.specs.Meanings as meanings
 use Rattle.vf_upper_grammar.specs.Meanings.{either, fields_among, is_of, is_tagged, known}

@@ -4,7 +4,7 @@ use Rattle.std.specs.Prelude.{◌&&◌, nat_eq, Option, None, Some, Ok, Err, if�
 use Rattle.std.specs.Option.{option_and_then}
 use Rattle.std.proofs.lemmas.Bool.Decides.{nat_tests}
 use Rattle.vf_ber.proofs.Names.{bit-first, low-first}
-use Rattle.vf_ber.specs.Primitive.{in_front, is_octet_string, octets_in, octets_of}
+use Rattle.vf_ber.specs.Primitive.{in_prefix, is_octet_string, octets_in, octets_of}
 use Rattle.vf_ber.specs.Reader.{reading}
 use Rattle.vf_ber.specs.Spelling.{first_octet}
 use Rattle.vf_ber.specs.Spellings.{SpellInTurn, Spells}
@@ -47,7 +47,7 @@ abbrev octets_if : Bool → Option (List ℕ) → Option (List ℕ)
 octets_if b o = if b then o else None
 
 combined : (b : Bool) (o p : Option (List ℕ)) (all next later : Held) → Goes (octets_if b o) all next → Goes p next later
-    → Goes (octets_if b (option_and_then (λ octets. in_front octets p) o)) all later
+    → Goes (octets_if b (option_and_then (λ octets. in_prefix octets p) o)) all later
 combined false o p all next later g h = g
 combined true None p all next later g h = g
 combined true (Some a) None all next later g h = g.1 ∙ h

@@ -4,10 +4,10 @@ use Rattle.std.specs.Prelude.{not, ◌&&◌, ◌||◌, ◌⊎◌, Option, None, 
 use Rattle.std.specs.List.{list_any}
 use Rattle.vf_ber.specs.Tree.{Tree}
 use Rattle.vf_upper_grammar.specs.Forms as forms
-use Rattle.vf_upper_grammar.specs.Forms.{◌>>=◌, due, Due, Form, has_tag, in_order, lacking, step, Tags}
+use Rattle.vf_upper_grammar.specs.Forms.{◌>>=◌, due, Due, has_tag, in_order, lacking, step}
 use Rattle.vf_upper_grammar.specs.Marks.{Found, Mark}
 use Rattle.vf_upper_grammar.specs.Meanings as meanings
-use Rattle.vf_upper_grammar.specs.Meanings.{fields_among, in_turn, is_of, is_tagged, known, Meaning}
+use Rattle.vf_upper_grammar.specs.Meanings.{fields_among, in_turn, is_of, is_tagged, known}
 use Rattle.vf_upper_grammar.specs.Meant.{Agrees}
 use Rattle.vf_upper_grammar.specs.Parts.{ends, next, Part, Parts}
 use Rattle.vf_upper_grammar.proofs.Agreeing.{agrees-along, agrees-meant, agrees-then, constructed-right, fault-along, is_low, Right, RightParts, tag-told}

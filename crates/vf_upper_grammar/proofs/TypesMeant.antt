@@ -22,7 +22,7 @@ use Rattle.vf_upper_grammar.specs.Modules.{meant, meant_by}
 use Rattle.vf_upper_grammar.specs.Syntaxes.{ber}
 use Rattle.vf_upper_grammar.specs.Texts.{carried, carried_data, OctetForm, one, typed}
 use Rattle.vf_upper_grammar.specs.Types as types
-use Rattle.vf_upper_grammar.specs.Types.{application, context, found_in, universal, user_data_of, zero_or_one}
+use Rattle.vf_upper_grammar.specs.Types.{application, context, found_in, universal, zero_or_one}
 use Rattle.vf_upper_grammar.proofs.Agreeing.{agrees-meant, integer-right, is_low, oid-right, Right, sequence_of-right, skipped-right}
 use Rattle.vf_upper_grammar.proofs.Chosen.{outcome-right, set-right}
 use Rattle.vf_upper_grammar.proofs.HeldMeant.{carried-right, carried_data-right}

@@ -20,7 +20,7 @@ use vf_pdu::Pdu;
 /// The abort of values that would pass the limits of those that stand (profile).
 const TOO_LONG: u16 = 104;
 
-/// The abort of a transfer behind the last that an open may have (profile).
+/// The abort of a transfer after the last that an open may have (profile).
 const NUMBERS_SPENT: u16 = 105;
 
 /// An open has at most so many transfers.

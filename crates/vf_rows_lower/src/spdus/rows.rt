@@ -42,7 +42,7 @@ pub(super) const ROWS: &str = "
 0103100104 09                                = Code 5
 0100 0101                                    = Length 3
 0100 FF                                      = Code 2
-# a GT behind a GT is a DT, with parameters that are skipped
+# a GT after a GT is a DT, with parameters that are skipped
 0100 0103100104                              = GT, DT
 0100 0100 0100                               = GT, DT 0100
 # a length that is cut off, or passes what holds it
@@ -69,7 +69,7 @@ pub(super) const ROWS: &str = "
 0D06 0504 17FF00 00                          = Value 23 at 0
 0101 10                                      = Length 3
 0DFE *253                                    = Length 1
-# octets behind the last SPDU
+# octets after the last SPDU
 0900 01                                      = Length 2
 0900 0900                                    = Length 2
 0D04 14020002 00                             = Length 6

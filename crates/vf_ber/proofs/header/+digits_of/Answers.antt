@@ -2,7 +2,7 @@ use Rattle.std.proofs.Common.{ℕ, ◌+◌, ◌-◌, ◌*◌, List, [], ◌∷�
 use Rattle.std.proofs.lemmas.Result.{IfOk-weaker, IfErr-weaker}
 use Rattle.vf_ber.specs.declared.fault.Fault.TheVariants as faults
 use Rattle.vf_ber.specs.Steps.{Digits, Failed, Got, reaches}
-use Rattle.vf_ber.proofs.Chains.{test_failed, through, behind_got, behind_failed}
+use Rattle.vf_ber.proofs.Chains.{test_failed, through, tail_got, tail_failed}
 use Rattle.vf_ber.proofs.Digits.{grown_step, grown_le, grown_less, grown_more}
 use Rattle.vf_ber.proofs.SizeSteps.{digit_chain, digit_tells, digits_short}
 use Rattle.vf_ber.proofs.header.+digits_of.Goals as goal
@@ -33,7 +33,7 @@ pub returns-in_err-check_digit-clause-failed : goal.returns-in_err-check_digit-c
 returns-in_err-check_digit-clause-failed t c =
     let a = c.args.around in
     through c.from_residual.result _ _ c.from_residual.ensures.1
-    (test_failed (Digits a.depth a.room a.prefix a.constructed c.args.more c.args.high) c.args.octets.now [] c.in-Some.behind.now c.in-Some.digit (length c.args.octets.now)
+    (test_failed (Digits a.depth a.room a.prefix a.constructed c.args.more c.args.high) c.args.octets.now [] c.in-Some.tail.now c.in-Some.digit (length c.args.octets.now)
     (λ l. reaches l a.depth a.room a.prefix a.constructed (c.args.more - 1) (256 * c.args.high + c.in-Some.digit)) _ c.in-Some.ensures.parts (ap length c.in-Some.ensures.parts) (inl refl)
     (digit_tells a.depth a.room a.prefix a.constructed c.args.more c.args.high c.in-Some.digit (omega arith) (omega arith)) c.in_err-check_digit.ensures.err)
 
@@ -51,7 +51,7 @@ returns-clause-got t c =
     let digit = c.in-Some.digit in
     IfOk-weaker c.digits_of.result _ _
     (λ x g. subst (λ (o : List ℕ). Got (Digits a.depth a.room a.prefix a.constructed c.args.more c.args.high) o x.0 x.1.now) (sym c.in-Some.ensures.parts)
-    (behind_got _ _ _ _ chain (digit ∷ c.in-Some.behind.now) c.in-Some.behind.now x.1.now (digit ∷ []) digit x.0 refl (refl, omega arith, c.in_ok-check_digit.ensures.ok) g))
+    (tail_got _ _ _ _ chain (digit ∷ c.in-Some.tail.now) c.in-Some.tail.now x.1.now (digit ∷ []) digit x.0 refl (refl, omega arith, c.in_ok-check_digit.ensures.ok) g))
     c.digits_of.ensures.got
 
 pub returns-clause-failed : goal.returns-clause-failed
@@ -61,5 +61,5 @@ returns-clause-failed t c =
     let digit = c.in-Some.digit in
     IfErr-weaker c.digits_of.result _ _
     (λ e f. subst (λ (o : List ℕ). Failed (Digits a.depth a.room a.prefix a.constructed c.args.more c.args.high) o e) (sym c.in-Some.ensures.parts)
-    (behind_failed _ _ _ _ chain (digit ∷ c.in-Some.behind.now) c.in-Some.behind.now (digit ∷ []) digit e refl (refl, omega arith, c.in_ok-check_digit.ensures.ok) f))
+    (tail_failed _ _ _ _ chain (digit ∷ c.in-Some.tail.now) c.in-Some.tail.now (digit ∷ []) digit e refl (refl, omega arith, c.in_ok-check_digit.ensures.ok) f))
     c.digits_of.ensures.failed

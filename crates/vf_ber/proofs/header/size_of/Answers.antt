@@ -18,15 +18,15 @@ pub returns-in_err-check_length-clause-failed : goal.returns-in_err-check_length
 returns-in_err-check_length-clause-failed c =
     let a = c.args.around in
     through c.from_residual.result _ _ c.from_residual.ensures.1
-    (test_failed (Sizes a.depth a.room a.prefix a.constructed) c.args.octets.now [] c.in-Some.behind.now c.in-Some.first (length c.args.octets.now)
+    (test_failed (Sizes a.depth a.room a.prefix a.constructed) c.args.octets.now [] c.in-Some.tail.now c.in-Some.first (length c.args.octets.now)
     (λ l. length_fits l a.depth a.room a.prefix a.constructed c.in-Some.first) _ c.in-Some.ensures.parts (ap length c.in-Some.ensures.parts) (inl refl)
     (length_tells a.depth a.room a.prefix a.constructed c.in-Some.first) c.in_err-check_length.ensures.err)
 
 pub returns-then-first-lt128-clause-got : goal.returns-then-first-lt128-clause-got
 returns-then-first-lt128-clause-got c =
     let a = c.args.around in
-    subst (λ (o : List ℕ). Got (Sizes a.depth a.room a.prefix a.constructed) o (Some c.in-Some.first) c.in-Some.behind.now) (sym c.in-Some.ensures.parts)
-    (got_short a.depth a.room a.prefix a.constructed c.in-Some.first c.in-Some.behind.now c.in_ok-check_length.ensures.ok (omega arith))
+    subst (λ (o : List ℕ). Got (Sizes a.depth a.room a.prefix a.constructed) o (Some c.in-Some.first) c.in-Some.tail.now) (sym c.in-Some.ensures.parts)
+    (got_short a.depth a.room a.prefix a.constructed c.in-Some.first c.in-Some.tail.now c.in_ok-check_length.ensures.ok (omega arith))
 
 pub digits_of-requires-clause-small : goal.digits_of-requires-clause-small
 digits_of-requires-clause-small c =
@@ -39,10 +39,10 @@ returns-in_err-n-clause-failed c =
     let a = c.args.around in
     through c.from_residual-in_err-n.result _ _ c.from_residual-in_err-n.ensures.1
     (subst (λ (o : List ℕ). Failed (Sizes a.depth a.room a.prefix a.constructed) o c.in_err-n.field-0.0) (sym c.in-Some.ensures.parts)
-    (long_failed a.depth a.room a.prefix a.constructed c.in-Some.first c.in-Some.behind.now c.in_err-n.field-0.0 c.in_ok-check_length.ensures.ok (omega arith) c.in_err-n.ensures.failed))
+    (long_failed a.depth a.room a.prefix a.constructed c.in-Some.first c.in-Some.tail.now c.in_err-n.field-0.0 c.in_ok-check_length.ensures.ok (omega arith) c.in_err-n.ensures.failed))
 
 pub returns-clause-got : goal.returns-clause-got
 returns-clause-got c =
     let a = c.args.around in
     subst (λ (o : List ℕ). Got (Sizes a.depth a.room a.prefix a.constructed) o (Some c.in_ok-n.n) c.in_ok-n.rest.now) (sym c.in-Some.ensures.parts)
-    (got_long a.depth a.room a.prefix a.constructed c.in-Some.first c.in_ok-n.n c.in-Some.behind.now c.in_ok-n.rest.now c.in_ok-check_length.ensures.ok (omega arith) c.in_ok-n.ensures.got)
+    (got_long a.depth a.room a.prefix a.constructed c.in-Some.first c.in_ok-n.n c.in-Some.tail.now c.in_ok-n.rest.now c.in_ok-check_length.ensures.ok (omega arith) c.in_ok-n.ensures.got)

@@ -1,10 +1,10 @@
 use Rattle.std.proofs.Common.{arith}
-use Rattle.vf_ber.proofs.Subidentifiers.{cut_behind, no_group}
+use Rattle.vf_ber.proofs.Subidentifiers.{cut_tail, no_group}
 use Rattle.vf_ber.proofs.primitive.first_group.Goals as goal
 
 pub returns-then-octet-lt128-clause-some : goal.returns-then-octet-lt128-clause-some
 returns-then-octet-lt128-clause-some c = (
-  cut_behind c.args.octets.now _ _ c.loop-i.i c.loop-i-test.true c.loop-i.invariant c.if-octet-lt128.true c.split_at.ensures.front c.split_at.ensures.back,
+  cut_tail c.args.octets.now _ _ c.loop-i.i c.loop-i-test.true c.loop-i.invariant c.if-octet-lt128.true c.split_at.ensures.front c.split_at.ensures.back,
   omega arith,
 )
 

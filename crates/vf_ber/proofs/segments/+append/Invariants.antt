@@ -1,5 +1,5 @@
 use Rattle.std.proofs.Common.{◌≡◌, ◌*◌, ◌+◌, drop}
-use Rattle.vf_ber.specs.Primitive.{in_front, octets_in}
+use Rattle.vf_ber.specs.Primitive.{in_prefix, octets_in}
 use Rattle.vf_ber.specs.Tree.{nodes, nodes_in}
 use Rattle.vf_ber.specs.Views.{tree_of, trees_in}
 use Rattle.vf_ber.proofs.segments.+append.Given as goal
@@ -12,4 +12,4 @@ decreases-append_segments l = 2 * nodes_in (trees_in l.segments.now) + 1
 
 abbrev pub invariant-append_segments-loop-segment : goal.invariant-append_segments-loop-segment
 invariant-append_segments-loop-segment l =
-    in_front l.out.items (octets_in (trees_in (drop l.segment-index l.segments))) ≡ in_front l.fn.out.items (octets_in (trees_in l.segments))
+    in_prefix l.out.items (octets_in (trees_in (drop l.segment-index l.segments))) ≡ in_prefix l.fn.out.items (octets_in (trees_in l.segments))

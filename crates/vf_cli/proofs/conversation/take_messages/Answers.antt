@@ -9,9 +9,9 @@ use Rattle.vf_regime.specs.Represents.{with_tables}
 use Rattle.vf_regime.specs.Transition.{transition}
 use Rattle.vf_cli.specs.declared.conversation.After.{After}
 use Rattle.vf_cli.specs.declared.conversation.After.TheVariants as after
-use Rattle.vf_cli.specs.declared.message.Front.{Front}
-use Rattle.vf_cli.specs.declared.message.Front.TheVariants as front
-use Rattle.vf_cli.specs.Conversation.{Advances, IsFront, IsRest, Makes}
+use Rattle.vf_cli.specs.declared.message.Prefix.{Prefix}
+use Rattle.vf_cli.specs.declared.message.Prefix.TheVariants as prefix
+use Rattle.vf_cli.specs.Conversation.{Advances, IsPrefix, IsRest, Makes}
 use Rattle.vf_cli.specs.Dialogue.{outside, reply}
 use Rattle.vf_regime.specs.Sayable.{CanServe}
 use Rattle.vf_regime.specs.State.{State}
@@ -19,16 +19,16 @@ use Rattle.vf_cli.proofs.ReadingLemmas.{reading_none}
 use Rattle.vf_cli.proofs.TakenLemmas.{takes_fault, takes_message, with_tables-same}
 use Rattle.vf_cli.proofs.conversation.take_messages.Goals as goal
 
--- what stands in front of the octets from a place on
-found_at : (octets rest : List ℕ) (at : ℕ) (found is : Front) → rest ≡ drop at octets → found ≡ is → IsFront (reading rest) (Ok found)
-    → IsFront (reading (drop at octets)) (Ok is)
-found_at octets rest at found is behind same front =
-    subst (λ l. IsFront (reading l) (Ok is)) behind (subst (λ (f : Front). IsFront (reading rest) (Ok f)) same front)
+-- what stands first of the octets from a place on
+found_at : (octets rest : List ℕ) (at : ℕ) (found is : Prefix) → rest ≡ drop at octets → found ≡ is → IsPrefix (reading rest) (Ok found)
+    → IsPrefix (reading (drop at octets)) (Ok is)
+found_at octets rest at found is tail same prefix =
+    subst (λ l. IsPrefix (reading l) (Ok is)) tail (subst (λ (f : Prefix). IsPrefix (reading rest) (Ok f)) same prefix)
 
-within_rest : (rest octets : List ℕ) (at n : ℕ) (message : Message) (found : Front) → rest ≡ drop at octets → at ≤ length octets → found ≡ front.Heard message n
+within_rest : (rest octets : List ℕ) (at n : ℕ) (message : Message) (found : Prefix) → rest ≡ drop at octets → at ≤ length octets → found ≡ prefix.Heard message n
     → Advances rest (Ok found) → (0 < n) × (at + n ≤ length octets)
 within_rest rest octets at n message found is place same advances =
-    let fits = subst (λ (f : Front). Advances rest (Ok f)) same advances in
+    let fits = subst (λ (f : Prefix). Advances rest (Ok f)) same advances in
     let above : 0 < n = fits.0 in
     let below : n ≤ length rest = fits.1 in
     let len : length rest ≡ length octets - at = ap length is ∙ length-drop at octets in
@@ -46,8 +46,8 @@ returns-then-at-end-clause-took c = λ state holds.
 
 pub overflow_add-at : goal.overflow_add-at
 overflow_add-at c =
-    let fits = within_rest c.in_ok-rest.rest c.args.octets.now c.loop-at.at c.in-Heard.length c.in-Heard.message c.in_ok-front_of.field-0
-    c.in_ok-rest.ensures c.loop-at.invariant.within c.in-Heard.is c.in_ok-front_of.ensures.advances in
+    let fits = within_rest c.in_ok-rest.rest c.args.octets.now c.loop-at.at c.in-Heard.length c.in-Heard.message c.in_ok-prefix_of.field-0
+    c.in_ok-rest.ensures c.loop-at.invariant.within c.in-Heard.is c.in_ok-prefix_of.ensures.advances in
     let within = fits.1 in
     omega (arith, within, c.len-end.ensures, c.len-end.type_inv)
 
@@ -61,7 +61,7 @@ returns-in-Fault-clause-took c = λ state holds.
     let goes = c.loop-at.invariant.goes state holds in
     let old : List ℕ = c.args.replies.now.items in
     let abort = reply (answers.Abort outside c.in-Fault.place) in
-    let found = found_at c.args.octets.now c.in_ok-rest.rest c.loop-at.at c.in_ok-front_of.field-0 (front.Fault c.in-Fault.place) c.in_ok-rest.ensures c.in-Fault.is c.in_ok-front_of.ensures.front in (
+    let found = found_at c.args.octets.now c.in_ok-rest.rest c.loop-at.at c.in_ok-prefix_of.field-0 (prefix.Fault c.in-Fault.place) c.in_ok-rest.ensures c.in-Fault.is c.in_ok-prefix_of.ensures.prefix in (
       goes.1 ++ abort,
       c.in_ok-append_abort-in-Fault.ensures ∙ ap (λ l. l ++ abort) goes.3 ∙ append_assoc old goes.1 abort,
       takes_fault state goes.0 c.loop-at.party c.loop-at.tables c.args.octets.now goes.1 old c.loop-at.at goes.2 goes.4 c.in-Fault.place found,
@@ -75,10 +75,10 @@ take_message-requires c =
 
 pub loop-at-preserved : goal.loop-at-preserved
 loop-at-preserved c =
-    let fits = within_rest c.in_ok-rest.rest c.args.octets.now c.loop-at.at c.in-Heard.length c.in-Heard.message c.in_ok-front_of.field-0
-    c.in_ok-rest.ensures c.loop-at.invariant.within c.in-Heard.is c.in_ok-front_of.ensures.advances in
-    let found = found_at c.args.octets.now c.in_ok-rest.rest c.loop-at.at c.in_ok-front_of.field-0 (front.Heard c.in-Heard.message c.in-Heard.length)
-    c.in_ok-rest.ensures c.in-Heard.is c.in_ok-front_of.ensures.front in
+    let fits = within_rest c.in_ok-rest.rest c.args.octets.now c.loop-at.at c.in-Heard.length c.in-Heard.message c.in_ok-prefix_of.field-0
+    c.in_ok-rest.ensures c.loop-at.invariant.within c.in-Heard.is c.in_ok-prefix_of.ensures.advances in
+    let found = found_at c.args.octets.now c.in_ok-rest.rest c.loop-at.at c.in_ok-prefix_of.field-0 (prefix.Heard c.in-Heard.message c.in-Heard.length)
+    c.in_ok-rest.ensures c.in-Heard.is c.in_ok-prefix_of.ensures.prefix in
     record {
       within = fits.1;
       goes = λ first holds.
@@ -94,8 +94,8 @@ loop-at-preserved c =
 -- enough replies stand, and there may be more messages
 pub returns-then-len-ge-MOST_REPLIES-clause-took : goal.returns-then-len-ge-MOST_REPLIES-clause-took
 returns-then-len-ge-MOST_REPLIES-clause-took c = λ first holds.
-    let found = found_at c.args.octets.now c.in_ok-rest.rest c.loop-at.at c.in_ok-front_of.field-0 (front.Heard c.in-Heard.message c.in-Heard.length)
-    c.in_ok-rest.ensures c.in-Heard.is c.in_ok-front_of.ensures.front in
+    let found = found_at c.args.octets.now c.in_ok-rest.rest c.loop-at.at c.in_ok-prefix_of.field-0 (prefix.Heard c.in-Heard.message c.in-Heard.length)
+    c.in_ok-rest.ensures c.in-Heard.is c.in_ok-prefix_of.ensures.prefix in
     let goes = c.loop-at.invariant.goes first holds in
     let consequence = transition (with_tables c.loop-at.tables goes.0) (goes.2).0 0 c.in-Heard.message in
     let makes = subst (λ (rest : After). Makes consequence c.loop-at.replies.items c.take_message.new.replies.items c.loop-at.tables c.take_message.new.tables rest)
@@ -105,13 +105,13 @@ returns-then-len-ge-MOST_REPLIES-clause-took c = λ first holds.
 
 pub returns-then-len-ge-MOST_REPLIES-clause-within : goal.returns-then-len-ge-MOST_REPLIES-clause-within
 returns-then-len-ge-MOST_REPLIES-clause-within c =
-    (within_rest c.in_ok-rest.rest c.args.octets.now c.loop-at.at c.in-Heard.length c.in-Heard.message c.in_ok-front_of.field-0
-    c.in_ok-rest.ensures c.loop-at.invariant.within c.in-Heard.is c.in_ok-front_of.ensures.advances).1
+    (within_rest c.in_ok-rest.rest c.args.octets.now c.loop-at.at c.in-Heard.length c.in-Heard.message c.in_ok-prefix_of.field-0
+    c.in_ok-rest.ensures c.loop-at.invariant.within c.in-Heard.is c.in_ok-prefix_of.ensures.advances).1
 
 pub returns-then-len-ge-MOST_REPLIES-clause-some : goal.returns-then-len-ge-MOST_REPLIES-clause-some
 returns-then-len-ge-MOST_REPLIES-clause-some c =
-    let fits = within_rest c.in_ok-rest.rest c.args.octets.now c.loop-at.at c.in-Heard.length c.in-Heard.message c.in_ok-front_of.field-0
-    c.in_ok-rest.ensures c.loop-at.invariant.within c.in-Heard.is c.in_ok-front_of.ensures.advances in
+    let fits = within_rest c.in_ok-rest.rest c.args.octets.now c.loop-at.at c.in-Heard.length c.in-Heard.message c.in_ok-prefix_of.field-0
+    c.in_ok-rest.ensures c.loop-at.invariant.within c.in-Heard.is c.in_ok-prefix_of.ensures.advances in
     let above = fits.0 in
     λ more. omega (arith, above)
 
@@ -123,10 +123,10 @@ rest_unless after.Aborted rest gone = tt
 
 pub returns-in_default : goal.returns-in_default
 returns-in_default c =
-    let fits = within_rest c.in_ok-rest.rest c.args.octets.now c.loop-at.at c.in-Heard.length c.in-Heard.message c.in_ok-front_of.field-0
-    c.in_ok-rest.ensures c.loop-at.invariant.within c.in-Heard.is c.in_ok-front_of.ensures.advances in
-    let found = found_at c.args.octets.now c.in_ok-rest.rest c.loop-at.at c.in_ok-front_of.field-0 (front.Heard c.in-Heard.message c.in-Heard.length)
-    c.in_ok-rest.ensures c.in-Heard.is c.in_ok-front_of.ensures.front in
+    let fits = within_rest c.in_ok-rest.rest c.args.octets.now c.loop-at.at c.in-Heard.length c.in-Heard.message c.in_ok-prefix_of.field-0
+    c.in_ok-rest.ensures c.loop-at.invariant.within c.in-Heard.is c.in_ok-prefix_of.ensures.advances in
+    let found = found_at c.args.octets.now c.in_ok-rest.rest c.loop-at.at c.in_ok-prefix_of.field-0 (prefix.Heard c.in-Heard.message c.in-Heard.length)
+    c.in_ok-rest.ensures c.in-Heard.is c.in_ok-prefix_of.ensures.prefix in
     record {
       within = fits.1;
       some = λ more. absurd cc;

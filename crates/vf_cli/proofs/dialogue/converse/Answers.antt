@@ -3,7 +3,7 @@ use Rattle.vf_regime.specs.State.{State}
 use Rattle.vf_cli.specs.Conversation.{Goes, Stands, Steps, left_of, octets_in}
 use Rattle.vf_cli.specs.Reader.{will_say}
 use Rattle.vf_cli.proofs.LineLemmas.{on_err}
-use Rattle.vf_cli.proofs.TopLemmas.{prints_all, prints_front, so_far_begins, so_far_ends, so_far_goes, so_far_stops}
+use Rattle.vf_cli.proofs.TopLemmas.{prints_all, prints_prefix, so_far_begins, so_far_ends, so_far_goes, so_far_stops}
 use Rattle.vf_cli.proofs.dialogue.converse.Goals as goal
 
 pub steps-init : goal.steps-init
@@ -41,7 +41,7 @@ returns-in-Some-clause-ends g c =
 pub returns-in_err-step-clause-interrupted : goal.returns-in_err-step-clause-interrupted
 returns-in_err-step-clause-interrupted g c =
     on_err c.from_residual-in_err-step.result _
-    (prints_front _ _ c.in_ok-reader.ensures c.new-conversation.ensures.none _ _ (g.I.Source.left c.args.input.now)
+    (prints_prefix _ _ c.in_ok-reader.ensures c.new-conversation.ensures.none _ _ (g.I.Source.left c.args.input.now)
     (so_far_stops _ _ _ _ _ _ c.steps.conversation c.steps.invariant.goes c.in_err-step.ensures.interrupted))
 
 pub steps-smaller : goal.steps-smaller

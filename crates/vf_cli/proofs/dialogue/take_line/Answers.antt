@@ -17,7 +17,7 @@ returns-in_err-write_bad_line-in-Bad-clause-interrupted g c = on_err c.from_resi
     let piece = c.next_line.new.piece.items in
     let answers = subst (λ (next : NextLine). Answers old_input new_input piece (Ok next)) c.in-Bad.is c.in_ok-next_line.ensures.answers in
     bad_interrupted state c.args.conversation.now (g.O.Sink.taken c.args.out.now) old_input new_input c.requires stands c.in-Bad.number piece _ answers
-    c.in_err-write_bad_line-in-Bad.ensures.front)
+    c.in_err-write_bad_line-in-Bad.ensures.prefix)
 
 pub returns-in_ok-add-in-Piece-clause-takes : goal.returns-in_ok-add-in-Piece-clause-takes
 returns-in_ok-add-in-Piece-clause-takes g c = λ state stands.

@@ -1,6 +1,6 @@
 use Rattle.std.proofs.Common.{Bool, List, ℕ, [], true, false, subst}
 use Rattle.vf_cli.specs.Conversation.{TakesReady}
-use Rattle.vf_cli.specs.Printed.{Wrote, WroteFront}
+use Rattle.vf_cli.specs.Printed.{Wrote, WrotePrefix}
 use Rattle.vf_cli.proofs.LineLemmas.{interrupted_before, on_err, ready_interrupted, steps_ready}
 use Rattle.vf_cli.proofs.dialogue.take_ready.Goals as goal
 
@@ -15,7 +15,7 @@ returns-in_err-write_lines-clause-interrupted g c = on_err c.from_residual-in_er
     let takes = subst (λ (l : List ℕ). TakesReady state c.args.conversation.now l lines c.take.new.self c.in_ok-aborted.aborted) c.clear.ensures.items
     (c.in_ok-aborted.ensures.takes state stands) in
     ready_interrupted state c.args.conversation.now old new c.in_ok-aborted.aborted lines c.take.new.self takes
-    (subst (λ (l : List ℕ). WroteFront l old new) c.as_slice.ensures.value c.in_err-write_lines.ensures.front) input)
+    (subst (λ (l : List ℕ). WrotePrefix l old new) c.as_slice.ensures.value c.in_err-write_lines.ensures.prefix) input)
 
 pub returns-then-aborted-clause-takes : goal.returns-then-aborted-clause-takes
 returns-then-aborted-clause-takes g c = λ state stands input.

@@ -1,10 +1,9 @@
-use Rattle.std.proofs.Common.{◌≡◌, ◌∙◌, ap, sym, List, [], ℕ, map, nat_eq, Option, None, Some, false}
+use Rattle.std.proofs.Common.{◌≡◌, ◌∙◌, ap, sym, List, [], ℕ, map, nat_eq}
 use Rattle.std.specs.Cmp.Lexicographic.{pointwise}
 use Rattle.std.specs.Map.{keys_of, values_of}
 use Rattle.std.proofs.lemmas.List.Quantifiers.{position-Some}
 use Rattle.indexmap.specs.IndexMap.{set_value_at}
 use Rattle.indexmap.proofs.CallerLemmas.{keys-with_value_at}
-use Rattle.vf_attr.specs.Attributes.{with_attributes}
 use Rattle.vf_attr.specs.declared.file.File.{File}
 use Rattle.vf_files.specs.Files.{with_attributes_of}
 use Rattle.vf_files.proofs.Keyed.{lookup-keyed, names-with_attributes_of, none_is, values-set_attributes, with_attributes_of-none}

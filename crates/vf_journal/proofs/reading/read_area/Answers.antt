@@ -5,14 +5,14 @@ use Rattle.vf_journal.specs.Answers.{is_fault}
 use Rattle.vf_journal.specs.Reading.{StandsFrom}
 use Rattle.vf_journal.specs.JournalState.{area_of}
 use Rattle.vf_journal.proofs.Looks.{looked_then}
-use Rattle.vf_journal.proofs.Takings.{area_more, falls, front_kept, takes_grow, takes_placed, when_more}
+use Rattle.vf_journal.proofs.Takings.{area_more, falls, prefix_kept, takes_grow, takes_placed, when_more}
 use Rattle.vf_journal.proofs.reading.read_area.Goals as goal
 
 pub returns-in_err-found-clause-kept : goal.returns-in_err-found-clause-kept
 returns-in_err-found-clause-kept g c =
     let p = err_from_is_err_and c.from_residual-in_err-found.result c.from_residual-in_err-found.ensures.1 in
     let taken = c.loop-more.invariant.taken in
-    rw p.1 (front_kept c.args.records.now.items c.loop-more.records.items c.take_more.new.records.items taken.taken taken.records c.in_err-found.ensures.kept)
+    rw p.1 (prefix_kept c.args.records.now.items c.loop-more.records.items c.take_more.new.records.items taken.taken taken.records c.in_err-found.ensures.kept)
 
 pub returns-in_err-found-clause-looks : goal.returns-in_err-found-clause-looks
 returns-in_err-found-clause-looks g c =

@@ -2,7 +2,7 @@ use Rattle.std.proofs.Common.{◌≡◌, ◌<◌, ◌+◌, ◌-◌, ℕ, Err, fa
 use Rattle.std.proofs.lemmas.Result.{err_from_is_err_and}
 use Rattle.vf_journal.specs.Answers.{is_fault}
 use Rattle.vf_journal.specs.Layout.{part}
-use Rattle.vf_journal.proofs.Fronts.{record_few, record_read}
+use Rattle.vf_journal.proofs.Prefixes.{record_few, record_read}
 use Rattle.vf_journal.proofs.Looks.{looked_then}
 use Rattle.vf_journal.proofs.reading.read_record.Goals as goal
 
@@ -22,9 +22,9 @@ returns-clause-found g c = λ image shows.
     let size = g.met.D.Disk.measured c.args.disk.now image shows in
     let head = c.in_ok-read_at.ensures.octets image shows in
     let five : length c.read_at.new.into ≡ 5 = c.read_at.auto.into in
-    let front : c.read_at.new.into ≡ take (length c.read_at.new.into) (drop c.args.gate image) = head ∙ ap (λ (n : ℕ). take n (drop c.args.gate image)) (sym five) in
+    let prefix : c.read_at.new.into ≡ take (length c.read_at.new.into) (drop c.args.gate image) = head ∙ ap (λ (n : ℕ). take n (drop c.args.gate image)) (sym five) in
     let left : length (drop c.args.gate image) ≡ c.args.length - c.args.gate = length-drop c.args.gate image ∙ ap (λ (n : ℕ). n - c.args.gate) (size ∙ sym c.requires.length) in
-    let found = c.in-Some.ensures.some (drop c.args.gate image) (front, left) in
+    let found = c.in-Some.ensures.some (drop c.args.gate image) (prefix, left) in
     let read = c.in_ok-record.ensures.octets image (c.in_ok-read_at.ensures.looks.same ∙ shows) in
     record_read image c.in_ok-record.record c.args.gate c.in-Some.count _ found (read ∙ ap (λ (n : ℕ). part image (c.args.gate + 5) n) c.from.ensures)
 

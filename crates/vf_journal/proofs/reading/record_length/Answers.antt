@@ -1,6 +1,6 @@
 use Rattle.std.proofs.Common.{◌≡◌, ◌+◌, ◌<◌, drop, arith, ap, sym, ◌∙◌}
 use Rattle.vf_journal.specs.Layout.{length_named}
-use Rattle.vf_journal.proofs.Fronts.{record_short, record_whole}
+use Rattle.vf_journal.proofs.Prefixes.{record_short, record_whole}
 use Rattle.vf_journal.proofs.reading.record_length.Goals as goal
 
 pub returns-then-left-from-clause-none : goal.returns-then-left-from-clause-none

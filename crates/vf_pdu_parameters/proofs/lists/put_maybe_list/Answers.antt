@@ -1,5 +1,4 @@
-use Rattle.std.proofs.Common.{List, ap, sym, ◌∙◌}
-use Rattle.std.specs.Prelude.{Option}
+use Rattle.std.proofs.Common.{ap, sym, ◌∙◌}
 use Rattle.std.specs.Option.{option_map}
 use Rattle.vf_pdu_fields.specs.Content.{Listed, items_of}
 use Rattle.std.proofs.Common.{map}

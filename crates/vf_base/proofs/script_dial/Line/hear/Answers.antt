@@ -7,4 +7,4 @@ returns-clause-heard c =
     let line = c.self.inside in
     let count = c.fill-count.result in
     let rest = c.split_at.ensures.back ∙ ap (drop line.heard) c.as_slice.ensures in
-    rw (← c.self.view_is) (heard_is line.said.items line.octets c.fill-count.new.into line.heard count (c.fill-count.ensures.front ∙ ap (take count) rest) (λ none. sym rest ∙ c.fill-count.ensures.last none))
+    rw (← c.self.view_is) (heard_is line.said.items line.octets c.fill-count.new.into line.heard count (c.fill-count.ensures.prefix ∙ ap (take count) rest) (λ none. sym rest ∙ c.fill-count.ensures.last none))

@@ -1,6 +1,6 @@
 use Rattle.std.proofs.Common.{◌≡◌, take}
 use Rattle.vf_base.proofs.sequence.Sequence.copy.Given as goal
 
--- what is made so far is the front of the list
+-- what is made so far is the prefix of the list
 abbrev pub invariant-loop-item : goal.invariant-loop-item
 invariant-loop-item g l = l.made ≡ take l.item-index l.item-items

@@ -8,19 +8,19 @@ use Rattle.vf_ber_scan.proofs.scan.Scan.end_in.Goals as goal
 pub returns-in-Ended-clause-ended : goal.returns-in-Ended-clause-ended
 returns-in-Ended-clause-ended c = λ octets has.
     let self = c.loop-taken.self in
-    let leads = subst (λ (p : Next). Leads (λ more. progress_at self.place self.frames (take c.behind-n.result.0 c.split_at.result.1.now ++ more)) p c.behind-n.new.frames) c.in-Ended.is c.behind-n.ensures.leads in
-    fed_ended c.args.self.now self.place self.frames c.behind-n.new.frames octets c.args.piece.now c.split_at.result.1.now c.loop-taken.taken c.behind-n.result.0
-    c.in-Ended.whole c.loop-taken.invariant.fed c.split_at.ensures.back c.behind-n.ensures.short leads has
+    let leads = subst (λ (p : Next). Leads (λ more. progress_at self.place self.frames (take c.advance-n.result.0 c.split_at.result.1.now ++ more)) p c.advance-n.new.frames) c.in-Ended.is c.advance-n.ensures.leads in
+    fed_ended c.args.self.now self.place self.frames c.advance-n.new.frames octets c.args.piece.now c.split_at.result.1.now c.loop-taken.taken c.advance-n.result.0
+    c.in-Ended.whole c.loop-taken.invariant.fed c.split_at.ensures.back c.advance-n.ensures.short leads has
 
 pub loop-taken-preserved : goal.loop-taken-preserved
 loop-taken-preserved c =
     let self = c.loop-taken.self in
-    let leads = subst (λ (p : Next). Leads (λ more. progress_at self.place self.frames (take c.behind-n.result.0 c.split_at.result.1.now ++ more)) p c.behind-n.new.frames) c.in-At.is c.behind-n.ensures.leads in
+    let leads = subst (λ (p : Next). Leads (λ more. progress_at self.place self.frames (take c.advance-n.result.0 c.split_at.result.1.now ++ more)) p c.advance-n.new.frames) c.in-At.is c.advance-n.ensures.leads in
     record {
-      within = omega (arith, c.behind-n.ensures.within, c.split_at.ensures.back_len);
+      within = omega (arith, c.advance-n.ensures.within, c.split_at.ensures.back_len);
       fed =
-          fed_more c.args.self.now self.place c.in-At.place self.frames c.behind-n.new.frames c.args.piece.now c.split_at.result.1.now c.loop-taken.taken c.behind-n.result.0
-          c.loop-taken.invariant.fed c.split_at.ensures.back c.behind-n.ensures.short leads;
+          fed_more c.args.self.now self.place c.in-At.place self.frames c.advance-n.new.frames c.args.piece.now c.split_at.result.1.now c.loop-taken.taken c.advance-n.result.0
+          c.loop-taken.invariant.fed c.split_at.ensures.back c.advance-n.ensures.short leads;
     }
 
 pub returns-in-Ended-clause-anew : goal.returns-in-Ended-clause-anew

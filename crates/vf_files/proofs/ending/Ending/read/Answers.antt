@@ -1,4 +1,4 @@
-use Rattle.std.proofs.Common.{◌≡◌, ◌∙◌, ap, sym, true, false, List, [], ◌∷◌, None, Some, ℕ}
+use Rattle.std.proofs.Common.{◌≡◌, ◌∙◌, ap, sym, true, false, List, [], ◌∷◌, None, ℕ}
 use Rattle.vf_attr.specs.Attributes.{attributes_of}
 use Rattle.vf_attr.specs.declared.attributes.Attributes.{Attributes}
 use Rattle.vf_attr.specs.declared.file.File.{File}

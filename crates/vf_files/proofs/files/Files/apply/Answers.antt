@@ -1,4 +1,4 @@
-use Rattle.std.proofs.Common.{◌∙◌, ap}
+use Rattle.std.proofs.Common.{◌∙◌}
 use Rattle.std.specs.Map.{values_of}
 use Rattle.vf_files.specs.Files.{after_changes}
 use Rattle.vf_files.specs.Table.{changes_in}

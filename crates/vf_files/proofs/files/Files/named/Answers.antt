@@ -1,5 +1,4 @@
 use Rattle.std.proofs.Common.{◌≡◌, ◌∙◌, ap}
-use Rattle.std.specs.Prelude.{option_copied}
 use Rattle.vf_files.specs.Files.{file_named}
 use Rattle.vf_files.proofs.Deltas.{named_itself}
 use Rattle.vf_files.proofs.Keyed.{lookup-keyed}

@@ -3,7 +3,7 @@ use Rattle.vf_ber.specs.Steps.{first_fits}
 use Rattle.vf_ber.specs.Reading.{bounded}
 use Rattle.vf_ber_scan.specs.Frames.{depth_in, room_in}
 use Rattle.vf_ber_scan.proofs.StepLemmas.{first_none, first_short, first_long}
-use Rattle.vf_ber_scan.proofs.step.behind_first.Goals as goal
+use Rattle.vf_ber_scan.proofs.step.after_first.Goals as goal
 
 pub returns-then-not-is_first : goal.returns-then-not-is_first
 returns-then-not-is_first c =

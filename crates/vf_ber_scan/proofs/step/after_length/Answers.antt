@@ -1,6 +1,6 @@
 use Rattle.std.proofs.Common.{true, arith}
 use Rattle.vf_ber_scan.proofs.StepLemmas.{length_short, length_long, length_around}
-use Rattle.vf_ber_scan.proofs.step.behind_length.Goals as goal
+use Rattle.vf_ber_scan.proofs.step.after_length.Goals as goal
 
 pub returns : goal.returns
 returns c =
@@ -10,4 +10,4 @@ returns c =
 pub returns-then-octet-lt128 : goal.returns-then-octet-lt128
 returns-then-octet-lt128 c =
     let fits = length_around c.args.frames.now c.around.result c.args.constructed c.args.prefix c.args.octet c.is_length.result true c.around.ensures c.is_length.ensures c.if-not-is_length.false in
-    length_short c.args.frames.now c.behind_header.new.frames c.args.constructed c.args.prefix c.args.octet c.behind_header.result fits c.if-octet-lt128.true c.behind_header.ensures
+    length_short c.args.frames.now c.after_header.new.frames c.args.constructed c.args.prefix c.args.octet c.after_header.result fits c.if-octet-lt128.true c.after_header.ensures

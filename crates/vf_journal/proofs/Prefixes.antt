@@ -1,4 +1,4 @@
--- What stands at the front of octets that begin with a gate, told by a block of them.
+-- What stands at the start of octets that begin with a gate, told by a block of them.
 use Rattle.std.proofs.Common.{◌≡◌, ◌≢◌, ℕ, suc, ◌+◌, ◌<◌, ◌≤◌, List, [], ◌∷◌, ◌++◌, length, get_or, take, drop, None, Some, refl, sym, ◌∙◌, ap, arith, take-append-drop}
 use Rattle.std.proofs.lemmas.List.{drop-drop}
 use Rattle.std.specs.Prelude.{option_map}
@@ -14,7 +14,7 @@ begins_split octets left all begins = sym (take-append-drop (length octets) all)
 -- no octets, or fewer than six
 pub record_few : (all : List ℕ) → length all < 6 → first_record all ≡ None
 record_few [] few = refl
-record_few (gate ∷ behind) few = first_short gate behind (omega arith)
+record_few (gate ∷ after) few = first_short gate after (omega arith)
 
 -- the gate and the length, told by the first octets
 alike : (octets : List ℕ) (left : ℕ) (all : List ℕ) → BeginsWith octets left all → 5 ≤ length octets → (get_or all 0 0 ≡ get_or octets 0 0) × (length_named (drop 1 all) ≡ length_named (drop 1 octets))
@@ -26,19 +26,19 @@ alike (gate ∷ back) left all begins long =
 
 closed : (all : List ℕ) → get_or all 0 0 ≡ 0 → first_record all ≡ None
 closed [] is = refl
-closed (gate ∷ behind) is = first_closed gate behind is
+closed (gate ∷ after) is = first_closed gate after is
 
 short : (all : List ℕ) → length all < length_named (drop 1 all) + 6 → first_record all ≡ None
 short [] less = refl
-short (gate ∷ behind) less = first_short gate behind (omega arith)
+short (gate ∷ after) less = first_short gate after (omega arith)
 
 whole : (all : List ℕ) (count : ℕ) → 0 < length all → length_named (drop 1 all) ≡ count → get_or all 0 0 ≢ 0 → count + 6 ≤ length all → first_record all ≡ Some (take count (drop 5 all), drop (count + 5) all)
 whole [] count some is opened long = absurd (omega arith)
-whole (gate ∷ behind) count some is opened long =
+whole (gate ∷ after) count some is opened long =
     let next : suc (count + 4) ≡ count + 5 = omega arith in
-    first_whole gate behind opened (omega (arith, is))
-    ∙ ap (λ (n : ℕ). Some (take n (drop 4 behind), drop (n + 4) behind)) is
-    ∙ ap (λ (n : ℕ). Some (take count (drop 4 behind), drop n (gate ∷ behind))) next
+    first_whole gate after opened (omega (arith, is))
+    ∙ ap (λ (n : ℕ). Some (take n (drop 4 after), drop (n + 4) after)) is
+    ∙ ap (λ (n : ℕ). Some (take count (drop 4 after), drop n (gate ∷ after))) next
 
 pub record_short : (octets : List ℕ) (left : ℕ) (all : List ℕ) → BeginsWith octets left all → 5 ≤ length octets → left < length_named (drop 1 octets) + 6 → first_record all ≡ None
 record_short octets left all begins long less = short all (omega (arith, (alike octets left all begins long).1, begins.1))

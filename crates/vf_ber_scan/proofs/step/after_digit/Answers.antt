@@ -1,7 +1,7 @@
 use Rattle.std.proofs.Common.{◌+◌, ◌-◌, ◌*◌, true, false, arith}
 use Rattle.vf_ber.proofs.Digits.{grown_le, grown_less}
 use Rattle.vf_ber_scan.proofs.StepLemmas.{digit_none, digit_last, digit_next, digit_small, reaches_around}
-use Rattle.vf_ber_scan.proofs.step.behind_digit.Goals as goal
+use Rattle.vf_ber_scan.proofs.step.after_digit.Goals as goal
 
 pub overflow_mul-high : goal.overflow_mul-high
 overflow_mul-high c =
@@ -25,10 +25,10 @@ returns-then-not-is_reached c =
 
 pub returns-then-more-eq0 : goal.returns-then-more-eq0
 returns-then-more-eq0 c =
-    digit_last c.args.frames.now c.behind_header.new.frames c.args.constructed c.args.prefix c.args.more c.args.high c.args.digit c.behind_header.result
+    digit_last c.args.frames.now c.after_header.new.frames c.args.constructed c.args.prefix c.args.more c.args.high c.args.digit c.after_header.result
     c.requires.2 (omega arith) c.if-more-eq0.true
     (reaches_around c.args.frames.now c.around.result c.args.constructed c.args.prefix (c.args.more - 1) (256 * c.args.high + c.args.digit) c.is_reached.result true c.around.ensures c.is_reached.ensures c.if-not-is_reached.false)
-    c.behind_header.ensures
+    c.after_header.ensures
 
 pub returns : goal.returns
 returns c =

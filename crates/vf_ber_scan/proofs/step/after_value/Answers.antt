@@ -1,6 +1,6 @@
 use Rattle.std.proofs.Common.{◌∙◌, sym}
 use Rattle.vf_ber_scan.proofs.StepLemmas.{none_left, all_ended}
-use Rattle.vf_ber_scan.proofs.step.behind_value.Goals as goal
+use Rattle.vf_ber_scan.proofs.step.after_value.Goals as goal
 
 pub loop-frame-preserved : goal.loop-frame-preserved
 loop-frame-preserved c = λ more.
