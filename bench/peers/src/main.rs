@@ -9,9 +9,9 @@ fn main() {
     let count = match std::env::args().nth(1).as_deref() {
         Some("hold") => octets.len(),
         Some("parse") => {
-            let (behind, value) = der_parser::parse_ber(&octets).expect("a value");
+            let (rest, value) = der_parser::parse_ber(&octets).expect("a value");
             std::hint::black_box(&value);
-            octets.len() - behind.len()
+            octets.len() - rest.len()
         }
         _ => std::process::exit(2),
     };
