@@ -14,7 +14,7 @@ use Rattle.vf_elements.specs.declared.message.Said.TheVariants as answers
 use Rattle.vf_regime.specs.State.{State, StandingParty, party_of, with_party}
 use Rattle.vf_regime.specs.Transition.{Consequence, after_transition, transition}
 use Rattle.vf_cli.specs.Conversation.{Aborts, Continues, IsQuiet, printed_after}
-use Rattle.vf_cli.specs.Dialogue.{Faulty, Heard, Received, answer, answer_by, dialogue_from, received, received_first, is_abort, joined, link, tail_replies, heard, outside, prints_after, reply, said_to, consequence_to}
+use Rattle.vf_cli.specs.Dialogue.{Faulty, Heard, Received, answer, answer_by, dialogue_from, received, received_first, is_abort, joined, link, after_replies, heard, outside, prints_after, reply, said_to, consequence_to}
 use Rattle.vf_cli.specs.Printed.{Printed}
 use Rattle.vf_cli.proofs.ReceivedLemmas.{received-read, received_prefix}
 
@@ -42,7 +42,7 @@ after_one state party consequence one here =
     ∙ ap (λ (n : ℕ). if nat_eq n link then option_to_list consequence.party ++ [] else party ∷ []) here
 
 abbrev pub last : Bool → Option ℕ → Printed
-last aborted bad = if aborted then record { octets = []; status = 7 } else tail_replies bad
+last aborted bad = if aborted then record { octets = []; status = 7 } else after_replies bad
 
 abbrev pub with_last : List ℕ → Printed → Printed
 with_last lines last = record { octets = lines ++ last.octets; status = last.status }

@@ -9,7 +9,7 @@ use Rattle.vf_disk.specs.declared.step.Step.TheVariants.{Wrote, CutTo, Synced}
 use Rattle.vf_disk.specs.State.{State, IsImage, settled, after, state_of, lengthened, is_within, is_torn, filled_in, filled, left_by}
 use Rattle.vf_disk.specs.declared.crash_form.CrashForm.{CrashForm}
 use Rattle.vf_disk.specs.declared.crash_form.CrashForm.TheVariants.{Keep, Lose, Fill}
-use Rattle.vf_disk.proofs.Patch.{patched, same_prefix, same_back, length-patched, patched_before, patched_in, patched_tail}
+use Rattle.vf_disk.proofs.Patch.{patched, same_prefix, same_back, length-patched, patched_before, patched_in, patched_after}
 
 -- what holds of the state after any calls
 pub record IsSound (s : State) : Type 0 where
@@ -138,7 +138,7 @@ module _ (s : State) (at : ℕ) (octets : List ℕ) (good : Bool) where
                 | inl here ↦ head place here ∙ new.stays place lt (still place (at, length octets) s.ranges (outside place at (length octets) (inl here)) out)
                 | inr past ↦ get_or-take s.greatest whole place 0 (omega (arith, sound.order)) ∙ elim (cases_lt place m) [
                   | inl inside ↦ patched_in at m s.synced image in_base le place past inside
-                  | inr outer ↦ patched_tail at m s.synced image in_base le place past outer ∙ new.stays place lt (still place (at, length octets) s.ranges (outside place at (length octets) (inr (omega arith))) out)
+                  | inr outer ↦ patched_after at m s.synced image in_base le place past outer ∙ new.stays place lt (still place (at, length octets) s.ranges (outside place at (length octets) (inr (omega arith))) out)
                 ]
               ];
             },
@@ -147,7 +147,7 @@ module _ (s : State) (at : ℕ) (octets : List ℕ) (good : Bool) where
               past = elim (cases_lt s.greatest (length image)) [
                 | inl longer ↦ drop_all (at + length octets) image (omega (arith, new.no_longer)) ∙ sym (drop_all (at + length octets) before (omega (arith, size, new.no_longer)))
                 | inr within ↦
-                    same_back (at + length octets) image whole (sym long) (λ place ge. sym (patched_tail at m s.synced image in_base le place (omega arith) (omega arith)))
+                    same_back (at + length octets) image whole (sym long) (λ place ge. sym (patched_after at m s.synced image in_base le place (omega arith) (omega arith)))
                     ∙ ap (λ (l : List ℕ). drop (at + length octets) l) (sym (take_all s.greatest whole (omega (arith, long))))
               ];
               no_shorter = omega (arith, size);

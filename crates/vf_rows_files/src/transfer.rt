@@ -57,7 +57,7 @@ fn values_after_a_restart_go(rt: HostRuntime) -> Result<(), Fail> {
     assert!(rt; receiving.marks() == [2].as_slice());
     receiving.value(string(alloc, b'f')?)?;
     assert!(rt; are_strings(receiving.values(), b"abf"));
-    assert!(rt; receiving.prefix() == 2);
+    assert!(rt; receiving.front() == 2);
     assert!(rt; are_strings(receiving.end().as_slice(), b"abf"));
     Ok(())
 }
@@ -71,14 +71,14 @@ fn a_recovered_transfer_goes_on_at_its_point(rt: HostRuntime) -> Result<(), Fail
     assert!(rt; receiving.offer() == Err(TransferError::Window));
     assert!(rt; receiving.acknowledge(2) == Err(Unknown));
     assert!(rt; receiving.acknowledge(3).is_ok());
-    assert!(rt; receiving.prefix() == 0);
+    assert!(rt; receiving.front() == 0);
     assert!(rt; receiving.acknowledge(5).is_ok());
     assert!(rt; receiving.acknowledge(4).is_ok());
-    assert!(rt; receiving.prefix() == 2);
+    assert!(rt; receiving.front() == 2);
     assert!(rt; receiving.restart(4).is_ok());
-    assert!(rt; receiving.prefix() == 1);
+    assert!(rt; receiving.front() == 1);
     assert!(rt; receiving.restart(3).is_ok());
-    assert!(rt; receiving.prefix() == 0);
+    assert!(rt; receiving.front() == 0);
     assert!(rt; receiving.end().is_empty());
     Ok(())
 }

@@ -3,6 +3,7 @@
 use Rattle.std.specs.Prelude.{◌≡◌, ℕ, zero, suc, ◌+◌, ◌-◌, ◌≤◌, Bool, false, IsTrue, List, [], ◌∷◌, ◌++◌, Option, None, Ok, unwrap_or}
 use Rattle.vf_session.specs.declared.meaning.SpduMeaning.TheVariants.{Tells}
 use Rattle.vf_session.specs.declared.resync.PendingResync.{PendingResync}
+use Rattle.vf_session_spdu.specs.declared.limits.TheConstants.{LAST_SERIAL}
 use Rattle.vf_session_spdu.specs.declared.spdu.Spdu.{Spdu}
 use Rattle.vf_session.specs.declared.units.SessionSay.{SessionSay}
 use Rattle.vf_session.specs.declared.units.TokenSide.{TokenSide}
@@ -38,8 +39,8 @@ newest_resync (entry ∷ earlier) = unwrap_or (resync_by entry.from entry.told) 
 -- without its RA is the newest entry; the checks without an acknowledgement are those from the oldest up to the next, of
 -- which none is acknowledged ahead.
 pub record IsOrdered (own : TokenSide) (trace : Trace) : Type 0 where
-  pub first_is : first trace ≤ 999999
-  pub next_is : next trace ≤ 1000000
+  pub first_is : first trace ≤ LAST_SERIAL
+  pub next_is : next trace ≤ LAST_SERIAL + 1
   pub in_order : oldest trace ≤ next trace
   pub newest_is : newest_resync trace ≡ resync trace
   pub open_checks : unacknowledged trace ≡ numbers_up (oldest trace) (next trace - oldest trace)

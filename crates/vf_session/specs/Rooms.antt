@@ -7,6 +7,7 @@ use Rattle.vf_session.specs.declared.state.SessionState.{SessionState}
 use Rattle.vf_session.specs.declared.units.TokenSide.{TokenSide}
 use Rattle.vf_session.specs.Sending.{allows}
 use Rattle.vf_session_spdu.specs.Numbers.{digit_count}
+use Rattle.vf_session_spdu.specs.declared.limits.TheConstants.{MOST_PARAMETER_OCTETS}
 
 abbrev pub connect_size : Bool → ℕ → ℕ
 connect_size true serial = 17 + digit_count serial
@@ -25,14 +26,14 @@ carried (head.Token to) count = 0
 carried unit count = count
 
 abbrev pub room : SayParameters → ℕ
-room (head.Connect sync serial) = 65531 - connect_size sync serial
-room (head.Accept sync serial) = 65531 - connect_size sync serial
-room head.Refuse = 65530
-room head.Finish = 65531
-room head.Finished = 65531
-room (head.Resync kind serial token) = 65526 - token_size token - digit_count serial
-room (head.Resynced serial token) = 65529 - token_size token - digit_count serial
-room head.Abort = 65528
+room (head.Connect sync serial) = MOST_PARAMETER_OCTETS - 4 - connect_size sync serial
+room (head.Accept sync serial) = MOST_PARAMETER_OCTETS - 4 - connect_size sync serial
+room head.Refuse = MOST_PARAMETER_OCTETS - 5
+room head.Finish = MOST_PARAMETER_OCTETS - 4
+room head.Finished = MOST_PARAMETER_OCTETS - 4
+room (head.Resync kind serial token) = MOST_PARAMETER_OCTETS - 9 - token_size token - digit_count serial
+room (head.Resynced serial token) = MOST_PARAMETER_OCTETS - 6 - token_size token - digit_count serial
+room head.Abort = MOST_PARAMETER_OCTETS - 7
 room unit = 0
 
 -- what may be sent, by the parameters of the unit and by how many octets of user data it has

@@ -19,6 +19,7 @@ use Rattle.vf_session_spdu.specs.Fields.{no_fields}
 use Rattle.vf_session.specs.Receiving.{is_idle, is_asked, is_open, is_left, is_over}
 use Rattle.vf_session_spdu.specs.Numbers.{last_serial}
 use Rattle.vf_session_spdu.specs.Spelling.{spelled_parameters}
+use Rattle.vf_session_spdu.specs.declared.limits.TheConstants.{MOST_CONNECT_OCTETS, MOST_PARAMETER_OCTETS}
 use Rattle.vf_session.specs.Trace.{other, is_side}
 use Rattle.vf_session.specs.Units.{parameters, user_data}
 
@@ -70,7 +71,7 @@ spdus own (say.Token to) = gt true ∷ []
 
 -- the parameters of each fit a length
 abbrev pub has_room : Spdu → Bool
-has_room spdu = nat_le (length (spelled_parameters spdu)) 65535
+has_room spdu = nat_le (length (spelled_parameters spdu)) MOST_PARAMETER_OCTETS
 
 abbrev pub fits : TokenSide → SessionSay → Bool
 fits own sent = list_all has_room (spdus own sent)
@@ -110,7 +111,7 @@ is_written serial = nat_le serial last_serial
 -- whether it proposes sync is `offer`; its first serial number is 1 (profile).
 abbrev pub allows : TokenSide → Bool → SessionState → SayParameters → ℕ → Bool
 allows own offer s (head.Connect sync serial) count =
-    is_side own Initiator && is_idle s.phase && (if sync then offer else not offer) && nat_eq serial 1 && nat_le count 10240
+    is_side own Initiator && is_idle s.phase && (if sync then offer else not offer) && nat_eq serial 1 && nat_le count MOST_CONNECT_OCTETS
 allows own offer s (head.Accept sync serial) count =
     is_side own Responder && is_asked s.phase && (if sync then s.proposed else true) && nat_eq serial s.first
 allows own offer s head.Refuse count = is_side own Responder && is_asked s.phase

@@ -1,6 +1,7 @@
 //! One more unit.
-ghost use Rattle.std.specs.Prelude.{◌≡◌, ◌≤◌, if◌then◌else◌, None};
+ghost use Rattle.std.specs.Prelude.{◌≡◌, ◌≤◌, ◌+◌, if◌then◌else◌, None};
 ghost use Rattle.vf_session.specs.Advances.{Grows, advanced as state_after};
+ghost use Rattle.vf_session_spdu.specs.declared.limits.TheConstants.{LAST_SERIAL};
 ghost use Rattle.vf_session.specs.Trace.{is_resync as resync_test, is_side as same_side};
 
 use crate::meaning::{is_side, other};
@@ -24,7 +25,7 @@ pub(crate) fn advanced(
     told: &SessionSay,
 ) -> SessionState
     requires grows { Grows own s told.now }
-    requires next { s.next ≤ 1000000 }
+    requires next { s.next ≤ LAST_SERIAL + 1 }
     ensures { result ≡ state_after own from before s told.now }
 {
     let mut after = s;

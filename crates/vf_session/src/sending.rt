@@ -7,7 +7,7 @@ use crate::meaning::{is_side, other};
 use crate::resync::PendingResync;
 use crate::state::SessionState;
 use crate::{Phase, ResyncKind, SayParameters, TokenSide};
-use vf_session_spdu::digit_count;
+use vf_session_spdu::{LAST_SERIAL, MOST_CONNECT_OCTETS, MOST_PARAMETER_OCTETS, digit_count};
 
 /// Whether a unit may be sent where the connection stands so; the number of its octets of user data isn't looked at, but
 /// for that of a CN.
@@ -26,7 +26,7 @@ pub(crate) fn is_allowed(
                 && matches!(s.phase, Phase::Idle)
                 && (if *sync { offer } else { !offer })
                 && *serial == 1
-                && octets <= 10240
+                && octets <= MOST_CONNECT_OCTETS
         }
         SayParameters::Accept { sync, serial } => {
             is_side(own, TokenSide::Responder)
@@ -91,7 +91,7 @@ fn is_free(s: &SessionState) -> bool
 fn is_written(serial: u32) -> bool
     ensures { result ≡ written serial }
 {
-    serial <= 999_999
+    serial <= LAST_SERIAL
 }
 
 fn is_named(side: TokenSide, token: Option<TokenSide>) -> bool
@@ -176,17 +176,17 @@ fn room(say: &SayParameters) -> usize
 {
     match say {
         SayParameters::Connect { sync, serial } | SayParameters::Accept { sync, serial } => {
-            65531 - connect_size(*sync, *serial)
+            MOST_PARAMETER_OCTETS - 4 - connect_size(*sync, *serial)
         }
-        SayParameters::Refuse => 65530,
-        SayParameters::Finish | SayParameters::Finished => 65531,
+        SayParameters::Refuse => MOST_PARAMETER_OCTETS - 5,
+        SayParameters::Finish | SayParameters::Finished => MOST_PARAMETER_OCTETS - 4,
         SayParameters::Resync { serial, token, .. } => {
-            65526 - token_size(*token) - digit_count(*serial)
+            MOST_PARAMETER_OCTETS - 9 - token_size(*token) - digit_count(*serial)
         }
         SayParameters::Resynced { serial, token } => {
-            65529 - token_size(*token) - digit_count(*serial)
+            MOST_PARAMETER_OCTETS - 6 - token_size(*token) - digit_count(*serial)
         }
-        SayParameters::Abort => 65528,
+        SayParameters::Abort => MOST_PARAMETER_OCTETS - 7,
         SayParameters::Data { .. }
         | SayParameters::Check { .. }
         | SayParameters::Acknowledge { .. }

@@ -1,5 +1,5 @@
 //! One end of a session connection.
-ghost use Rattle.std.specs.Prelude.{◌≡◌, ◌++◌, [], ◌≤◌, None, false, IsTrue, List, ℕ, length, OnOk, OnErr};
+ghost use Rattle.std.specs.Prelude.{◌≡◌, ◌++◌, ◌+◌, [], ◌≤◌, None, false, IsTrue, List, ℕ, length, OnOk, OnErr};
 ghost use Rattle.std.specs.List.{AllByRecursion};
 ghost use Rattle.vf_session.specs.Advances.{Grows, kept_after};
 ghost use Rattle.vf_session_spdu.specs.Fields.{IsReadable};
@@ -9,6 +9,7 @@ ghost use Rattle.vf_session.specs.Rooms.{may_by};
 ghost use Rattle.vf_session.specs.Units.{with_data};
 ghost use Rattle.vf_session.specs.Sending.{may as may_say, spdus, holds_token};
 ghost use Rattle.vf_session_spdu.specs.Spelling.{IsWritten};
+ghost use Rattle.vf_session_spdu.specs.declared.limits.TheConstants.{LAST_SERIAL};
 ghost use Rattle.vf_session.specs.Trace.{Trace, next as next_of, state as state_of, with_sent};
 ghost use Rattle.vf_session.specs.Receiving.{receives as told_by};
 ghost use Rattle.vf_session.specs.declared.units.SessionSay.{SessionSay};
@@ -34,14 +35,15 @@ pub struct Session {
 }
 
 impl Model for Session {
-    ghost use Rattle.std.specs.Prelude.{◌≤◌};
+    ghost use Rattle.std.specs.Prelude.{◌≤◌, ◌+◌};
+    ghost use Rattle.vf_session_spdu.specs.declared.limits.TheConstants.{LAST_SERIAL};
     ghost use Rattle.vf_session.specs.Kept.{Kept};
 
     ghost Value = { Kept };
 
     ghost view = { λ s. record { side = s.side; offer = s.offer; state = s.state; token = s.before } };
 
-    ghost invariant = { λ s. (s.state.first ≤ 999999) × (s.state.oldest ≤ s.state.next) × (s.state.next ≤ 1000000) };
+    ghost invariant = { λ s. (s.state.first ≤ LAST_SERIAL) × (s.state.oldest ≤ s.state.next) × (s.state.next ≤ LAST_SERIAL + 1) };
 }
 
 /// Where a connection stands before anything was sent.
@@ -230,7 +232,7 @@ impl Session {
     pub fn next_serial(&self) -> u32
         ensures state { result ≡ self.now.state.next }
         ensures trace { (trace : Trace) → Represents self.now trace → result ≡ next_of trace }
-        ensures bound { result ≤ 1000000 }
+        ensures bound { result ≤ LAST_SERIAL + 1 }
     {
         self.state.next
     }

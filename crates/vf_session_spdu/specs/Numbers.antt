@@ -1,5 +1,6 @@
 -- Lengths (ISO 8327, 8.2.4) and serial numbers (8.3) as octets.
 use Rattle.std.specs.Prelude.{ℕ, ◌+◌, ◌-◌, ◌*◌, ◌/◌, ◌%◌, nat_lt, nat_le, List, [], ◌∷◌, length, slice_index, drop, fold, Option, None, Some, if◌then◌else◌}
+use Rattle.vf_session_spdu.specs.declared.limits.TheConstants.{LAST_SERIAL}
 
 -- a length in one octet up to 254, else after FF in two
 abbrev pub length_octets : ℕ → List ℕ
@@ -41,4 +42,4 @@ digit_count serial = 6 - leading_zeros serial
 
 -- the greatest serial number
 abbrev pub last_serial : ℕ
-last_serial = 999999
+last_serial = LAST_SERIAL

@@ -6,6 +6,7 @@ use Rattle.std.specs.Option.{option_map}
 use Rattle.vf_base.specs.declared.spdu_kind.SpduKind.{SpduKind}
 use Rattle.vf_base.specs.declared.spdu_kind.SpduKind.TheVariants.{CN, AC, RF, FN, DN, AB, AA, DT, GT, MIP, MIA, RS, RA}
 use Rattle.vf_session_spdu.specs.declared.spdu.Spdu.{Spdu}
+use Rattle.vf_session_spdu.specs.declared.limits.TheConstants.{MOST_CONNECT_OCTETS, MOST_PARAMETER_OCTETS}
 use Rattle.vf_session_spdu.specs.declared.spdu.SpduFields.{SpduFields}
 use Rattle.vf_session_spdu.specs.declared.table.Row.{Row}
 use Rattle.vf_session_spdu.specs.Fields.{no_fields}
@@ -114,7 +115,7 @@ HasResynced fields =
     (t n : ℕ) × IsSide t × (n ≤ last_serial) × (fields ≡ record no_fields { tokens = Some t; serial = Some n })
 
 abbrev pub HasFields : SpduKind → SpduFields → List ℕ → Type 0
-HasFields CN fields octets = HasUnits fields × (length octets ≤ 10240)
+HasFields CN fields octets = HasUnits fields × (length octets ≤ MOST_CONNECT_OCTETS)
 HasFields AC fields octets = HasUnits fields
 HasFields RF fields octets = HasReason fields octets
 HasFields FN fields octets = fields ≡ no_fields
@@ -131,7 +132,7 @@ HasFields RA fields octets = HasResynced fields
 -- an SPDU that has a spelling to write
 pub record IsWritten (spdu : Spdu) : Type 0 where
   pub has_fields : HasFields spdu.kind spdu.fields spdu.octets
-  pub room : length (spelled_parameters spdu) ≤ 65535
+  pub room : length (spelled_parameters spdu) ≤ MOST_PARAMETER_OCTETS
 
 -- Whoever reads what was written reads what is written, alone or after a GT.
 abbrev pub ReadsAlone : Spdu → Type 0

@@ -3,6 +3,7 @@ use Rattle.std.specs.Prelude.{◌≡◌, ℕ, ◌+◌, ◌≤◌, IsTrue, nat_eq
 use Rattle.std.specs.Borrow.{Bor}
 use Rattle.vf_session_spdu.specs.declared.errors.SpduError.{SpduError}
 use Rattle.vf_session_spdu.specs.declared.errors.SpduError.TheVariants.{Length}
+use Rattle.vf_session_spdu.specs.declared.limits.TheConstants.{MOST_PARAMETER_OCTETS}
 use Rattle.vf_session_spdu.specs.declared.table.Form.{Form}
 use Rattle.vf_session_spdu.specs.declared.spdu.Spdu.{Spdu}
 use Rattle.vf_session_spdu.specs.Reading.{Followed, place_after_gt}
@@ -12,7 +13,7 @@ use Rattle.vf_session_spdu.specs.Table.{fits}
 -- What follows an identifier was found, or its length is wrong.
 abbrev pub Measures : ℕ → List ℕ → Result (ℕ × Bor (List ℕ) × Bor (List ℕ)) SpduError → Type 0
 Measures place octets (Ok found) =
-    (measured octets ≡ whole found.0 found.1.now found.2.now) × (found.0 ≤ 3) × (length found.1.now ≤ 65535)
+    (measured octets ≡ whole found.0 found.1.now found.2.now) × (found.0 ≤ 3) × (length found.1.now ≤ MOST_PARAMETER_OCTETS)
     × (found.0 + (length found.1.now + length found.2.now) ≡ length octets)
 Measures place octets (Err fault) = (measured octets ≡ short) × (fault ≡ Length (place + 1))
 

@@ -8,6 +8,7 @@ use Rattle.std.specs.Prelude.{ℕ, Bool, true, false, ◌&&◌, ◌||◌, nat_eq
 use Rattle.std.specs.List.{list_all, list_any}
 use Rattle.vf_base.specs.declared.spdu_kind.SpduKind.{SpduKind}
 use Rattle.vf_base.specs.declared.spdu_kind.SpduKind.TheVariants.{CN, AC, RF, FN, DN, AB, AA, DT, GT, MIP, MIA, RS, RA}
+use Rattle.vf_session_spdu.specs.declared.limits.TheConstants.{MOST_CONNECT_OCTETS}
 use Rattle.vf_session_spdu.specs.declared.table.Form.{Form}
 use Rattle.vf_session_spdu.specs.declared.table.Form.TheVariants.{Fixed, Either, Octet, Pair, Digits, Reasoned, AtMost, UserData}
 use Rattle.vf_session_spdu.specs.declared.table.Row.{Row}
@@ -25,7 +26,7 @@ in_item code form = record { group = 5; code = code; form = form; required = fal
 -- requirements; 193 user data, 194 extended user data; 50 reason code; 17 transport disconnect; 16 token item;
 -- 42 serial number; 27 resync type
 abbrev pub rows : SpduKind → List Row
-rows CN = in_item 19 (Fixed 0) ∷ in_item 22 (Fixed 2) ∷ in_item 23 Digits ∷ in_item 26 (Fixed 0) ∷ required 20 Pair ∷ optional 193 (AtMost 512) ∷ optional 194 (AtMost 10240) ∷ []
+rows CN = in_item 19 (Fixed 0) ∷ in_item 22 (Fixed 2) ∷ in_item 23 Digits ∷ in_item 26 (Fixed 0) ∷ required 20 Pair ∷ optional 193 (AtMost 512) ∷ optional 194 (AtMost MOST_CONNECT_OCTETS) ∷ []
 rows AC = in_item 19 (Fixed 0) ∷ in_item 22 (Fixed 2) ∷ in_item 23 Digits ∷ in_item 26 (Fixed 0) ∷ required 20 Pair ∷ optional 193 UserData ∷ []
 rows RF = required 50 Reasoned ∷ []
 rows FN = optional 193 UserData ∷ []

@@ -5,6 +5,7 @@
 mod errors;
 mod kinds;
 mod laws;
+mod limits;
 mod numbers;
 mod parts;
 mod reading;
@@ -15,6 +16,7 @@ mod writing;
 pub use errors::SpduError;
 pub use kinds::code_of;
 pub use laws::written_is_read_again;
+pub use limits::{LAST_SERIAL, MOST_CONNECT_OCTETS, MOST_PARAMETER_OCTETS};
 pub use numbers::digit_count;
 pub use reading::{fault_place, place_after_gt, read};
 pub use spdu::{Spdu, SpduFields};

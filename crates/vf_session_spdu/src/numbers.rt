@@ -2,6 +2,7 @@
 ghost use Rattle.std.specs.Prelude.{◌≡◌, ◌≤◌, ◌+◌, ◌%◌, IsTrue, length};
 ghost use Rattle.vf_session_spdu.specs.Numbers.{length_at as length_read, number as number_of, six_digits as six, leading_zeros as zeros, digit_count as digits_in};
 ghost use Rattle.vf_session_spdu.specs.Table.{fits};
+ghost use Rattle.vf_session_spdu.specs.declared.limits.TheConstants.{LAST_SERIAL};
 ghost use Rattle.vf_session_spdu.specs.declared.table.Form.TheVariants as forms;
 
 /// How many octets spell the length that these octets begin with, 1 or 3, and its number, 0 to 65,535; none where it is
@@ -25,7 +26,7 @@ pub(crate) fn length_at(octets: &[u8]) -> Option<(usize, usize)>
 pub(crate) fn number(digits: &[u8]) -> u32
     requires { IsTrue (fits forms.Digits digits.now) }
     ensures value { result ≡ number_of digits.now }
-    ensures bound { result ≤ 999999 }
+    ensures bound { result ≤ LAST_SERIAL }
 {
     let mut sum = 0;
     for digit in digits {

@@ -6,6 +6,7 @@ ghost use Rattle.vf_session_spdu.specs.Fields.{Gives, IsReadable};
 ghost use Rattle.vf_session_spdu.specs.Grammar.{Holds};
 ghost use Rattle.vf_session_spdu.specs.Reading.{assembled, nothing_after, one as one_read, reading, second as second_read, place_after_gt as place_read, fault_place as place_of_fault};
 ghost use Rattle.vf_session_spdu.specs.Steps.{place_if_gt, viewed};
+ghost use Rattle.vf_session_spdu.specs.declared.limits.TheConstants.{MOST_PARAMETER_OCTETS};
 ghost use Rattle.vf_session_spdu.specs.declared.spdu.Spdu.{Spdu};
 
 use crate::kinds::{first_kind, is_dt, is_gt, second_kind};
@@ -95,7 +96,7 @@ fn one(
 ) -> Result<(Spdu, usize, &[u8]), SpduError>
     requires { place < 2 ^ 30 }
     ensures exact { Gives (λ x. viewed x.0 x.1 x.2.now) result (one_read kind place octets.now) }
-    ensures bound { IfOk result (λ x. x.1 ≤ place + 65539) }
+    ensures bound { IfOk result (λ x. x.1 ≤ place + 4 + MOST_PARAMETER_OCTETS) }
 {
     let (spelled, value, more) = value_at(place, octets)?;
     let at = place + 1 + spelled;

@@ -5,6 +5,7 @@ ghost use Rattle.vf_session_spdu.specs.Fields.{is_absent as absent};
 ghost use Rattle.vf_session_spdu.specs.Table.{fits as is_fit, is_digit as digit, opens as opens_group, row_at as row_found, rows as rows_of};
 
 use crate::SpduFields;
+use crate::limits::MOST_CONNECT_OCTETS;
 use vf_base::SpduKind;
 
 /// What the octets of a parameter's value are to be.
@@ -52,7 +53,7 @@ const CONNECT: [Row; 7] = [
     row!(5, 26, Form::Fixed(0), false),
     row!(0, 20, Form::Pair, true),
     row!(0, 193, Form::AtMost(512), false),
-    row!(0, 194, Form::AtMost(10240), false),
+    row!(0, 194, Form::AtMost(MOST_CONNECT_OCTETS), false),
 ];
 
 const ACCEPT: [Row; 6] = [

@@ -2,6 +2,7 @@
 ghost use Rattle.std.specs.Prelude.{◌≡◌, ◌++◌, ◌≤◌, ◌<◌, length, OnOk, OnErr, nat_eq, filter};
 ghost use Rattle.std.specs.List.{flat_map};
 ghost use Rattle.std.specs.Option.{option_map};
+ghost use Rattle.vf_session_spdu.specs.declared.limits.TheConstants.{MOST_PARAMETER_OCTETS};
 ghost use Rattle.vf_session_spdu.specs.Numbers.{length_octets, digits};
 ghost use Rattle.vf_session_spdu.specs.Spelling.{IsWritten, spelling, spelled, spelled_if, spelled_row, spelled_group, spelled_parameters, octet, two_octets, first_data, second_data, reasoned, octets_after as data_after};
 
@@ -54,7 +55,7 @@ fn data_of(spdu: &Spdu) -> &[u8]
 
 /// Appends the parameters of an SPDU.
 fn put_parameters(alloc: Global, spdu: &Spdu, out: &mut Vec<u8>) -> Result<(), NoMemory>
-    requires { length (spelled_parameters spdu.now) ≤ 65535 }
+    requires { length (spelled_parameters spdu.now) ≤ MOST_PARAMETER_OCTETS }
     ensures { OnOk result (out.new.items ≡ out.old.items ++ spelled_parameters spdu.now) }
 {
     if opens(spdu.kind, 5) {
@@ -68,7 +69,7 @@ fn put_parameters(alloc: Global, spdu: &Spdu, out: &mut Vec<u8>) -> Result<(), N
 
 /// Appends the parameters of one group, or those in none.
 fn put_group(alloc: Global, spdu: &Spdu, group: u8, out: &mut Vec<u8>) -> Result<(), NoMemory>
-    requires { length (spelled_group spdu.now group) ≤ 65535 }
+    requires { length (spelled_group spdu.now group) ≤ MOST_PARAMETER_OCTETS }
     ensures { OnOk result (out.new.items ≡ out.old.items ++ spelled_group spdu.now group) }
 {
     put_rows(alloc, rows(spdu.kind), spdu, group, out)?;
@@ -82,7 +83,7 @@ fn put_rows(
     group: u8,
     out: &mut Vec<u8>,
 ) -> Result<(), NoMemory>
-    requires { length (flat_map (spelled_row spdu.now) (filter (λ row. nat_eq row.group group) rows.now)) ≤ 65535 }
+    requires { length (flat_map (spelled_row spdu.now) (filter (λ row. nat_eq row.group group) rows.now)) ≤ MOST_PARAMETER_OCTETS }
     ensures { OnOk result (out.new.items ≡ out.old.items ++ flat_map (spelled_row spdu.now) (filter (λ row. nat_eq row.group group) rows.now)) }
 {
     for row in rows {
@@ -95,7 +96,7 @@ fn put_rows(
 
 /// Appends what is written in a row, if anything.
 fn put_row(alloc: Global, row: Row, spdu: &Spdu, out: &mut Vec<u8>) -> Result<(), NoMemory>
-    requires { length (spelled_row spdu.now row) ≤ 65535 }
+    requires { length (spelled_row spdu.now row) ≤ MOST_PARAMETER_OCTETS }
     ensures { OnOk result (out.new.items ≡ out.old.items ++ spelled_row spdu.now row) }
 {
     let fields = &spdu.fields;
@@ -118,7 +119,7 @@ fn put_row(alloc: Global, row: Row, spdu: &Spdu, out: &mut Vec<u8>) -> Result<()
 
 /// Appends a parameter: identifier, length, value. A value is at most 65,535 octets long.
 fn put(code: u8, value: &[u8], out: &mut Vec<u8>) -> Result<(), NoMemory>
-    requires { length value.now ≤ 65535 }
+    requires { length value.now ≤ MOST_PARAMETER_OCTETS }
     ensures { OnOk result (out.new.items ≡ out.old.items ++ spelled code value.now) }
 {
     let size = value.len();
@@ -168,7 +169,7 @@ fn put_reason(
     octets: &[u8],
     out: &mut Vec<u8>,
 ) -> Result<(), NoMemory>
-    requires { length (spelled_if code (option_map (reasoned octets.now) field)) ≤ 65535 }
+    requires { length (spelled_if code (option_map (reasoned octets.now) field)) ≤ MOST_PARAMETER_OCTETS }
     ensures { OnOk result (out.new.items ≡ out.old.items ++ spelled_if code (option_map (reasoned octets.now) field)) }
 {
     if let Some(reason) = field {
@@ -181,7 +182,7 @@ fn put_reason(
 
 /// Appends user data, where there is some and this row has room for it.
 fn put_data(row: Row, octets: &[u8], out: &mut Vec<u8>) -> Result<(), NoMemory>
-    requires { length (spelled_if row.code (first_data row octets.now)) ≤ 65535 }
+    requires { length (spelled_if row.code (first_data row octets.now)) ≤ MOST_PARAMETER_OCTETS }
     ensures { OnOk result (out.new.items ≡ out.old.items ++ spelled_if row.code (first_data row octets.now)) }
 {
     if !octets.is_empty() && row.form.fits(octets) {
@@ -192,7 +193,7 @@ fn put_data(row: Row, octets: &[u8], out: &mut Vec<u8>) -> Result<(), NoMemory>
 
 /// Appends user data of more than 512 octets.
 fn put_long_data(code: u8, octets: &[u8], out: &mut Vec<u8>) -> Result<(), NoMemory>
-    requires { length (spelled_if code (second_data octets.now)) ≤ 65535 }
+    requires { length (spelled_if code (second_data octets.now)) ≤ MOST_PARAMETER_OCTETS }
     ensures { OnOk result (out.new.items ≡ out.old.items ++ spelled_if code (second_data octets.now)) }
 {
     if octets.len() > 512 {

@@ -5,6 +5,7 @@ use Rattle.std.specs.List.{list_any, flat_map}
 use Rattle.vf_tpkt.specs.declared.error.TpktError.{TpktError}
 use Rattle.vf_tpkt.specs.declared.kind.Kind.{Kind}
 use Rattle.vf_tpkt.specs.declared.kind.Kind.TheVariants.{Cr}
+use Rattle.vf_tpkt.specs.declared.limits.TheConstants.{MOST_TPDU_OCTETS}
 use Rattle.vf_tpkt.specs.declared.phase.Side.{Side}
 use Rattle.vf_tpkt.specs.declared.phase.Phase.{Phase}
 use Rattle.vf_tpkt.specs.declared.phase.Phase.TheVariants.{First, Open, Over}
@@ -15,7 +16,7 @@ use Rattle.vf_tpkt.specs.Tpdu.{packet, data_of, is_last, data_size, proposal, an
 
 -- A packet has a TPDU of at least three octets, and at most 65,535 octets in all.
 abbrev pub IsTpdu : List ℕ → Type 0
-IsTpdu tpdu = (3 ≤ length tpdu) × (length tpdu ≤ 65531)
+IsTpdu tpdu = (3 ≤ length tpdu) × (length tpdu ≤ MOST_TPDU_OCTETS)
 
 abbrev pub code_of : List ℕ → ℕ
 code_of tpdu = slice_index tpdu 1

@@ -8,6 +8,7 @@ ghost use Rattle.vf_tpkt.specs.Parameters.{sizes as sizes_of};
 
 use crate::form::{LAST, has_fixed, has_lengths, may_come};
 use crate::kind::{Kind, kind_of};
+use crate::limits::MOST_TPDU_OCTETS;
 use crate::parameters::{SIZE, sizes};
 use crate::{Phase, Side, TpktError, Unit};
 use std::alloc::Global;
@@ -15,8 +16,8 @@ use std::marker::Model;
 use std::mem;
 use vf_base::{MOST_VALUE_OCTETS, NoMemory, Octets};
 
-/// The data of a DT where no size is agreed: a packet of 65,535 octets without the headers of packet and DT.
-pub(crate) const DATA: usize = 65_528;
+/// The most data of a DT, where no size is agreed: a TPDU without its header.
+pub(crate) const DATA: usize = MOST_TPDU_OCTETS - 3;
 
 /// One end of a connection.
 #[derive(Drop)]

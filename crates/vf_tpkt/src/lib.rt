@@ -7,6 +7,7 @@ mod error;
 mod form;
 mod kind;
 mod laws;
+mod limits;
 mod packet;
 mod parameters;
 mod phase;
@@ -17,6 +18,7 @@ pub use error::TpktError;
 pub use laws::{
     ends_connect, packets_tell_the_reading, pieces_tell_all, sent_is_received, stream_holds_tpdus,
 };
+pub use limits::{MOST_PACKET_OCTETS, MOST_TPDU_OCTETS};
 pub use phase::{Phase, Side};
 pub use tpkt::Tpkt;
 pub use unit::Unit;

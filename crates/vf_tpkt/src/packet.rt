@@ -3,6 +3,7 @@ ghost use Rattle.std.specs.Prelude.{◌≡◌, ◌<◌, ◌≤◌, IfOk, length}
 ghost use Rattle.vf_tpkt.specs.Receiving.{first_packet};
 ghost use Rattle.vf_tpkt.specs.Steps.{FitsOne, Wants};
 ghost use Rattle.vf_tpkt.specs.Wanting.{lacking};
+ghost use Rattle.vf_tpkt.specs.declared.limits.TheConstants.{MOST_PACKET_OCTETS};
 
 use crate::TpktError;
 
@@ -15,7 +16,7 @@ pub(crate) fn wanted(place: u64, packet: &[u8]) -> Result<usize, TpktError>
     requires { FitsOne packet.now }
     ensures wants { Wants place packet.now result }
     ensures exact { IfOk result (λ count. count ≡ lacking packet.now) }
-    ensures bound { IfOk result (λ count. count ≤ 65535) }
+    ensures bound { IfOk result (λ count. count ≤ MOST_PACKET_OCTETS) }
 {
     if !packet.is_empty() && packet[0] != 3 {
         return Err(TpktError::Version { at: place });

@@ -7,6 +7,7 @@ ghost use Rattle.vf_tpkt.specs.Pieces.{Tells, TellsPiece};
 ghost use Rattle.vf_tpkt.specs.Sending.{stands as stands_now, sent, most_of};
 ghost use Rattle.vf_tpkt.specs.Steps.{FitsOne, Looks, Moves, ReceivesAll};
 ghost use Rattle.vf_tpkt.specs.Tpdu.{packet, request};
+ghost use Rattle.vf_tpkt.specs.declared.limits.TheConstants.{MOST_PACKET_OCTETS};
 
 use crate::connection::Connection;
 use crate::data::write_tsdu;
@@ -122,7 +123,7 @@ impl Tpkt {
         received && self.connection.stands()
     }
 
-    /// Appends the packets of this TSDU, cut by the size that was agreed: TPDUs of that size or of 65,531 octets,
+    /// Appends the packets of this TSDU, cut by the size that was agreed: TPDUs of that size or of the most octets,
     /// with 3 octets of header each. Without memory nothing is appended.
     pub fn wrap(&self, _alloc: Global, tsdu: &[u8], out: &mut Vec<u8>) -> Result<(), NoMemory>
         requires stands { IsTrue (stands_now self.now) }
@@ -143,10 +144,10 @@ impl Tpkt {
 
     /// How many octets may come before a unit, an answer or a fault is told: those that a packet's header lacks, or those
     /// that the packet lacks. Fed at most so many, `feed` tells one thing at most, at the last of them or at a fault, after
-    /// which it tells nothing. At least 1 and at most 65,535.
+    /// which it tells nothing. At least 1 and at most a packet's.
     pub fn wanted(&self) -> usize
         ensures some { 1 ≤ result }
-        ensures bound { result ≤ 65535 }
+        ensures bound { result ≤ MOST_PACKET_OCTETS }
         ensures exact { result ≡ lacking self.now.packet }
         ensures once { TellsOnce self.now result }
     {
@@ -157,7 +158,7 @@ impl Tpkt {
     /// isn't ended. They are none after an error.
     pub fn held(&self) -> u64
         ensures held { result ≡ length self.now.packet + length self.now.connection.tsdu }
-        ensures bound { result ≤ MOST_VALUE_OCTETS + 65535 }
+        ensures bound { result ≤ MOST_VALUE_OCTETS + MOST_PACKET_OCTETS }
     {
         let packet = octets_in_part(self.connection.place(), self.packet.as_slice());
         packet as u64 + self.connection.data_held() as u64
@@ -168,7 +169,7 @@ impl Tpkt {
 fn most_wanted(place: u64, packet: &[u8]) -> usize
     requires { first_packet place packet.now ≡ part }
     ensures some { 1 ≤ result }
-    ensures bound { result ≤ 65535 }
+    ensures bound { result ≤ MOST_PACKET_OCTETS }
     ensures exact { result ≡ lacking packet.now }
     ensures fits { (more : List ℕ) → length more ≤ result → FitsOne (packet.now ++ more) }
 {
@@ -179,7 +180,7 @@ fn most_wanted(place: u64, packet: &[u8]) -> usize
 fn octets_in_part(place: u64, packet: &[u8]) -> usize
     requires { first_packet place packet.now ≡ part }
     ensures octets { result ≡ length packet.now }
-    ensures bound { result ≤ 65535 }
+    ensures bound { result ≤ MOST_PACKET_OCTETS }
 {
     packet.len()
 }

@@ -10,4 +10,4 @@ mod sending;
 pub use errors::{TransferError, Unknown};
 pub use laws::{last_is_offered, next_joins, point_stands, recovers};
 pub use receiving::Receiving;
-pub use sending::Sending;
+pub use sending::{SERIAL_NUMBERS, Sending};

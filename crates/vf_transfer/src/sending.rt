@@ -27,8 +27,8 @@ impl Model for Sending {
     ghost invariant = { λ sending. sending.sent ≤ length sending.elements.items };
 }
 
-/// The first serial number that has seven digits, and so is never said.
-const SERIALS: u32 = 1_000_000;
+/// How many serial numbers there are, 0 to 999,999 (ISO 8327, six digits).
+pub const SERIAL_NUMBERS: u32 = 1_000_000;
 
 impl Sending {
     ghost use Rattle.std.specs.Borrow.{sem};
@@ -69,7 +69,7 @@ impl Sending {
         ensures more { OnOk result (offered self.new.checks ≡ offered self.old.checks + 1) }
         ensures ok { OnOk result ((entries : List Entry) → RepresentsSent self.old entries → RepresentsSent self.new (Check ∷ entries)) }
         ensures window { (result ≡ Err TransferError.Window) ↔ (is_full self.old.checks ≡ true) }
-        ensures serials { (result ≡ Err TransferError.SerialsSpent) ↔ ((is_full self.old.checks ≡ false) × (next_serial ≡ 1000000)) }
+        ensures serials { (result ≡ Err TransferError.SerialsSpent) ↔ ((is_full self.old.checks ≡ false) × (next_serial ≡ SERIAL_NUMBERS)) }
         ensures elements { self.new.elements ≡ self.old.elements }
         ensures limits { KeepLimits self.old.checks self.new.checks }
         ensures err { OnErr result (self.new ≡ self.old) }
@@ -77,7 +77,7 @@ impl Sending {
         if self.checks.is_full() {
             return Err(TransferError::Window);
         }
-        if next_serial == SERIALS {
+        if next_serial == SERIAL_NUMBERS {
             return Err(TransferError::SerialsSpent);
         }
         let number = self.checks.offer(self.sent)?;
