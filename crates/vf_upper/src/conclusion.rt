@@ -99,8 +99,7 @@ fn is_application(label: NameLabel) -> bool
 fn offers_ber(marks: &[Mark]) -> bool
     ensures { result ≡ ber_offered (map mark_of marks.now) }
 {
-    let mut rest = marks;
-    while let Some((mark, others)) = rest.split_first() {
+    for mark in marks {
         let Mark::Name { label, oid } = mark else {
             return false;
         };
@@ -110,7 +109,6 @@ fn offers_ber(marks: &[Mark]) -> bool
         if is_ber(oid) {
             return true;
         }
-        rest = others;
     }
     false
 }
@@ -151,14 +149,12 @@ fn results_of(alloc: Global, marks: &[Mark]) -> Result<Results, NoMemory>
     ensures { IfOk result (λ made. made ≡ results_in (map mark_of marks.now)) }
 {
     let mut made = Results::new(alloc);
-    let mut rest = marks;
-    while let Some((mark, others)) = rest.split_first() {
+    for mark in marks {
         if let Mark::Number { label, n } = mark {
             if is_outcome(*label) {
                 made.push(*n == 0)?;
             }
         }
-        rest = others;
     }
     Ok(made)
 }
@@ -236,12 +232,10 @@ fn refused(negotiated: Negotiated<'_>, mark: &Mark) -> Option<UpperError>
 fn refusal(negotiated: Negotiated<'_>, marks: &[Mark]) -> Option<UpperError>
     ensures { result ≡ first_refusal (negotiated_of negotiated.entry) (map mark_of marks.now) }
 {
-    let mut rest = marks;
-    while let Some((mark, others)) = rest.split_first() {
+    for mark in marks {
         if let Some(error) = refused(negotiated, mark) {
             return Some(error);
         }
-        rest = others;
     }
     None
 }

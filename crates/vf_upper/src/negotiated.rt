@@ -12,12 +12,10 @@ use vf_upper_grammar::{is_acse, is_ours};
 pub(crate) fn accepted_syntax(contexts: &[ContextEntry], id: i64) -> Option<&Oid>
     ensures { option_copied result ≡ syntax_of id (map (with_result true) contexts.now) }
 {
-    let mut rest = contexts;
-    while let Some((entry, others)) = rest.split_first() {
+    for entry in contexts {
         if entry.id == id {
             return Some(&entry.syntax);
         }
-        rest = others;
     }
     None
 }
@@ -30,14 +28,12 @@ pub(crate) fn answered_syntax<'a>(
 ) -> Option<&'a Oid>
     ensures { option_copied result ≡ syntax_of id (answered contexts.now results.now) }
 {
-    let mut rest = contexts;
     let mut answers = results;
-    while let Some((entry, others)) = rest.split_first() {
+    for entry in contexts {
         let (accepted, after) = answer(answers);
         if entry.id == id {
             return if accepted { Some(&entry.syntax) } else { None };
         }
-        rest = others;
         answers = after;
     }
     None
@@ -57,8 +53,7 @@ fn answer(results: &[bool]) -> (bool, &[bool])
 pub(crate) fn offered_syntax(offers: &[Offer], id: i64) -> Option<&Oid>
     ensures { option_copied result ≡ syntax_of id (map offered offers.now) }
 {
-    let mut rest = offers;
-    while let Some((offer, others)) = rest.split_first() {
+    for offer in offers {
         if offer.id == id {
             return if offer.ber && is_ours(&offer.syntax) {
                 Some(&offer.syntax)
@@ -66,7 +61,6 @@ pub(crate) fn offered_syntax(offers: &[Offer], id: i64) -> Option<&Oid>
                 None
             };
         }
-        rest = others;
     }
     None
 }
@@ -75,14 +69,12 @@ pub(crate) fn offered_syntax(offers: &[Offer], id: i64) -> Option<&Oid>
 pub(crate) fn acse_id(contexts: &[ContextEntry]) -> i64
     ensures { result ≡ acse_context contexts.now }
 {
-    let mut rest = contexts;
-    while let Some((entry, others)) = rest.split_first() {
+    for entry in contexts {
         if let Some(syntax) = accepted_syntax(contexts, entry.id)
             && is_acse(syntax)
         {
             return entry.id;
         }
-        rest = others;
     }
     0
 }

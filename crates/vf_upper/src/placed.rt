@@ -39,12 +39,10 @@ fn has_pdu(
 fn all_offer_ber(offers: &[Offer]) -> bool
     ensures { result ≡ list_all (λ offer. offer.ber) offers.now }
 {
-    let mut rest = offers;
-    while let Some((offer, others)) = rest.split_first() {
+    for offer in offers {
         if !offer.ber {
             return false;
         }
-        rest = others;
     }
     true
 }
@@ -52,8 +50,7 @@ fn all_offer_ber(offers: &[Offer]) -> bool
 fn all_suit(contexts: &[ContextEntry], values: &[CarriedValue]) -> bool
     ensures { result ≡ list_all (λ value. suits_test (accepted contexts.now) NumberLabel.AnyContext value.context) (map carried_of values.now) }
 {
-    let mut rest = values;
-    while let Some((value, others)) = rest.split_first() {
+    for value in values {
         if !suits_in(
             Negotiated::Accepted(contexts),
             NumberLabel::AnyContext,
@@ -61,7 +58,6 @@ fn all_suit(contexts: &[ContextEntry], values: &[CarriedValue]) -> bool
         ) {
             return false;
         }
-        rest = others;
     }
     true
 }

@@ -122,10 +122,8 @@ fn all_carried(depth: u32, values: &[CarriedValue]) -> Option<u32>
     ensures { result ≡ all_lengths (Some 0) (map (carried_length depth) (map carried_of values.now)) }
 {
     let mut total = Some(0);
-    let mut rest = values;
-    while let Some((value, others)) = rest.split_first() {
+    for value in values {
         total = both(total, carried_size(depth, value));
-        rest = others;
     }
     total
 }
@@ -157,10 +155,8 @@ fn proposals_size(offers: &[Offer]) -> Option<u32>
     ensures { result ≡ listed_size (map proposal_length offers.now) }
 {
     let mut total = Some(0);
-    let mut rest = offers;
-    while let Some((offer, others)) = rest.split_first() {
+    for offer in offers {
         total = both(total, proposal_size(offer));
-        rest = others;
     }
     wrapped(total)
 }
@@ -176,10 +172,8 @@ fn outcomes_size(results: &[bool]) -> Option<u32>
     ensures { result ≡ listed_size (map outcome_length results.now) }
 {
     let mut total = Some(0);
-    let mut rest = results;
-    while let Some((accepted, others)) = rest.split_first() {
+    for accepted in results {
         total = both(total, outcome_size(*accepted));
-        rest = others;
     }
     wrapped(total)
 }

@@ -47,12 +47,10 @@ pub(crate) fn is_known(carrier: SpduKind, fields: &[Field], first: u8) -> bool
     ensures { result ≡ known (map (field_of carrier) fields.now) first }
 {
     let _ = carrier;
-    let mut rest = fields;
-    while let Some((field, others)) = rest.split_first() {
+    for field in fields {
         if has_tag(*field, first) {
             return true;
         }
-        rest = others;
     }
     false
 }
@@ -61,12 +59,10 @@ fn is_one_required(carrier: SpduKind, fields: &[Field]) -> bool
     ensures { result ≡ list_any (λ field. field.is_required) (map (field_of carrier) fields.now) }
 {
     let _ = carrier;
-    let mut rest = fields;
-    while let Some((field, others)) = rest.split_first() {
+    for field in fields {
         if field.is_required {
             return true;
         }
-        rest = others;
     }
     false
 }

@@ -1,10 +1,7 @@
-use Rattle.std.proofs.Common.{◌≡◌, length}
+use Rattle.std.proofs.Common.{◌≡◌, drop}
 use Rattle.vf_upper_grammar.specs.Syntaxes.{acse}
 use Rattle.vf_upper.specs.Written.{id_among}
 use Rattle.vf_upper.proofs.negotiated.acse_id.Given as goal
 
 abbrev pub invariant-loop-entry : goal.invariant-loop-entry
-invariant-loop-entry l = id_among l.fn.contexts acse l.rest ≡ id_among l.fn.contexts acse l.fn.contexts
-
-abbrev pub decreases-loop-entry : goal.decreases-loop-entry
-decreases-loop-entry l = length l.rest
+invariant-loop-entry l = id_among l.fn.contexts acse (drop l.entry-index l.fn.contexts) ≡ id_among l.fn.contexts acse l.fn.contexts

@@ -1,4 +1,4 @@
-use Rattle.std.proofs.Common.{◌≡◌, length, map}
+use Rattle.std.proofs.Common.{◌≡◌, drop, map}
 use Rattle.std.specs.List.{list_all}
 use Rattle.vf_upper.specs.Carried.{carried_of}
 use Rattle.vf_upper.specs.Written.{accepted, suits_in}
@@ -6,7 +6,4 @@ use Rattle.vf_upper_grammar.specs.declared.labels.NumberLabel.TheVariants.{AnyCo
 use Rattle.vf_upper.proofs.placed.all_suit.Given as goal
 
 abbrev pub invariant-loop-value : goal.invariant-loop-value
-invariant-loop-value l = list_all (λ value. suits_in (accepted l.contexts) AnyContext value.context) (map carried_of l.fn.values) ≡ list_all (λ value. suits_in (accepted l.contexts) AnyContext value.context) (map carried_of l.rest)
-
-abbrev pub decreases-loop-value : goal.decreases-loop-value
-decreases-loop-value l = length l.rest
+invariant-loop-value l = list_all (λ value. suits_in (accepted l.contexts) AnyContext value.context) (map carried_of l.fn.values) ≡ list_all (λ value. suits_in (accepted l.contexts) AnyContext value.context) (map carried_of (drop l.value-index l.fn.values))

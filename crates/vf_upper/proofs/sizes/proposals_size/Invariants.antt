@@ -1,10 +1,7 @@
-use Rattle.std.proofs.Common.{◌≡◌, length, map}
+use Rattle.std.proofs.Common.{◌≡◌, drop, map}
 use Rattle.std.specs.Prelude.{Some}
 use Rattle.vf_upper.specs.Sizes.{all, proposal_size}
 use Rattle.vf_upper.proofs.sizes.proposals_size.Given as goal
 
 abbrev pub invariant-loop-offer : goal.invariant-loop-offer
-invariant-loop-offer l = all l.total (map proposal_size l.rest) ≡ all (Some 0) (map proposal_size l.fn.offers)
-
-abbrev pub decreases-loop-offer : goal.decreases-loop-offer
-decreases-loop-offer l = length l.rest
+invariant-loop-offer l = all l.total (map proposal_size (drop l.offer-index l.fn.offers)) ≡ all (Some 0) (map proposal_size l.fn.offers)
