@@ -19,6 +19,8 @@ use Rattle.vf_upper.specs.declared.errors.UpperError.{UpperError}
 use Rattle.vf_upper.specs.declared.errors.UpperError.TheVariants.{Grammar}
 use Rattle.vf_upper.specs.CarriedCode.{Carried}
 use Rattle.vf_upper.specs.Primitives.{admitted, answered, is_bare, Negotiated, negotiated_in, reading, refusal, syntax_of}
+use Rattle.vf_upper_grammar.specs.FaultPlaces.{fault_places, IsLeast}
+use Rattle.vf_upper_grammar.specs.Faults.{Places}
 use Rattle.vf_upper_grammar.specs.Modules.{meaning_of, meant}
 use Rattle.vf_upper.specs.Written.{accepted, holding, is_placed, IsWritable, universal, user_octets, written}
 
@@ -129,3 +131,18 @@ abbrev pub IsAnswered : Type 0
 IsAnswered =
     (kind : SpduKind) (contexts : List ContextEntry) (octets : List ℕ) → is_bare kind octets ≡ false
     → MatchOption (meant (meaning_of kind) octets) (IsGrammar (reading kind contexts octets)) (λ marks. reading kind contexts octets ≡ admitted kind marks (refusal (negotiated_in kind contexts marks) marks))
+
+-- ---- which fault is told
+
+-- a fault of the form, by all the places of one; other answers tell that there is none
+abbrev pub TellsLeast : Result Primitive UpperError → Places → Type 0
+TellsLeast (Ok primitive) places = places ≡ []
+TellsLeast (Err (Grammar at)) places = IsLeast places at
+TellsLeast (Err error) places = places ≡ []
+
+-- User data that aren't absent have no fault of the form, or are answered by the least place of one. So a context or an
+-- application that isn't admitted is told only of user data whose form is right.
+abbrev pub LeastIsAnswered : Type 0
+LeastIsAnswered =
+    (kind : SpduKind) (contexts : List ContextEntry) (octets : List ℕ) → is_bare kind octets ≡ false
+    → TellsLeast (reading kind contexts octets) (fault_places kind octets)

@@ -1,11 +1,17 @@
 //! Laws of writing and reading, each the contract of a function that does nothing.
-ghost use Rattle.vf_upper.specs.Laws.{HasRoom, IsAnswered, IsReadAgain, IsReadInResynchronizations};
+ghost use Rattle.vf_upper.specs.Laws.{HasRoom, IsAnswered, IsReadAgain, IsReadInResynchronizations, LeastIsAnswered};
 
 /// User data are answered by what they mean: where they are one value of the type of their SPDU, in whatever spelling, by
 /// the numbers, names and values that this value holds by the modules of presentation (ISO 8823) and ACSE (ISO 8650-1);
 /// else by a fault of the form.
 pub fn what_is_read_is_meant()
     ensures { IsAnswered }
+{}
+
+/// Where user data are answered by a fault of the form, its place is the least of all the places at which they have one
+/// by the types of presentation (ISO 8823) and ACSE (ISO 8650-1); with every other answer they have none.
+pub fn the_least_fault_is_answered()
+    ensures { LeastIsAnswered }
 {}
 
 /// The user data that are written for a primitive within the limits are read as this primitive. An acceptance or a

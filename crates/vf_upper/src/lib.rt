@@ -20,8 +20,8 @@ mod writing;
 pub use contexts::{ContextEntry, Contexts, Offer, Offers};
 pub use errors::UpperError;
 pub use laws::{
-    resynchronizations_are_read_again, small_values_have_room, what_is_read_is_meant,
-    written_is_read_again,
+    resynchronizations_are_read_again, small_values_have_room, the_least_fault_is_answered,
+    what_is_read_is_meant, written_is_read_again,
 };
 pub use placed::is_writable;
 pub use primitive::Primitive;

@@ -4,6 +4,11 @@ pub mod Chosen
 pub mod Ends
 pub mod HeldMeant
 mod InTurn
+pub mod Least
+pub mod LeastChosen
+pub mod LeastHeld
+pub mod LeastOrdered
+pub mod LeastTypes
 mod Locations
 mod Numbers
 pub mod Ordered

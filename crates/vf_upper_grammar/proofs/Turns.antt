@@ -17,7 +17,7 @@ counted_by n octets = elim (cases_lt n (length octets)) [
 ]
 
 -- contents and the octets after them are apart
-piece-within : (count : Option ℕ) (octets : List ℕ) → length (piece_of count octets).octets + length (piece_of count octets).rest ≤ length octets
+pub piece-within : (count : Option ℕ) (octets : List ℕ) → length (piece_of count octets).octets + length (piece_of count octets).rest ≤ length octets
 piece-within None octets = piece_by octets (after_end octets) (end-shortens octets)
 piece-within (Some n) octets = counted_by n octets
 

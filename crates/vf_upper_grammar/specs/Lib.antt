@@ -1,4 +1,6 @@
 pub mod ValueViews
+pub mod FaultPlaces
+pub mod Faults
 pub mod Forms
 pub mod HeldViews
 pub mod MarkViews

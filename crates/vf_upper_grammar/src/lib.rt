@@ -20,6 +20,6 @@ mod walk;
 
 pub use finding::find;
 pub use labels::{NameLabel, NumberLabel};
-pub use laws::what_is_found_is_meant;
+pub use laws::{the_least_fault_is_told, what_is_found_is_meant};
 pub use marks::{Mark, Marks, Stop};
 pub use syntaxes::{is_acse, is_ber, is_ftam, is_ours, is_pci};
