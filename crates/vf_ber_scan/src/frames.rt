@@ -51,6 +51,13 @@ impl Frames {
         }
     }
 
+    /// Ends all values.
+    pub fn clear(&mut self)
+        ensures { self.new ≡ [] }
+    {
+        self.count = 0;
+    }
+
     /// How deep a value may be here.
     pub fn depth(&self) -> u32
         ensures { result ≡ depth_in self.now }

@@ -67,7 +67,7 @@ impl Scan {
                 Next::At(place) => self.place = place,
                 Next::Ended { whole } => {
                     self.place = Place::Start;
-                    self.frames = Frames::new();
+                    self.frames.clear();
                     return Some(End { len: taken, whole });
                 }
             }
@@ -79,6 +79,7 @@ impl Scan {
     pub fn clear(&mut self)
         ensures { HasTaken self.new [] }
     {
-        *self = Scan::new();
+        self.place = Place::Start;
+        self.frames.clear();
     }
 }

@@ -12,9 +12,9 @@ ghost use Rattle.vf_pdu.specs.PduRows.{row_of};
 ghost use Rattle.vf_pdu.specs.PduSlots.{slots_of};
 ghost use Rattle.vf_pdu.specs.PduValue.{parts_put};
 
-use crate::Pdu;
 use crate::read::{answer, bare};
 use crate::write::write_answer;
+use crate::{Boxed, Pdu};
 use std::alloc::Global;
 use vf_base::{Actions, NoMemory, copy_option};
 use vf_ber::{Value, Values};
@@ -87,7 +87,7 @@ pub(crate) fn is_attribute_in_range(pdu: &Pdu) -> bool
         Pdu::ReadAttribResponse {
             diagnostic,
             attributes,
-        } => { is_parameter(diagnostic) && is_parameter(attributes) }
+        } => { is_parameter(diagnostic) && is_parameter(attributes.value()) }
         Pdu::ChangeAttribRequest {
             name,
             permitted,
@@ -133,7 +133,8 @@ pub(crate) fn copy_attribute(alloc: Global, pdu: &Pdu) -> Result<Pdu, NoMemory>
             diagnostic,
             attributes,
         } => {
-            let attributes = copy_option(alloc, attributes)?;
+            let attributes = copy_option(alloc, attributes.value())?;
+            let attributes = Boxed::new(alloc, attributes)?;
             Ok(Pdu::ReadAttribResponse {
                 diagnostic: *diagnostic,
                 attributes,
@@ -225,6 +226,7 @@ fn read_read_attrib_response(alloc: Global, parts: &[Value]) -> Result<Pdu, PduE
     let diagnostic = optional_parameter(alloc, parts, &mut at, 0)?;
     let attributes = optional_parameter(alloc, parts, &mut at, 1)?;
     end(parts, at)?;
+    let attributes = Boxed::new(alloc, attributes)?;
     Ok(Pdu::ReadAttribResponse {
         diagnostic,
         attributes,
@@ -245,7 +247,7 @@ fn write_read_attrib_response(alloc: Global, pdu: &Pdu) -> Result<Values, NoMemo
     };
     let mut parts = Values::new(alloc);
     put_diagnostic(alloc, &mut parts, 0, diagnostic)?;
-    put_maybe_attributes(alloc, &mut parts, 1, attributes)?;
+    put_maybe_attributes(alloc, &mut parts, 1, attributes.value())?;
     Ok(parts)
 }
 

@@ -4,6 +4,7 @@
 mod access;
 mod association;
 mod attribute;
+mod boxed;
 mod copy;
 mod group;
 mod laws;
@@ -15,6 +16,7 @@ mod selection;
 mod transfer;
 mod write;
 
+pub use boxed::Boxed;
 pub use laws::{
     forms_have_one_content, meaning_has_no_fault, meaning_is_computed, meaning_is_in_range,
     meaning_is_one, value_is_short, value_is_within, value_means, written_is_read_again,

@@ -1,3 +1,4 @@
+use crate::Boxed;
 use vf_base::{Actions, Contents, Context, Diagnostic, FaduId, Name, Octets, Terms};
 use vf_pdu_fields::{AttributeControls, ContentControls, WriteOperation};
 use vf_pdu_parameters::Attributes;
@@ -71,7 +72,7 @@ pub enum Pdu {
     },
     ReadAttribResponse {
         diagnostic: Option<Diagnostic>,
-        attributes: Option<Attributes>,
+        attributes: Boxed<Option<Attributes>>,
     },
     ChangeAttribRequest {
         name: Option<Name>,

@@ -25,4 +25,4 @@ loop-taken-preserved c =
 
 pub returns-in-Ended-clause-anew : goal.returns-in-Ended-clause-anew
 unfolding tells
-returns-in-Ended-clause-anew c = record { short = new_short c.new-self.result c.new-self.ensures; ahead = new_ahead c.new-self.result c.new-self.ensures }
+returns-in-Ended-clause-anew c = record { short = new_short c.clear.new.self c.clear.ensures; ahead = new_ahead c.clear.new.self c.clear.ensures }
