@@ -28,10 +28,10 @@ pub quiet_stands : (conversation : Conversation) (state : State) → is_ready co
     → IsQuiet state (octets_in conversation.stream)
 quiet_stands conversation state ready stands = by conversation.stream ready stands
   where
-    by : (stream : Stream) → is_ready stream ≡ false → StandsBy stream conversation.tables state → IsQuiet state (octets_in stream)
+    by : (stream : Stream) → is_ready stream ≡ false → StandsBy conversation.party conversation.tables conversation.scan state stream → IsQuiet state (octets_in stream)
     by streams.Gone ready stands = quiet_gone state [] stands
-    by (streams.Waiting party pending scan) ready stands = quiet_short state pending.items stands.1.short
-    by (streams.Ready party octets) ready stands = absurd cc
+    by (streams.Waiting pending) ready stands = quiet_short state pending.items stands.1.short
+    by (streams.Ready octets) ready stands = absurd cc
 
 module _ (state : State) (before : Conversation) (old new : Option (List ℕ)) where
   -- a prefix of the replies is a prefix of all that would be printed

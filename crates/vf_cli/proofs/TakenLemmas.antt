@@ -60,15 +60,15 @@ read_message rest message n found = by (reading rest) refl found
     by (Long at) e found = absurd found
     by (Read tree m) e found = (tree, e ∙ ap (Read tree) found.1, found.0)
 
-module _ (first state next : State) (octets between rest said : List ℕ) (consequence : Consequence) (made : Tables) where
+module _ (first state next : State) (octets between rest said : List ℕ) (consequence : Consequence) (party : Party) (made : Tables) where
   -- what comes of octets whose last message had this consequence
   took : (after : After) → Continues first octets said state between
       → ((more : List ℕ) → said_to state (received (between ++ more)) ≡ consequence.said ++ said_to next (received (rest ++ more)))
       → next.parties ≡ option_to_list consequence.party ++ [] → next.files ≡ made.files
       → ((standing : StandingParty) → consequence.party ≡ Some standing → standing.link ≡ link)
       → ((standing : StandingParty) → consequence.party ≡ Some standing → CanServe next standing)
-      → IsAfter consequence after → Took first octets (said ++ flat_map reply consequence.said) made after rest
-  took (after.Goes party) before says parties files links serves goes =
+      → IsAfter consequence party after → Took first octets (said ++ flat_map reply consequence.said) party made after rest
+  took after.Goes before says parties files links serves goes =
       let one = parties ∙ ap (λ (o : Option StandingParty). option_to_list o ++ []) goes.1 in (
         next,
         (goes.0, one, links goes.0 goes.1, goes.2, files, serves goes.0 goes.1),
@@ -94,13 +94,13 @@ module _ (first state : State) (party : Party) (tables : Tables) (octets said ol
       (aborts_fault state holds.0 rest place holds.1 holds.2 (λ more. faulty rest more place found))
 
   -- what is printed goes on with the consequence of a first message
-  pub takes_message : (message : Message) (n : ℕ) (new replies : List ℕ) (made : Tables) (rest : After) → replies ≡ old ++ said
+  pub takes_message : (message : Message) (n : ℕ) (new replies : List ℕ) (other : Party) (made : Tables) (rest : After) → replies ≡ old ++ said
       → IsPrefix (reading (drop at octets)) (Ok (prefix.Heard message n))
-      → Makes (transition (with_tables tables state) holds.0 0 message) replies new tables made rest
-      → Appends first octets old new made rest (drop (at + n) octets)
-  takes_message message n new replies made rest so_far found makes =
+      → Makes (transition (with_tables tables state) holds.0 0 message) replies new tables made other rest
+      → Appends first octets old new other made rest (drop (at + n) octets)
+  takes_message message n new replies other made rest so_far found makes =
       let consequence = transition state holds.0 0 message in
-      let same = subst (λ (s : State). Makes (transition s holds.0 0 message) replies new tables made rest) (with_tables-same tables state holds.4) makes in
+      let same = subst (λ (s : State). Makes (transition s holds.0 0 message) replies new tables made other rest) (with_tables-same tables state holds.4) makes in
       let read = read_message (drop at octets) message n found in
       let next = after_transition state link consequence in
       let lines = flat_map reply consequence.said in
@@ -114,4 +114,4 @@ module _ (first state : State) (party : Party) (tables : Tables) (octets said ol
       λ standing goes. keeps_link state holds.0 standing 0 message goes ∙ holds.2 in
       let serves : (standing : StandingParty) → consequence.party ≡ Some standing → CanServe next standing =
       λ standing goes. subst (NextCanServe next) goes (goes_on_serving state holds.0 0 link message holds.5) in
-      (said ++ lines, written, took first state next octets (drop at octets) (drop (at + n) octets) said consequence made rest before says parties files links serves same.goes)
+      (said ++ lines, written, took first state next octets (drop at octets) (drop (at + n) octets) said consequence other made rest before says parties files links serves same.goes)

@@ -15,6 +15,7 @@ use Rattle.vf_regime.specs.Sayable.{CanServe}
 use Rattle.vf_regime.specs.State.{State, StandingParty}
 use Rattle.vf_regime.specs.Transition.{Consequence}
 use Rattle.vf_ber_scan.specs.Scanned.{HasTaken}
+use Rattle.vf_ber_scan.specs.declared.scan.Scan.{Scan}
 use Rattle.vf_cli.specs.declared.conversation.After.{After}
 use Rattle.vf_cli.specs.declared.conversation.After.TheVariants as after
 use Rattle.vf_cli.specs.declared.conversation.Conversation.{Conversation}
@@ -60,28 +61,34 @@ Holds party tables state =
 -- the octets that a party hasn't taken; one that is gone takes none
 abbrev pub octets_in : Stream → List ℕ
 octets_in stream.Gone = []
-octets_in (stream.Waiting party pending scan) = pending.items
-octets_in (stream.Ready party octets) = octets
+octets_in (stream.Waiting pending) = pending.items
+octets_in (stream.Ready octets) = octets
 
 abbrev pub is_ready : Stream → Bool
 is_ready stream.Gone = false
-is_ready (stream.Waiting party pending scan) = false
-is_ready (stream.Ready party octets) = true
+is_ready (stream.Waiting pending) = false
+is_ready (stream.Ready octets) = true
 
 -- how much is left to be taken of a stream
 abbrev pub size_of : Stream → ℕ
 size_of stream.Gone = 0
-size_of (stream.Waiting party pending scan) = length_of pending.items
-size_of (stream.Ready party octets) = length_of octets + 1
+size_of (stream.Waiting pending) = length_of pending.items
+size_of (stream.Ready octets) = length_of octets + 1
 
--- A stream with these tables stands in this state of the filestore. A party that is gone stands nowhere.
-abbrev pub StandsBy : Stream → Tables → State → Type 0
-StandsBy stream.Gone tables state = state.parties ≡ []
-StandsBy (stream.Waiting party pending scan) tables state = Holds party tables state × HasTaken scan pending.items
-StandsBy (stream.Ready party octets) tables state = Holds party tables state
+-- a party that goes on takes the octets of the stream, and the scan is of those that wait
+abbrev pub IsTaking : Stream → Scan → Type 0
+IsTaking stream.Gone scan = ⊥
+IsTaking (stream.Waiting pending) scan = HasTaken scan pending.items
+IsTaking (stream.Ready octets) scan = Unit {0}
+
+-- A party with these tables and octets stands in this state of the filestore. One that is gone stands nowhere.
+abbrev pub StandsBy : Party → Tables → Scan → State → Stream → Type 0
+StandsBy party tables scan state stream.Gone = state.parties ≡ []
+StandsBy party tables scan state (stream.Waiting pending) = Holds party tables state × HasTaken scan pending.items
+StandsBy party tables scan state (stream.Ready octets) = Holds party tables state
 
 abbrev pub Stands : Conversation → State → Type 0
-Stands conversation state = StandsBy conversation.stream conversation.tables state
+Stands conversation state = StandsBy conversation.party conversation.tables conversation.scan state conversation.stream
 
 -- octets that are no message yet: nothing is said to them
 abbrev pub IsQuiet : State → List ℕ → Type 0
@@ -89,8 +96,8 @@ IsQuiet state pending = said_to state (received pending) ≡ []
 
 -- where the party goes on and no more messages are to be taken, the octets that are left are a proper prefix of one
 abbrev pub IsRest : After → Bool → List ℕ → Type 0
-IsRest (after.Goes party) false rest = reading rest ≡ Short
-IsRest (after.Goes party) true rest = Unit {0}
+IsRest after.Goes false rest = reading rest ≡ Short
+IsRest after.Goes true rest = Unit {0}
 IsRest after.Gone more rest = Unit {0}
 IsRest after.Aborted more rest = Unit {0}
 
@@ -107,30 +114,30 @@ pub record Aborts (old : State) (pending : List ℕ) (replies : List ℕ) : Type
   pub prints : (input : Input) → dialogue_from old pending input ≡ record { octets = replies; status = 7 }
 
 -- the party after a transition: it goes on, it is gone, or it was told an abort
-abbrev pub IsAfter : Consequence → After → Type 0
-IsAfter consequence (after.Goes party) =
+abbrev pub IsAfter : Consequence → Party → After → Type 0
+IsAfter consequence party after.Goes =
     (next : StandingParty) × (consequence.party ≡ Some next) × Represents party next × (list_any is_abort consequence.said ≡ false)
-IsAfter consequence after.Gone = (consequence.party ≡ None) × (list_any is_abort consequence.said ≡ false)
-IsAfter consequence after.Aborted = (consequence.party ≡ None) × (list_any is_abort consequence.said ≡ true)
+IsAfter consequence party after.Gone = (consequence.party ≡ None) × (list_any is_abort consequence.said ≡ false)
+IsAfter consequence party after.Aborted = (consequence.party ≡ None) × (list_any is_abort consequence.said ≡ true)
 
 -- the replies of a transition were appended and its changes made
-pub record Makes (consequence : Consequence) (old_replies new_replies : List ℕ) (old_tables new_tables : Tables) (rest : After) : Type 0 where
+pub record Makes (consequence : Consequence) (old_replies new_replies : List ℕ) (old_tables new_tables : Tables) (party : Party) (rest : After) : Type 0 where
   pub said : new_replies ≡ old_replies ++ flat_map reply consequence.said
   pub changed : new_tables.files ≡ after_changes consequence.changes old_tables.files
-  pub goes : IsAfter consequence rest
+  pub goes : IsAfter consequence party rest
 
 -- what was made of octets in this state: the replies, and the state in which the rest will be received
-abbrev pub Took : State → List ℕ → List ℕ → Tables → After → List ℕ → Type 0
-Took state octets replies tables (after.Goes party) rest =
+abbrev pub Took : State → List ℕ → List ℕ → Party → Tables → After → List ℕ → Type 0
+Took state octets replies party tables after.Goes rest =
     (next : State) × Holds party tables next × Continues state octets replies next rest
-Took state octets replies tables after.Gone rest =
+Took state octets replies party tables after.Gone rest =
     (next : State) × (next.parties ≡ []) × Continues state octets replies next rest
-Took state octets replies tables after.Aborted rest = Aborts state octets replies
+Took state octets replies party tables after.Aborted rest = Aborts state octets replies
 
 -- the same, where the replies were appended to others
-abbrev pub Appends : State → List ℕ → List ℕ → List ℕ → Tables → After → List ℕ → Type 0
-Appends state octets old new tables party rest =
-    (replies : List ℕ) × (new ≡ old ++ replies) × Took state octets replies tables party rest
+abbrev pub Appends : State → List ℕ → List ℕ → List ℕ → Party → Tables → After → List ℕ → Type 0
+Appends state octets old new party tables ended rest =
+    (replies : List ℕ) × (new ≡ old ++ replies) × Took state octets replies party tables ended rest
 
 -- a piece joins the octets that weren't taken, and nothing is said
 abbrev pub Adds : State → Conversation → List ℕ → Conversation → Type 0

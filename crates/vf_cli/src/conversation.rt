@@ -9,10 +9,11 @@ ghost use Rattle.vf_regime.specs.State.{State, StandingParty};
 ghost use Rattle.vf_regime.specs.Transition.{transition};
 ghost use Rattle.vf_ber_scan.specs.Scanned.{HasTaken};
 ghost use Rattle.vf_files.specs.declared.tables.Tables.{Tables};
-ghost use Rattle.vf_cli.specs.Conversation.{Adds, Appends, Holds, IsRest, Makes, Stands, StandsBy, TakesReady, is_ready as ready_test, octets_in, size_of};
+ghost use Rattle.vf_cli.specs.Conversation.{Adds, Appends, Holds, IsRest, IsTaking, Makes, Stands, TakesReady, is_ready as ready_test, octets_in, size_of};
 ghost use Rattle.vf_cli.specs.Dialogue.{is_abort as abort_test, opened, outside, reply};
 
 use crate::message::{Prefix, append_reply, prefix_of};
+use crate::printed::Replies;
 use std::alloc::Global;
 use std::mem;
 use vf_base::{Moment, NoMemory, Octets};
@@ -20,28 +21,25 @@ use vf_ber_scan::Scan;
 use vf_elements::{Message, Said, Stage};
 use vf_regime::{Outcome, Party, Tables};
 
-/// The party, and the octets of its stream that it hasn't taken.
+/// The octets of a stream that its party hasn't taken.
 #[derive(Drop)]
 pub(crate) enum Stream {
     /// The party is gone.
     Gone,
-    /// The octets are the begin of a message, and the scan is of them.
-    Waiting {
-        party: Party,
-        pending: Vec<u8>,
-        scan: Scan,
-    },
+    /// They are the begin of a message.
+    Waiting { pending: Vec<u8> },
     /// There may be messages before them.
-    Ready {
-        party: Party,
-        octets: Octets,
-    },
+    Ready { octets: Octets },
 }
 
-/// A conversation with one party over a filestore that starts empty.
+/// A conversation with one party over a filestore that starts empty. What is large stays where it is.
 #[derive(Drop)]
 pub(crate) struct Conversation {
+    /// An idle one where the party is gone.
+    party: Party,
     stream: Stream,
+    /// Of the octets that wait.
+    scan: Scan,
     tables: Tables,
 }
 
@@ -51,11 +49,11 @@ impl Conversation {
         ensures none { octets_in result.stream ≡ [] }
     {
         Conversation {
+            party: Party::idle(LINK),
             stream: Stream::Waiting {
-                party: Party::idle(LINK),
                 pending: Vec::new(alloc),
-                scan: Scan::new(),
             },
+            scan: Scan::new(),
             tables: Tables::new(alloc),
         }
     }
@@ -79,12 +77,8 @@ impl Conversation {
         ensures size { OnOk result (size_of self.new.stream ≤ size_of self.old.stream + length piece.old.items + 1) }
     {
         match mem::replace(&mut self.stream, Stream::Gone) {
-            Stream::Waiting {
-                party,
-                pending,
-                scan,
-            } => {
-                self.stream = added(alloc, party, pending, scan, piece)?;
+            Stream::Waiting { pending } => {
+                self.stream = added(alloc, pending, &mut self.scan, piece)?;
                 Ok(())
             }
             Stream::Ready { .. } => unreachable!(),
@@ -94,25 +88,25 @@ impl Conversation {
 
     /// Takes messages that are ready, until their replies have `MOST_REPLIES` octets or more. Appends these as lines, and says
     /// whether an abort is among them. Where memory is wanting, the party is gone.
-    pub(crate) fn take(&mut self, alloc: Global, replies: &mut Vec<u8>) -> Result<bool, NoMemory>
+    pub(crate) fn take(&mut self, alloc: Global, replies: &mut Replies) -> Result<bool, NoMemory>
         requires ready { ready_test self.old.stream ≡ true }
         requires stands { (state : State) × Stands self.old state }
         ensures takes { IfOk result (λ aborted. (state : State) → Stands self.old state
-            → TakesReady state self.old replies.old.items replies.new.items self.new aborted) }
+            → TakesReady state self.old replies.old.lines.items replies.new.lines.items self.new aborted) }
         ensures size { IfOk result (λ aborted. size_of self.new.stream < size_of self.old.stream) }
     {
         match mem::replace(&mut self.stream, Stream::Gone) {
-            Stream::Ready { party, octets } => {
+            Stream::Ready { octets } => {
                 let Taken { after, used, more } = take_messages(
                     alloc,
-                    party,
+                    &mut self.party,
                     &mut self.tables,
                     &octets,
                     replies,
                 )?;
                 match after {
-                    After::Goes(party) => {
-                        self.stream = rest_after(alloc, party, &octets, used, more)?;
+                    After::Goes => {
+                        self.stream = rest_after(alloc, &octets, used, more, &mut self.scan)?;
                         Ok(false)
                     }
                     After::Gone => Ok(false),
@@ -125,79 +119,72 @@ impl Conversation {
     }
 }
 
-/// A party's stream with a piece more. Where no octets are pending, the piece is moved, and looked at for messages as it is;
-/// else it is only scanned until a message is whole.
+/// A stream with a piece more. Where no octets are pending, the piece is looked at for messages as it is; else it is only
+/// scanned until a message is whole.
 fn added(
     alloc: Global,
-    party: Party,
     pending: Vec<u8>,
-    scan: Scan,
+    scan: &mut Scan,
     piece: &mut Vec<u8>,
 ) -> Result<Stream, NoMemory>
     ensures octets { IfOk result (λ stream. octets_in stream ≡ pending.items ++ piece.old.items) }
     ensures size { IfOk result (λ stream. size_of stream ≤ length pending.items + length piece.old.items + 1) }
-    ensures stands { IfOk result (λ stream. (state : State) (tables : Tables) → Holds party tables state → HasTaken scan pending.items → StandsBy stream tables state) }
+    ensures takes { IfOk result (λ stream. HasTaken scan.old pending.items → IsTaking stream scan.new) }
 {
     if pending.is_empty() {
-        let octets = Octets::from_vec(mem::replace(piece, Vec::new(alloc)))?;
-        return Ok(Stream::Ready { party, octets });
+        let octets = octets_of_piece(alloc, piece)?;
+        return Ok(Stream::Ready { octets });
     }
     let mut pending = pending;
-    let mut scan = scan;
     let ended = scan.feed(piece.as_slice()).is_some();
     pending.extend_from_slice(piece.as_slice())?;
     if !ended {
-        return Ok(Stream::Waiting {
-            party,
-            pending,
-            scan,
-        });
+        return Ok(Stream::Waiting { pending });
     }
     let octets = Octets::from_vec(pending)?;
-    Ok(Stream::Ready { party, octets })
+    Ok(Stream::Ready { octets })
 }
 
-/// The stream of a party that has taken so many of its octets; `more` says that there may be messages among the others.
+/// Pieces of so many octets and fewer are copied.
+const MOST_COPIED: usize = 256;
+
+/// The octets of a piece. A short one is copied, so that its room serves the next line too; a longer one is moved.
+fn octets_of_piece(alloc: Global, piece: &mut Vec<u8>) -> Result<Octets, NoMemory>
+    ensures { IfOk result (λ octets. octets ≡ piece.old.items) }
+{
+    let octets = if piece.len() <= MOST_COPIED {
+        Octets::of(alloc, piece.as_slice())?
+    } else {
+        Octets::from_vec(mem::replace(piece, Vec::new(alloc)))?
+    };
+    Ok(octets)
+}
+
+/// A stream of whose octets so many were taken; `more` says that there may be messages among the others.
 fn rest_after(
     alloc: Global,
-    party: Party,
     octets: &Octets,
     used: usize,
     more: bool,
+    scan: &mut Scan,
 ) -> Result<Stream, NoMemory>
     requires within { used ≤ length octets.now }
     requires some { more ≡ true → 0 < used }
     requires short { more ≡ false → reading (drop used octets.now) ≡ Short }
     ensures octets { IfOk result (λ stream. octets_in stream ≡ drop used octets.now) }
     ensures size { IfOk result (λ stream. size_of stream ≤ length octets.now) }
-    ensures stands { IfOk result (λ stream. (state : State) (tables : Tables) → Holds party tables state → StandsBy stream tables state) }
+    ensures takes { IfOk result (λ stream. IsTaking stream scan.new) }
 {
-    let rest = rest_of(octets, used)?;
     if more {
-        return Ok(Stream::Ready {
-            party,
-            octets: rest,
-        });
+        let octets = rest_of(octets, used)?;
+        return Ok(Stream::Ready { octets });
     }
     let mut pending = Vec::new(alloc);
-    pending.extend_from_slice(rest.as_slice())?;
-    Ok(waiting(party, pending))
-}
-
-/// The stream of a party whose octets are the begin of a message.
-fn waiting(party: Party, pending: Vec<u8>) -> Stream
-    requires { reading pending.items ≡ Short }
-    ensures octets { octets_in result ≡ pending.items }
-    ensures size { size_of result ≡ length pending.items }
-    ensures stands { (state : State) (tables : Tables) → Holds party tables state → StandsBy result tables state }
-{
-    let mut scan = Scan::new();
-    let _ = scan.feed(pending.as_slice());
-    Stream::Waiting {
-        party,
-        pending,
-        scan,
-    }
+    let (_, rest) = octets.as_slice().split_at(used);
+    pending.extend_from_slice(rest)?;
+    scan.clear();
+    let _ = scan.feed(rest);
+    Ok(Stream::Waiting { pending })
 }
 
 /// The octets from a place on.
@@ -209,11 +196,11 @@ fn rest_of(octets: &Octets, place: usize) -> Result<Octets, NoMemory>
     Ok(rest)
 }
 
-/// What is left of a party after it received something.
-#[derive(Drop)]
+/// What became of a party after it received something.
+#[derive(Clone, Copy)]
 pub(crate) enum After {
     /// It goes on.
-    Goes(Party),
+    Goes,
     /// It is gone.
     Gone,
     /// It was told an abort, and is gone.
@@ -221,7 +208,7 @@ pub(crate) enum After {
 }
 
 /// What came of messages.
-#[derive(Drop)]
+#[derive(Clone, Copy)]
 pub(crate) struct Taken {
     pub(crate) after: After,
     /// The octets of the messages.
@@ -237,27 +224,27 @@ const LINK: u32 = 1;
 const MOST_REPLIES: usize = 65_536;
 
 /// What the party makes of the messages that the octets begin with. Its replies are appended as lines, and its changes made.
+/// Where memory is wanting, the party is gone.
 pub(crate) fn take_messages(
     alloc: Global,
-    party: Party,
+    party: &mut Party,
     tables: &mut Tables,
     octets: &Octets,
-    replies: &mut Vec<u8>,
+    replies: &mut Replies,
 ) -> Result<Taken, NoMemory>
-    requires { (state : State) × Holds party tables.old state }
+    requires { (state : State) × Holds party.old tables.old state }
     ensures within { IfOk result (λ taken. taken.used ≤ length octets.now) }
     ensures some { IfOk result (λ taken. taken.more ≡ true → 0 < taken.used) }
     ensures rest { IfOk result (λ taken. IsRest taken.after taken.more (drop taken.used octets.now)) }
-    ensures took { IfOk result (λ taken. (state : State) → Holds party tables.old state
-        → Appends state octets.now replies.old.items replies.new.items tables.new taken.after (drop taken.used octets.now)) }
+    ensures took { IfOk result (λ taken. (state : State) → Holds party.old tables.old state
+        → Appends state octets.now replies.old.lines.items replies.new.lines.items party.new tables.new taken.after (drop taken.used octets.now)) }
 {
     let end = octets.len();
-    let mut party = party;
     let mut at = 0;
     loop {
         if at == end {
             return Ok(Taken {
-                after: After::Goes(party),
+                after: After::Goes,
                 used: at,
                 more: false,
             });
@@ -266,7 +253,7 @@ pub(crate) fn take_messages(
         match prefix_of(alloc, &rest)? {
             Prefix::Nothing => {
                 return Ok(Taken {
-                    after: After::Goes(party),
+                    after: After::Goes,
                     used: at,
                     more: false,
                 });
@@ -282,16 +269,15 @@ pub(crate) fn take_messages(
             Prefix::Heard { message, length } => {
                 at += length;
                 match take_message(alloc, party, tables, message, replies)? {
-                    After::Goes(next) => {
-                        let len = replies.len();
+                    After::Goes => {
+                        let len = replies.lines.len();
                         if len >= MOST_REPLIES {
                             return Ok(Taken {
-                                after: After::Goes(next),
+                                after: After::Goes,
                                 used: at,
                                 more: true,
                             });
                         }
-                        party = next;
                     }
                     ended => {
                         return Ok(Taken {
@@ -308,45 +294,47 @@ pub(crate) fn take_messages(
 
 fn take_message(
     alloc: Global,
-    party: Party,
+    party: &mut Party,
     tables: &mut Tables,
     message: Message,
-    replies: &mut Vec<u8>,
+    replies: &mut Replies,
 ) -> Result<After, NoMemory>
-    requires { (state : State) × (standing : StandingParty) × Represents party standing × CanServe (with_tables tables.old state) standing }
-    ensures { IfOk result (λ rest. (state : State) (standing : StandingParty) → Represents party standing
-        → Makes (transition (with_tables tables.old state) standing 0 message) replies.old.items replies.new.items tables.old tables.new rest) }
+    requires { (state : State) × (standing : StandingParty) × Represents party.old standing × CanServe (with_tables tables.old state) standing }
+    ensures { IfOk result (λ rest. (state : State) (standing : StandingParty) → Represents party.old standing
+        → Makes (transition (with_tables tables.old state) standing 0 message) replies.old.lines.items replies.new.lines.items tables.old tables.new party.new rest) }
 {
     let Ok(moment) = Moment::of(0) else {
         unreachable!()
     };
-    let Ok(outcome) = party.take(alloc, message, moment, 1, false, false, tables) else {
+    let one = mem::replace(party, Party::idle(LINK));
+    let Ok(outcome) = one.take(alloc, message, moment, 1, false, false, tables) else {
         return Err(NoMemory);
     };
     let Outcome {
-        party,
+        party: next,
         said,
         changes,
     } = outcome;
+    *party = next;
     tables.apply(alloc, changes)?;
     if append_replies(alloc, said.as_slice(), replies)? {
         return Ok(After::Aborted);
     }
     match party.stage() {
         Stage::Idle => Ok(After::Gone),
-        _ => Ok(After::Goes(party)),
+        _ => Ok(After::Goes),
     }
 }
 
 /// Appends the replies as lines, and says whether an abort is among them.
-fn append_replies(alloc: Global, said: &[Said], text: &mut Vec<u8>) -> Result<bool, NoMemory>
+fn append_replies(alloc: Global, said: &[Said], replies: &mut Replies) -> Result<bool, NoMemory>
     requires { AllByRecursion IsSayable said.now }
-    ensures lines { IfOk result (λ _. text.new.items ≡ text.old.items ++ flat_map reply said.now) }
+    ensures lines { IfOk result (λ _. replies.new.lines.items ≡ replies.old.lines.items ++ flat_map reply said.now) }
     ensures abort { IfOk result (λ aborted. aborted ≡ list_any abort_test said.now) }
 {
     let mut aborted = false;
     for one in said {
-        append_reply(alloc, one, text)?;
+        append_reply(alloc, one, replies)?;
         aborted = aborted || is_abort(one);
     }
     Ok(aborted)
@@ -367,13 +355,13 @@ fn is_abort(said: &Said) -> bool
 /// The abort of octets that are no message (profile).
 const OUTSIDE: u16 = 101;
 
-fn append_abort(alloc: Global, place: u32, text: &mut Vec<u8>) -> Result<(), NoMemory>
-    ensures { IfOk result (λ _. text.new.items ≡ text.old.items ++ reply (Said.Abort outside place)) }
+fn append_abort(alloc: Global, place: u32, replies: &mut Replies) -> Result<(), NoMemory>
+    ensures { IfOk result (λ _. replies.new.lines.items ≡ replies.old.lines.items ++ reply (Said.Abort outside place)) }
 {
     let abort = Said::Abort {
         number: OUTSIDE,
         place: u64::from(place),
     };
-    append_reply(alloc, &abort, text)?;
+    append_reply(alloc, &abort, replies)?;
     Ok(())
 }

@@ -11,7 +11,7 @@ ghost use Rattle.vf_cli.specs.Reader.{Progresses, will_say};
 
 use crate::conversation::Conversation;
 use crate::lines::{LineError, LineReader, NextLine};
-use crate::printed::append_bad_line;
+use crate::printed::{Replies, append_bad_line};
 use std::alloc::Global;
 use vf_base::{NoMemory, Sink, Source};
 
@@ -42,8 +42,7 @@ impl From<NoMemory> for Interruption {
 struct Buffers {
     /// The piece that a line spells.
     piece: Vec<u8>,
-    /// The lines that are to be written.
-    lines: Vec<u8>,
+    replies: Replies,
 }
 
 /// The status where the input failed.
@@ -106,7 +105,7 @@ fn converse<I: Source, O: Sink>(
     let mut conversation = Conversation::new(alloc);
     let mut buffers = Buffers {
         piece: Vec::new(alloc),
-        lines: Vec::new(alloc),
+        replies: Replies::new(alloc),
     };
     'steps: loop {
         let step = take_step(
@@ -146,7 +145,7 @@ fn take_step<I: Source, O: Sink>(
     ensures output { IsErrOf result Interruption.Output → HasRisen (O.fault_count out.old) (O.fault_count out.new) }
 {
     let step = if conversation.is_ready() {
-        take_ready(alloc, conversation, &mut buffers.lines, out)?
+        take_ready(alloc, conversation, &mut buffers.replies, out)?
     } else {
         take_line(alloc, reader, conversation, buffers, input, out)?
     };
@@ -157,7 +156,7 @@ fn take_step<I: Source, O: Sink>(
 fn take_ready<O: Sink>(
     alloc: Global,
     conversation: &mut Conversation,
-    lines: &mut Vec<u8>,
+    replies: &mut Replies,
     out: &mut O,
 ) -> Result<Option<u8>, Interruption>
     requires ready { is_ready conversation.old.stream ≡ true }
@@ -171,9 +170,9 @@ fn take_ready<O: Sink>(
     ensures output { IsErrOf result Interruption.Output → HasRisen (O.fault_count out.old) (O.fault_count out.new) }
     ensures cause { IsErrOf result Interruption.Input → ⊥ }
 {
-    lines.clear();
-    let aborted = conversation.take(alloc, lines)?;
-    write_lines(out, lines.as_slice())?;
+    replies.lines.clear();
+    let aborted = conversation.take(alloc, replies)?;
+    write_lines(out, replies.lines.as_slice())?;
     Ok(if aborted { Some(ABORTED) } else { None })
 }
 
@@ -204,7 +203,7 @@ fn take_line<I: Source, O: Sink>(
             Ok(None)
         }
         NextLine::Bad(number) => {
-            write_bad_line(alloc, number, &mut buffers.lines, out)?;
+            write_bad_line(alloc, number, &mut buffers.replies.lines, out)?;
             Ok(Some(BAD_LINE))
         }
         NextLine::End => Ok(Some(0)),

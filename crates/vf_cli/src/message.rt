@@ -13,7 +13,7 @@ ghost use Rattle.vf_pdu.specs.PduMeaning.{IsInRange};
 ghost use Rattle.vf_pdu.specs.PduValue.{value};
 ghost use Rattle.vf_regime.specs.Sayable.{IsSayable};
 
-use crate::printed::append_hex_line;
+use crate::printed::{Replies, append_hex_line};
 use std::alloc::Global;
 use vf_base::{Element, NoMemory, Octets};
 use vf_ber::{BerError, Value, WriteError};
@@ -74,13 +74,17 @@ fn prefix_by(alloc: Global, value: &Value, length: usize) -> Result<Prefix, NoMe
 }
 
 /// Appends the line that tells a reply.
-pub(crate) fn append_reply(alloc: Global, said: &Said, text: &mut Vec<u8>) -> Result<(), NoMemory>
+pub(crate) fn append_reply(
+    alloc: Global,
+    said: &Said,
+    replies: &mut Replies,
+) -> Result<(), NoMemory>
     requires { IsSayable said.now }
-    ensures { OnOk result (text.new.items ≡ text.old.items ++ reply said.now) }
+    ensures { OnOk result (replies.new.lines.items ≡ replies.old.lines.items ++ reply said.now) }
 {
     match said {
-        Said::Pdu(pdu) => append_pdu(alloc, pdu, text),
-        Said::Element(element) => append_element(alloc, element, text),
+        Said::Pdu(pdu) => append_pdu(alloc, pdu, replies),
+        Said::Element(element) => append_element(alloc, element, replies),
         Said::Check { .. } => Ok(()),
         Said::Acknowledge { .. } => Ok(()),
         Said::Abort { number, place } => {
@@ -88,42 +92,42 @@ pub(crate) fn append_reply(alloc: Global, said: &Said, text: &mut Vec<u8>) -> Re
                 number: *number,
                 place: *place,
             };
-            append_pdu(alloc, &abort, text)
+            append_pdu(alloc, &abort, replies)
         }
     }
 }
 
-fn append_pdu(alloc: Global, pdu: &Pdu, text: &mut Vec<u8>) -> Result<(), NoMemory>
+fn append_pdu(alloc: Global, pdu: &Pdu, replies: &mut Replies) -> Result<(), NoMemory>
     requires { IsInRange pdu.now }
-    ensures { OnOk result (text.new.items ≡ text.old.items ++ hex_line (spell (value pdu.now))) }
+    ensures { OnOk result (replies.new.lines.items ≡ replies.old.lines.items ++ hex_line (spell (value pdu.now))) }
 {
     let made = vf_pdu::to_value(alloc, pdu)?;
     vf_pdu::value_is_within();
-    append_value(alloc, &made, text)?;
+    append_value(alloc, &made, replies)?;
     Ok(())
 }
 
-fn append_element(alloc: Global, element: &Element, text: &mut Vec<u8>) -> Result<(), NoMemory>
+fn append_element(alloc: Global, element: &Element, replies: &mut Replies) -> Result<(), NoMemory>
     requires writable { IsWritable element.now }
     requires short { IsShort element.now }
-    ensures { OnOk result (text.new.items ≡ text.old.items ++ hex_line (spell (element_value element.now))) }
+    ensures { OnOk result (replies.new.lines.items ≡ replies.old.lines.items ++ hex_line (spell (element_value element.now))) }
 {
     let made = vf_elements::to_value(alloc, element)?;
     vf_elements::value_is_within();
-    append_value(alloc, &made, text)?;
+    append_value(alloc, &made, replies)?;
     Ok(())
 }
 
-fn append_value(alloc: Global, value: &Value, text: &mut Vec<u8>) -> Result<(), NoMemory>
+fn append_value(alloc: Global, value: &Value, replies: &mut Replies) -> Result<(), NoMemory>
     requires { IsTooLarge (tree_of value.now) → ⊥ }
-    ensures { OnOk result (text.new.items ≡ text.old.items ++ hex_line (spell (tree_of value.now))) }
+    ensures { OnOk result (replies.new.lines.items ≡ replies.old.lines.items ++ hex_line (spell (tree_of value.now))) }
 {
-    let mut octets = Vec::new(alloc);
-    match vf_ber::write(alloc, value, &mut octets) {
+    replies.octets.clear();
+    match vf_ber::write(alloc, value, &mut replies.octets) {
         Ok(()) => {}
         Err(WriteError::TooLarge) => unreachable!(),
         Err(WriteError::NoMemory) => return Err(NoMemory),
     }
-    append_hex_line(octets.as_slice(), text)?;
+    append_hex_line(replies.octets.as_slice(), &mut replies.lines)?;
     Ok(())
 }

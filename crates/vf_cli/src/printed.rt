@@ -1,10 +1,29 @@
 //! The lines that are written.
-ghost use Rattle.std.specs.Prelude.{◌≡◌, ◌++◌, OnErr, OnOk};
+ghost use Rattle.std.specs.Prelude.{◌≡◌, ◌++◌, [], OnErr, OnOk};
 ghost use Rattle.vf_cli.specs.Lines.{hex_line, bad_line, usage_line};
 
 use crate::hex::encode;
 use std::alloc::Global;
 use vf_base::NoMemory;
+
+/// Lines that are to be written.
+#[derive(Drop)]
+pub(crate) struct Replies {
+    pub(crate) lines: Vec<u8>,
+    /// Room for the octets of a line, which is used again for each.
+    pub(crate) octets: Vec<u8>,
+}
+
+impl Replies {
+    pub(crate) fn new(alloc: Global) -> Replies
+        ensures { result.lines.items ≡ [] }
+    {
+        Replies {
+            lines: Vec::new(alloc),
+            octets: Vec::new(alloc),
+        }
+    }
+}
 
 /// Appends the line that spells octets to a text, which is as before where memory is wanting.
 pub(crate) fn append_hex_line(octets: &[u8], text: &mut Vec<u8>) -> Result<(), NoMemory>

@@ -5,5 +5,5 @@ use Rattle.vf_cli.proofs.conversation.append_replies.Given as goal
 
 abbrev pub invariant-loop-one : goal.invariant-loop-one
 invariant-loop-one l =
-    (l.text.items ≡ l.initial.text.items ++ flat_map reply (take l.one-index l.said))
+    (l.replies.lines.items ≡ l.initial.replies.lines.items ++ flat_map reply (take l.one-index l.said))
     × (l.aborted ≡ list_any is_abort (take l.one-index l.said))

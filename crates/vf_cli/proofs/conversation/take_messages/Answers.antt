@@ -4,7 +4,6 @@ use Rattle.vf_ber.specs.Reader.{reading}
 use Rattle.vf_ber.specs.Reading.{Short}
 use Rattle.vf_elements.specs.declared.message.Message.{Message}
 use Rattle.vf_elements.specs.declared.message.Said.TheVariants as answers
-use Rattle.vf_regime.specs.declared.party.Party.{Party}
 use Rattle.vf_regime.specs.Represents.{with_tables}
 use Rattle.vf_regime.specs.Transition.{transition}
 use Rattle.vf_cli.specs.declared.conversation.After.{After}
@@ -59,7 +58,7 @@ returns-in-Nothing-clause-took c = λ state holds.
 pub returns-in-Fault-clause-took : goal.returns-in-Fault-clause-took
 returns-in-Fault-clause-took c = λ state holds.
     let goes = c.loop-at.invariant.goes state holds in
-    let old : List ℕ = c.args.replies.now.items in
+    let old : List ℕ = c.args.replies.now.lines.items in
     let abort = reply (answers.Abort outside c.in-Fault.place) in
     let found = found_at c.args.octets.now c.in_ok-rest.rest c.loop-at.at c.in_ok-prefix_of.field-0 (prefix.Fault c.in-Fault.place) c.in_ok-rest.ensures c.in-Fault.is c.in_ok-prefix_of.ensures.prefix in (
       goes.1 ++ abort,
@@ -84,10 +83,10 @@ loop-at-preserved c =
       goes = λ first holds.
           let goes = c.loop-at.invariant.goes first holds in
           let consequence = transition (with_tables c.loop-at.tables goes.0) (goes.2).0 0 c.in-Heard.message in
-          let makes = subst (λ (rest : After). Makes consequence c.loop-at.replies.items c.take_message.new.replies.items c.loop-at.tables c.take_message.new.tables rest)
+          let makes = subst (λ (rest : After). Makes consequence c.loop-at.replies.lines.items c.take_message.new.replies.lines.items c.loop-at.tables c.take_message.new.tables c.take_message.new.party rest)
           c.in-Goes.is (c.in_ok-ended-in-Heard.ensures goes.0 (goes.2).0 (goes.2).3) in
-          let appended = takes_message first goes.0 c.loop-at.party c.loop-at.tables c.args.octets.now goes.1 c.args.replies.now.items c.loop-at.at goes.2 goes.4
-          c.in-Heard.message c.in-Heard.length c.take_message.new.replies.items c.loop-at.replies.items c.take_message.new.tables (after.Goes c.in-Goes.next) goes.3 found makes in
+          let appended = takes_message first goes.0 c.loop-at.party c.loop-at.tables c.args.octets.now goes.1 c.args.replies.now.lines.items c.loop-at.at goes.2 goes.4
+          c.in-Heard.message c.in-Heard.length c.take_message.new.replies.lines.items c.loop-at.replies.lines.items c.take_message.new.party c.take_message.new.tables after.Goes goes.3 found makes in
           ((appended.2).0, appended.0, (appended.2).1, appended.1, (appended.2).2);
     }
 
@@ -98,10 +97,10 @@ returns-then-len-ge-MOST_REPLIES-clause-took c = λ first holds.
     c.in_ok-rest.ensures c.in-Heard.is c.in_ok-prefix_of.ensures.prefix in
     let goes = c.loop-at.invariant.goes first holds in
     let consequence = transition (with_tables c.loop-at.tables goes.0) (goes.2).0 0 c.in-Heard.message in
-    let makes = subst (λ (rest : After). Makes consequence c.loop-at.replies.items c.take_message.new.replies.items c.loop-at.tables c.take_message.new.tables rest)
+    let makes = subst (λ (rest : After). Makes consequence c.loop-at.replies.lines.items c.take_message.new.replies.lines.items c.loop-at.tables c.take_message.new.tables c.take_message.new.party rest)
     c.in-Goes.is (c.in_ok-ended-in-Heard.ensures goes.0 (goes.2).0 (goes.2).3) in
-    takes_message first goes.0 c.loop-at.party c.loop-at.tables c.args.octets.now goes.1 c.args.replies.now.items c.loop-at.at goes.2 goes.4
-    c.in-Heard.message c.in-Heard.length c.take_message.new.replies.items c.loop-at.replies.items c.take_message.new.tables (after.Goes c.in-Goes.next) goes.3 found makes
+    takes_message first goes.0 c.loop-at.party c.loop-at.tables c.args.octets.now goes.1 c.args.replies.now.lines.items c.loop-at.at goes.2 goes.4
+    c.in-Heard.message c.in-Heard.length c.take_message.new.replies.lines.items c.loop-at.replies.lines.items c.take_message.new.party c.take_message.new.tables after.Goes goes.3 found makes
 
 pub returns-then-len-ge-MOST_REPLIES-clause-within : goal.returns-then-len-ge-MOST_REPLIES-clause-within
 returns-then-len-ge-MOST_REPLIES-clause-within c =
@@ -116,8 +115,8 @@ returns-then-len-ge-MOST_REPLIES-clause-some c =
     λ more. omega (arith, above)
 
 -- a party that doesn't go on leaves any rest
-rest_unless : (ended : After) (rest : List ℕ) → ((party : Party) → ended ≡ after.Goes party → ⊥) → IsRest ended false rest
-rest_unless (after.Goes party) rest gone = absurd (gone party refl)
+rest_unless : (ended : After) (rest : List ℕ) → (ended ≡ after.Goes → ⊥) → IsRest ended false rest
+rest_unless after.Goes rest gone = absurd (gone refl)
 rest_unless after.Gone rest gone = tt
 rest_unless after.Aborted rest gone = tt
 
@@ -133,7 +132,7 @@ returns-in_default c =
       rest = rest_unless c.in_ok-ended-in-Heard.ended _ c.in_default.not-Goes;
       took = λ first holds.
           let goes = c.loop-at.invariant.goes first holds in
-          takes_message first goes.0 c.loop-at.party c.loop-at.tables c.args.octets.now goes.1 c.args.replies.now.items c.loop-at.at goes.2 goes.4
-          c.in-Heard.message c.in-Heard.length c.take_message.new.replies.items c.loop-at.replies.items c.take_message.new.tables c.in_ok-ended-in-Heard.ended goes.3 found
+          takes_message first goes.0 c.loop-at.party c.loop-at.tables c.args.octets.now goes.1 c.args.replies.now.lines.items c.loop-at.at goes.2 goes.4
+          c.in-Heard.message c.in-Heard.length c.take_message.new.replies.lines.items c.loop-at.replies.lines.items c.take_message.new.party c.take_message.new.tables c.in_ok-ended-in-Heard.ended goes.3 found
           (c.in_ok-ended-in-Heard.ensures goes.0 (goes.2).0 (goes.2).3);
     }

@@ -7,7 +7,7 @@ abbrev pub invariant-loop-at : goal.invariant-loop-at
 invariant-loop-at l = record {
   within : l.at ≤ length l.octets;
   goes : (first : State) → Holds l.initial.party l.initial.tables first
-      → (state : State) × (said : List ℕ) × Holds l.party l.tables state × (l.replies.items ≡ l.initial.replies.items ++ said)
+      → (state : State) × (said : List ℕ) × Holds l.party l.tables state × (l.replies.lines.items ≡ l.initial.replies.lines.items ++ said)
       × Continues first l.octets said state (drop l.at l.octets);
 }
 

@@ -11,7 +11,7 @@ pub returns-in_err-write_lines-clause-interrupted : goal.returns-in_err-write_li
 returns-in_err-write_lines-clause-interrupted g c = on_err c.from_residual-in_err-write_lines.result _ (λ state stands input.
     let old = g.O.Sink.taken c.args.out.now in
     let new = g.O.Sink.taken c.write_lines.new.out in
-    let lines = c.take.new.replies.items in
+    let lines = c.take.new.replies.lines.items in
     let takes = subst (λ (l : List ℕ). TakesReady state c.args.conversation.now l lines c.take.new.self c.in_ok-aborted.aborted) c.clear.ensures.items
     (c.in_ok-aborted.ensures.takes state stands) in
     ready_interrupted state c.args.conversation.now old new c.in_ok-aborted.aborted lines c.take.new.self takes
@@ -21,7 +21,7 @@ pub returns-then-aborted-clause-takes : goal.returns-then-aborted-clause-takes
 returns-then-aborted-clause-takes g c = λ state stands input.
     let old = g.O.Sink.taken c.args.out.now in
     let new = g.O.Sink.taken c.write_lines.new.out in
-    let lines = c.take.new.replies.items in
+    let lines = c.take.new.replies.lines.items in
     let takes = subst (λ (b : Bool). TakesReady state c.args.conversation.now [] lines c.take.new.self b) c.if-aborted.true
     (subst (λ (l : List ℕ). TakesReady state c.args.conversation.now l lines c.take.new.self c.in_ok-aborted.aborted) c.clear.ensures.items
     (c.in_ok-aborted.ensures.takes state stands)) in
@@ -32,7 +32,7 @@ pub returns-else-aborted-clause-takes : goal.returns-else-aborted-clause-takes
 returns-else-aborted-clause-takes g c = λ state stands input.
     let old = g.O.Sink.taken c.args.out.now in
     let new = g.O.Sink.taken c.write_lines.new.out in
-    let lines = c.take.new.replies.items in
+    let lines = c.take.new.replies.lines.items in
     let takes = subst (λ (b : Bool). TakesReady state c.args.conversation.now [] lines c.take.new.self b) c.if-aborted.false
     (subst (λ (l : List ℕ). TakesReady state c.args.conversation.now l lines c.take.new.self c.in_ok-aborted.aborted) c.clear.ensures.items
     (c.in_ok-aborted.ensures.takes state stands)) in

@@ -1,5 +1,4 @@
 use Rattle.std.proofs.Common.{arith, ap, sym, subst, ◌∙◌, true, false, refl}
-use Rattle.vf_cli.specs.declared.conversation.Stream.{Stream}
 use Rattle.vf_cli.specs.Conversation.{StandsBy, is_ready, octets_in, size_of}
 use Rattle.vf_cli.proofs.StreamLemmas.{not_ready, piece_added, piece_gone}
 use Rattle.vf_cli.proofs.conversation.Conversation.add.Goals as goal
@@ -10,9 +9,10 @@ unreachable-requires c = not_ready c.args.self.now.stream true false (ap is_read
 pub returns-in_ok-self-in-Waiting-clause-adds : goal.returns-in_ok-self-in-Waiting-clause-adds
 returns-in_ok-self-in-Waiting-clause-adds c = λ state stands.
     let is = sym c.replace.ensures.value ∙ c.in-Waiting.is in
-    piece_added state c.args.self.now.tables c.args.self.now.stream _ c.in-Waiting.party c.in-Waiting.pending.items c.args.piece.now.items c.in-Waiting.scan
-    (ap octets_in is) (λ standing. subst (λ (s : Stream). StandsBy s c.args.self.now.tables state) is standing)
-    c.in_ok-self-in-Waiting.ensures.octets c.in_ok-self-in-Waiting.ensures.stands stands
+    let self = c.args.self.now in
+    piece_added state self.party self.tables self.scan c.added.new.scan self.stream _ c.in-Waiting.pending.items c.args.piece.now.items
+    (ap octets_in is) (λ standing. subst (StandsBy self.party self.tables self.scan state) is standing)
+    c.in_ok-self-in-Waiting.ensures.octets c.in_ok-self-in-Waiting.ensures.takes stands
 
 pub returns-in_ok-self-in-Waiting-clause-size : goal.returns-in_ok-self-in-Waiting-clause-size
 returns-in_ok-self-in-Waiting-clause-size c =
@@ -21,7 +21,8 @@ returns-in_ok-self-in-Waiting-clause-size c =
 
 pub returns-in-Gone-clause-adds : goal.returns-in-Gone-clause-adds
 returns-in-Gone-clause-adds c = λ state stands.
-    piece_gone state c.args.self.now.tables c.args.self.now.stream c.replace.new.dest c.args.piece.now.items
+    let self = c.args.self.now in
+    piece_gone state self.party self.tables self.scan self.stream c.replace.new.dest c.args.piece.now.items
     (sym c.replace.ensures.value ∙ c.in-Gone.is) c.replace.ensures.after stands
 
 pub returns-in-Gone-clause-size : goal.returns-in-Gone-clause-size

@@ -1,5 +1,4 @@
 use Rattle.std.proofs.Common.{arith, ap, drop, sym, subst, ◌∙◌, true, false, refl}
-use Rattle.vf_cli.specs.declared.conversation.Stream.{Stream}
 use Rattle.vf_cli.specs.Conversation.{StandsBy, is_ready, octets_in, size_of}
 use Rattle.vf_cli.proofs.StreamLemmas.{not_ready, rest_short, taken_aborted, taken_goes, taken_gone}
 use Rattle.vf_cli.proofs.conversation.Conversation.take.Goals as goal
@@ -7,20 +6,20 @@ use Rattle.vf_cli.proofs.conversation.Conversation.take.Goals as goal
 pub take_messages-requires : goal.take_messages-requires
 take_messages-requires c =
     let stands = c.requires.stands in
-    (stands.0, subst (λ (s : Stream). StandsBy s c.args.self.now.tables stands.0) (sym c.replace.ensures.value ∙ c.in-Ready.is) stands.1)
+    (stands.0, subst (StandsBy c.args.self.now.party c.args.self.now.tables c.args.self.now.scan stands.0) (sym c.replace.ensures.value ∙ c.in-Ready.is) stands.1)
 
 pub rest_after-requires-clause-short : goal.rest_after-requires-clause-short
 rest_after-requires-clause-short c =
-    rest_short c.in_ok-after-in-Ready.field-0.after c.in-Goes.party c.in_ok-after-in-Ready.field-0.more (drop c.in_ok-after-in-Ready.field-0.used c.in-Ready.octets) c.in-Goes.is
+    rest_short c.in_ok-after-in-Ready.field-0.after c.in_ok-after-in-Ready.field-0.more (drop c.in_ok-after-in-Ready.field-0.used c.in-Ready.octets) c.in-Goes.is
     c.in_ok-after-in-Ready.ensures.rest
 
 pub returns-in-Goes-clause-takes : goal.returns-in-Goes-clause-takes
 returns-in-Goes-clause-takes c = λ state stands.
     let is = sym c.replace.ensures.value ∙ c.in-Ready.is in
-    taken_goes state c.args.self.now.stream c.in-Ready.octets (ap octets_in is) c.args.replies.now.items c.take_messages.new.replies.items c.take_messages.new.tables
+    taken_goes state c.args.self.now.stream c.in-Ready.octets (ap octets_in is) c.args.replies.now.lines.items c.take_messages.new.replies.lines.items c.take_messages.new.party c.take_messages.new.tables
     c.in_ok-after-in-Ready.field-0.after (drop c.in_ok-after-in-Ready.field-0.used c.in-Ready.octets)
-    (c.in_ok-after-in-Ready.ensures.took state (subst (λ (s : Stream). StandsBy s c.args.self.now.tables state) is stands))
-    c.in-Goes.party _ c.in-Goes.is c.in_ok-self-in-Goes.ensures.octets c.in_ok-self-in-Goes.ensures.stands
+    (c.in_ok-after-in-Ready.ensures.took state (subst (StandsBy c.args.self.now.party c.args.self.now.tables c.args.self.now.scan state) is stands))
+    c.rest_after.new.scan _ c.in-Goes.is c.in_ok-self-in-Goes.ensures.octets c.in_ok-self-in-Goes.ensures.takes
 
 pub returns-in-Goes-clause-size : goal.returns-in-Goes-clause-size
 returns-in-Goes-clause-size c =
@@ -30,10 +29,10 @@ returns-in-Goes-clause-size c =
 pub returns-in-Gone-after-clause-takes : goal.returns-in-Gone-after-clause-takes
 returns-in-Gone-after-clause-takes c = λ state stands.
     let is = sym c.replace.ensures.value ∙ c.in-Ready.is in
-    taken_gone state c.args.self.now.stream c.in-Ready.octets (ap octets_in is) c.args.replies.now.items c.take_messages.new.replies.items c.take_messages.new.tables
+    taken_gone state c.args.self.now.stream c.in-Ready.octets (ap octets_in is) c.args.replies.now.lines.items c.take_messages.new.replies.lines.items c.take_messages.new.party c.take_messages.new.tables
     c.in_ok-after-in-Ready.field-0.after (drop c.in_ok-after-in-Ready.field-0.used c.in-Ready.octets)
-    (c.in_ok-after-in-Ready.ensures.took state (subst (λ (s : Stream). StandsBy s c.args.self.now.tables state) is stands))
-    c.replace.new.dest c.in-Gone-after.is c.replace.ensures.after
+    (c.in_ok-after-in-Ready.ensures.took state (subst (StandsBy c.args.self.now.party c.args.self.now.tables c.args.self.now.scan state) is stands))
+    c.args.self.now.scan c.replace.new.dest c.in-Gone-after.is c.replace.ensures.after
 
 pub returns-in-Gone-after-clause-size : goal.returns-in-Gone-after-clause-size
 returns-in-Gone-after-clause-size c =
@@ -43,9 +42,9 @@ returns-in-Gone-after-clause-size c =
 pub returns-in-Ready-clause-takes : goal.returns-in-Ready-clause-takes
 returns-in-Ready-clause-takes c = λ state stands.
     let is = sym c.replace.ensures.value ∙ c.in-Ready.is in
-    taken_aborted state c.args.self.now.stream c.in-Ready.octets (ap octets_in is) c.args.replies.now.items c.take_messages.new.replies.items c.take_messages.new.tables
+    taken_aborted state c.args.self.now.stream c.in-Ready.octets (ap octets_in is) c.args.replies.now.lines.items c.take_messages.new.replies.lines.items c.take_messages.new.party c.take_messages.new.tables
     c.in_ok-after-in-Ready.field-0.after (drop c.in_ok-after-in-Ready.field-0.used c.in-Ready.octets)
-    (c.in_ok-after-in-Ready.ensures.took state (subst (λ (s : Stream). StandsBy s c.args.self.now.tables state) is stands))
+    (c.in_ok-after-in-Ready.ensures.took state (subst (StandsBy c.args.self.now.party c.args.self.now.tables c.args.self.now.scan state) is stands))
     c.in-Aborted.is
 
 pub returns-in-Ready-clause-size : goal.returns-in-Ready-clause-size
