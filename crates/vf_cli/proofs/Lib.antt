@@ -9,6 +9,7 @@ mod ReceivedLemmas
 mod ReadingLemmas
 mod ConsequenceLemmas
 pub mod HexLemmas
+pub mod HexLineLemmas
 pub mod BlockLemmas
 pub mod InputLemmas
 pub mod ReaderLemmas

@@ -1,24 +1,24 @@
 //! Octets as text in hexadecimal: two digits an octet, the high half first, each 0 to 9 or A to F.
-ghost use Rattle.std.specs.Prelude.{◌≡◌, ◌+◌, ◌*◌, ◌/◌, ◌≤◌, ◌<◌, ◌++◌, [], length, vec_len, vec_capacity, slice_index, IfOk, IfSome, OnOk, OnErr};
-ghost use Rattle.vf_cli.specs.Hex.{IsHalfOf, Spells, Takes, TakesOctets, TakesPairs, digit_of, first_half_of, half_of, hex_of};
-ghost use Rattle.vf_cli.specs.Lines.{IsInLine};
+ghost use Rattle.std.specs.Prelude.{◌≡◌, ◌+◌, ◌*◌, ◌/◌, ◌≤◌, ◌<◌, ◌++◌, [], length, take, vec_len, vec_capacity, slice_index, IfOk, IfSome, OnOk, OnErr};
+ghost use Rattle.vf_cli.specs.Hex.{IsHalfOf, Spells, Takes, TakesOctets, TakesPairs, digit_of, first_half_of, half_of};
+ghost use Rattle.vf_cli.specs.Lines.{IsInLine, hex_line};
 
 use std::alloc::Global;
 use std::marker::Model;
 use std::mem;
 use vf_base::NoMemory;
 
-/// Appends the digits of octets to a text that has room for them.
-pub(crate) fn encode(octets: &[u8], text: &mut Vec<u8>)
-    requires { vec_len text.old + 2 * length octets.now ≤ vec_capacity text.old }
-    ensures digits { text.new.items ≡ text.old.items ++ hex_of octets.now }
-    ensures len { vec_len text.new ≡ vec_len text.old + 2 * length octets.now }
-    ensures capacity { vec_capacity text.old ≤ vec_capacity text.new }
+/// Puts the line that spells octets into the end of a text, from a place on.
+pub(crate) fn put_hex_line(octets: &[u8], start: usize, text: &mut [u8])
+    requires { start + 2 * length octets.now + 1 ≡ length text.old }
+    ensures { text.new ≡ take start text.old ++ hex_line octets.now }
 {
-    for octet in octets {
-        text.push(digit(*octet / 16)).unwrap();
-        text.push(digit(*octet % 16)).unwrap();
+    for (place, octet) in octets.iter().enumerate() {
+        let at = start + 2 * place;
+        text[at] = digit(*octet / 16);
+        text[at + 1] = digit(*octet % 16);
     }
+    text[start + 2 * octets.len()] = 10;
 }
 
 /// The digits of a line as far as it was read, which are kept as the octets that they spell.

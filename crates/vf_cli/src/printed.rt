@@ -2,7 +2,7 @@
 ghost use Rattle.std.specs.Prelude.{◌≡◌, ◌++◌, [], OnErr, OnOk};
 ghost use Rattle.vf_cli.specs.Lines.{hex_line, bad_line, usage_line};
 
-use crate::hex::encode;
+use crate::hex::put_hex_line;
 use std::alloc::Global;
 use vf_base::NoMemory;
 
@@ -30,9 +30,10 @@ pub(crate) fn append_hex_line(octets: &[u8], text: &mut Vec<u8>) -> Result<(), N
     ensures ok { OnOk result (text.new.items ≡ text.old.items ++ hex_line octets.now) }
     ensures err { OnErr result (text.new.items ≡ text.old.items) }
 {
+    let start = text.len();
     text.reserve(2 * octets.len() + 1)?;
-    encode(octets, text);
-    text.push(10).unwrap();
+    text.resize(start + 2 * octets.len() + 1, 0)?;
+    put_hex_line(octets, start, text.as_mut_slice());
     Ok(())
 }
 
