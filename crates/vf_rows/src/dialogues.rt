@@ -1,5 +1,6 @@
 //! What `dialogue` prints, and what words outside the grammar print.
 use crate::call::{call, only, words_of};
+use crate::sips::sipped;
 use vf_base::{NoMemory, SliceSource};
 use vf_cli::{WordsError, wanted};
 
@@ -130,6 +131,14 @@ fn lines_in_and_out(rt: HostRuntime) -> Result<(), NoMemory> {
         let found = call(rt.alloc(), "dialogue", &mut input, Vec::new(rt.alloc()))?;
         assert!(rt; found.status == status, "{text}");
         assert!(rt; found.octets.as_slice() == printed.as_bytes(), "{text}");
+        for most in [1, 2, 3, 64] {
+            let found = sipped(rt.alloc(), text, most)?;
+            assert!(rt; found.status == status, "{text} {most}");
+            assert!(rt;
+                found.octets.as_slice() == printed.as_bytes(),
+                "{text} {most}"
+            );
+        }
     }
     Ok(())
 }

@@ -1,7 +1,9 @@
 //! A source that gives few octets at once.
 ghost use Rattle.std.specs.Prelude.{◌<◌};
 
-use vf_base::{Failed, SliceSource, Source};
+use crate::call::{Printed, call};
+use std::alloc::Global;
+use vf_base::{Failed, NoMemory, SliceSource, Source};
 
 /// A source in memory, of which a read gives so many octets at most.
 #[derive(Drop)]
@@ -29,4 +31,14 @@ impl<'a> Source for Sips<'a> {
     fn faults(&self) -> u64 {
         self.octets.faults()
     }
+}
+
+/// What `dialogue` prints for a text of which so many octets, one at least, come at once.
+pub(crate) fn sipped(alloc: Global, text: &str, most: usize) -> Result<Printed, NoMemory> {
+    let octets = SliceSource::new(text.as_bytes(), Vec::new(alloc));
+    let mut input = Sips {
+        octets,
+        most: most.max(1),
+    };
+    call(alloc, "dialogue", &mut input, Vec::new(alloc))
 }
