@@ -28,7 +28,7 @@ pub(crate) enum Stream {
     Gone,
     /// They are the begin of a message.
     Waiting { pending: Vec<u8> },
-    /// There may be messages before them.
+    /// They may begin with messages.
     Ready { octets: Octets },
 }
 
