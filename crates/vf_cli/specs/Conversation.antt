@@ -31,7 +31,7 @@ use Rattle.vf_cli.specs.declared.dialogue.Interruption.{Interruption}
 use Rattle.vf_cli.specs.Ftam.{EndsDialogue}
 use Rattle.vf_cli.specs.Printed.{Printed, Wrote, WrotePrefix}
 
--- what stands first of octets of this reading
+-- what octets of this reading begin with
 abbrev pub IsPrefix : Reading → Result Prefix NoMemory → Type 0
 IsPrefix reading (Ok prefix.Nothing) = reading ≡ Short
 IsPrefix Short (Ok (prefix.Fault place)) = ⊥

@@ -1,4 +1,4 @@
-//! Messages before octets, and replies as lines.
+//! The messages that octets begin with, and replies as lines.
 ghost use Rattle.std.specs.Prelude.{◌≡◌, ◌++◌, OnOk};
 ghost use Rattle.vf_ber.specs.Limits.{IsTooLarge};
 ghost use Rattle.vf_ber.specs.Reader.{reading};
@@ -21,7 +21,7 @@ use vf_elements::{Message, Said};
 use vf_pdu::Pdu;
 use vf_pdu_fields::PduError;
 
-/// What stands before octets.
+/// What octets begin with.
 #[derive(Drop)]
 pub(crate) enum Prefix {
     /// A proper prefix of a message.
@@ -32,7 +32,7 @@ pub(crate) enum Prefix {
     Heard { message: Message, length: usize },
 }
 
-/// What stands before the octets, which the message shares.
+/// What the octets begin with, which the message shares.
 pub(crate) fn prefix_of(alloc: Global, octets: &Octets) -> Result<Prefix, NoMemory>
     ensures prefix { IsPrefix (reading octets.now) result }
     ensures advances { Advances octets.now result }

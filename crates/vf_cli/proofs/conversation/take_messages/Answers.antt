@@ -18,7 +18,7 @@ use Rattle.vf_cli.proofs.ReadingLemmas.{reading_none}
 use Rattle.vf_cli.proofs.TakenLemmas.{takes_fault, takes_message, with_tables-same}
 use Rattle.vf_cli.proofs.conversation.take_messages.Goals as goal
 
--- what stands first of the octets from a place on
+-- what the octets from a place on begin with
 found_at : (octets rest : List ℕ) (at : ℕ) (found is : Prefix) → rest ≡ drop at octets → found ≡ is → IsPrefix (reading rest) (Ok found)
     → IsPrefix (reading (drop at octets)) (Ok is)
 found_at octets rest at found is tail same prefix =
