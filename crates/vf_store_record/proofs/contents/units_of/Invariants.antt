@@ -1,0 +1,8 @@
+use Rattle.std.proofs.Common.{◌≡◌, ◌-◌}
+use Rattle.vf_store_record.specs.Entries.{unit_in}
+use Rattle.vf_store_record.specs.Formats.{repeated_read}
+use Rattle.vf_store_record.proofs.Loop.{after_these}
+use Rattle.vf_store_record.proofs.contents.units_of.Given as goal
+
+abbrev pub invariant-loop : goal.invariant-loop
+invariant-loop l = after_these l.units.items (repeated_read (unit_in l.contents) (l.count - l.counter) l.rest) ≡ repeated_read (unit_in l.contents) l.count l.octets

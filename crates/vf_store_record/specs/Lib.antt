@@ -1,0 +1,5 @@
+pub mod Formats
+pub mod Fields
+pub mod Entries
+pub mod Records
+pub mod Reading

@@ -1,0 +1,247 @@
+//! Files in a record: their units as lists of strings.
+ghost use Rattle.std.specs.Prelude.{◌≡◌, ◌+◌, ◌<◌, ◌≤◌, ◌↔◌, true, length, IfOk, IsTrue, MatchOption};
+ghost use Rattle.vf_store_record.specs.Entries.{kind_number as number_meant, string_in, string_of as string_meant, unit_in, units_in};
+ghost use Rattle.vf_store_record.specs.Formats.{repeated_read};
+ghost use Rattle.vf_store_record.specs.Reading.{Gives};
+ghost use Rattle.vf_store_record.specs.Records.{constraint_for as constraint_meant, file, file_from, has_shape as shape_meant, is_tree as tree_meant};
+ghost use Rattle.vf_tree.specs.FileTree.{IsWithinFile, octets_in, octets_of_unit, parts_in};
+
+use crate::ReadError;
+use crate::fields::{name_at, string_at, u32_at};
+use crate::files::attributes_at;
+use std::alloc::Global;
+use vf_attr::{Attributes, File};
+use vf_base::{Constraint, Contents, DataUnit, Element, FaduId, Name, NoMemory, Octets, Sequence};
+use vf_tree::{MOST_FILE_OCTETS, MOST_FILE_PARTS, Tree, octets_of};
+
+/// The number of the document type.
+fn kind_number(contents: &Contents) -> u8
+    ensures { result ≡ number_meant contents.now.kind }
+{
+    let arcs = contents.kind.arcs();
+    if arcs == [1, 0, 8571, 5, 1].as_slice() {
+        1
+    } else if arcs == [1, 0, 8571, 5, 2].as_slice() {
+        2
+    } else {
+        3
+    }
+}
+
+fn string_of(contents: &Contents, octets: Octets) -> Element
+    ensures { result ≡ string_meant contents.now octets }
+{
+    if kind_number(contents) == 3 {
+        Element::Binary { octets }
+    } else {
+        Element::Text {
+            class: contents.class,
+            octets,
+        }
+    }
+}
+
+fn constraint_for(contents: &Contents) -> Constraint
+    ensures { result ≡ constraint_meant contents.now }
+{
+    if kind_number(contents) == 2 {
+        Constraint::SequentialFlat
+    } else {
+        Constraint::Unstructured
+    }
+}
+
+#[tactic(auto, unfolding(crate::specs::Entries::string_in))]
+fn element_in<'a>(
+    alloc: Global,
+    contents: &Contents,
+    octets: &'a [u8],
+) -> Result<(Element, &'a [u8]), ReadError>
+    ensures { Gives (λ found. (found.0, found.1.now)) result ((string_in contents.now).read octets.now) }
+{
+    let (string, rest) = string_at(alloc, octets)?;
+    Ok((string_of(contents, string), rest))
+}
+
+fn strings_in<'a>(
+    alloc: Global,
+    contents: &Contents,
+    count: u32,
+    octets: &'a [u8],
+) -> Result<(DataUnit, &'a [u8]), ReadError>
+    ensures { Gives (λ found. (found.0, found.1.now)) result (repeated_read (string_in contents.now) count octets.now) }
+{
+    let mut unit = Sequence::new(alloc);
+    let mut rest = octets;
+    for _ in 0..count {
+        let (element, after) = element_in(alloc, contents, rest)?;
+        unit.push(element)?;
+        rest = after;
+    }
+    Ok((unit, rest))
+}
+
+#[tactic(auto, unfolding(crate::specs::Entries::unit_in, crate::specs::Fields::number32))]
+fn unit_at<'a>(
+    alloc: Global,
+    contents: &Contents,
+    octets: &'a [u8],
+) -> Result<(DataUnit, &'a [u8]), ReadError>
+    ensures { Gives (λ found. (found.0, found.1.now)) result ((unit_in contents.now).read octets.now) }
+{
+    let (count, rest) = u32_at(octets)?;
+    strings_in(alloc, contents, count, rest)
+}
+
+fn units_of<'a>(
+    alloc: Global,
+    contents: &Contents,
+    count: u32,
+    octets: &'a [u8],
+) -> Result<(Vec<DataUnit>, &'a [u8]), ReadError>
+    ensures { Gives (λ found. (found.0.items, found.1.now)) result (repeated_read (unit_in contents.now) count octets.now) }
+{
+    let mut units = Vec::new(alloc);
+    let mut rest = octets;
+    for _ in 0..count {
+        let (unit, after) = unit_at(alloc, contents, rest)?;
+        units.push(unit)?;
+        rest = after;
+    }
+    Ok((units, rest))
+}
+
+#[tactic(auto, unfolding(crate::specs::Entries::units_in, crate::specs::Fields::number32))]
+fn units_at<'a>(
+    alloc: Global,
+    contents: &Contents,
+    octets: &'a [u8],
+) -> Result<(Vec<DataUnit>, &'a [u8]), ReadError>
+    ensures { Gives (λ found. (found.0.items, found.1.now)) result ((units_in contents.now).read octets.now) }
+{
+    let (count, rest) = u32_at(octets)?;
+    units_of(alloc, contents, count, rest)
+}
+
+/// The octets of a unit's strings; absent where they are more than so many.
+fn octets_within(unit: &[Element], most: u64) -> Option<u64>
+    requires { most ≤ MOST_FILE_OCTETS }
+    ensures { MatchOption result (most < octets_of_unit unit.now) (λ octets. (octets ≡ octets_of_unit unit.now) × (octets ≤ most)) }
+{
+    let mut octets = 0;
+    for element in unit {
+        let more = octets_of(element);
+        if more > most - octets {
+            return None;
+        }
+        octets += more;
+    }
+    Some(octets)
+}
+
+/// Whether the units are within a file.
+fn are_within(units: &[DataUnit]) -> bool
+    ensures { IsTrue result ↔ ((octets_in units.now ≤ MOST_FILE_OCTETS) × (parts_in units.now ≤ MOST_FILE_PARTS)) }
+{
+    let mut octets_left = MOST_FILE_OCTETS;
+    let mut parts_left = u64::from(MOST_FILE_PARTS);
+    for unit in units {
+        let Some(octets) = octets_within(unit.as_slice(), octets_left) else {
+            return false;
+        };
+        octets_left -= octets;
+        if unit.len() as u64 >= parts_left {
+            return false;
+        }
+        parts_left -= unit.len() as u64 + 1;
+    }
+    true
+}
+
+fn has_shape(constraint: Constraint, units: &[DataUnit]) -> bool
+    ensures { result ≡ shape_meant constraint units.now }
+{
+    match constraint {
+        Constraint::Unstructured => units.len() == 1,
+        Constraint::SequentialFlat => true,
+    }
+}
+
+/// Whether the units are a tree of the constraint set.
+fn is_tree(constraint: Constraint, units: &[DataUnit]) -> bool
+    ensures { result ≡ tree_meant constraint units.now }
+{
+    has_shape(constraint, units) && are_within(units)
+}
+
+/// A sequential flat file of these units.
+fn flat(alloc: Global, units: Vec<DataUnit>) -> Result<Tree, NoMemory>
+    requires { IsWithinFile units.items }
+    ensures { IfOk result (λ tree. tree ≡ record { constraint = Constraint.SequentialFlat; units = units.items }) }
+{
+    let mut tree = Tree::empty(alloc, Constraint::SequentialFlat)?;
+    match tree.insert(alloc, FaduId::End, units) {
+        Ok(_) => Ok(tree),
+        Err(_) => Err(NoMemory),
+    }
+}
+
+/// An unstructured file of this unit.
+fn unstructured(alloc: Global, units: Vec<DataUnit>) -> Result<Tree, NoMemory>
+    requires shape { length units.items ≡ 1 }
+    requires within { IsWithinFile units.items }
+    ensures { IfOk result (λ tree. tree ≡ record { constraint = Constraint.Unstructured; units = units.items }) }
+{
+    let mut tree = Tree::empty(alloc, Constraint::Unstructured)?;
+    let mut units = units;
+    let Some(unit) = units.pop() else {
+        return Err(NoMemory);
+    };
+    match tree.replace(alloc, FaduId::Begin, unit) {
+        Ok(_) => Ok(tree),
+        Err(_) => Err(NoMemory),
+    }
+}
+
+/// The tree of these units.
+fn tree_of(alloc: Global, constraint: Constraint, units: Vec<DataUnit>) -> Result<Tree, NoMemory>
+    requires { tree_meant constraint units.items ≡ true }
+    ensures { IfOk result (λ tree. tree ≡ record { constraint = constraint; units = units.items }) }
+{
+    match constraint {
+        Constraint::Unstructured => unstructured(alloc, units),
+        Constraint::SequentialFlat => flat(alloc, units),
+    }
+}
+
+fn joined(name: Name, attributes: Attributes, tree: Tree) -> File
+    ensures { tree.constraint ≡ constraint_meant attributes.contents → result ≡ file_from name attributes tree.units }
+{
+    File {
+        name,
+        permitted: attributes.permitted,
+        contents: attributes.contents,
+        terms: attributes.terms,
+        created: attributes.created,
+        modified: attributes.modified,
+        read: attributes.read,
+        changed: attributes.changed,
+        version: attributes.version,
+        tree,
+    }
+}
+
+#[tactic(auto, unfolding(crate::specs::Records::file))]
+pub(crate) fn file_at(alloc: Global, octets: &[u8]) -> Result<(File, &[u8]), ReadError>
+    ensures { Gives (λ found. (found.0, found.1.now)) result (file.read octets.now) }
+{
+    let (name, rest) = name_at(alloc, octets)?;
+    let (attributes, rest) = attributes_at(alloc, rest)?;
+    let (units, rest) = units_at(alloc, &attributes.contents, rest)?;
+    let constraint = constraint_for(&attributes.contents);
+    if !is_tree(constraint, &units) {
+        return Err(ReadError::Foreign);
+    }
+    let tree = tree_of(alloc, constraint, units)?;
+    Ok((joined(name, attributes, tree), rest))
+}

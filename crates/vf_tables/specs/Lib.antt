@@ -1,0 +1,5 @@
+pub mod Entries
+pub mod Changes
+pub mod Fitting
+pub mod Validity
+pub mod Snapshot

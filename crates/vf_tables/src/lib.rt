@@ -1,0 +1,21 @@
+//! What a filestore keeps (ISO 8571-2 and -3): its users, its files, the dockets of its recoverable regimes and the
+//! tasks of its initiator, and the changes of these.
+#![tactic(auto)]
+
+mod change;
+mod docket;
+mod limits;
+mod tables;
+mod task;
+mod user;
+
+pub use change::{Change, Changes};
+pub use docket::{Direction, Docket, Operation, Regime};
+pub use limits::{
+    MOST_ACTIVITY, MOST_DOCKETS, MOST_EVERY, MOST_FILES, MOST_FILESTORE_OCTETS,
+    MOST_PASSWORD_OCTETS, MOST_POINT, MOST_SURVIVING_ELEMENTS, MOST_SURVIVING_OCTETS, MOST_TASKS,
+    MOST_TERMS, MOST_TRANSFERS, MOST_USERS,
+};
+pub use tables::{Dockets, Files, Tables, Tasks, Users};
+pub use task::{Phase, Plan, Task, Way};
+pub use user::User;
