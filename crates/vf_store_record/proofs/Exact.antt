@@ -1,9 +1,9 @@
 -- Formats of which what is written is read again, and what is read was written so.
-use Rattle.std.proofs.Common.{◌≡◌, ℕ, zero, suc, ◌+◌, ◌<◌, List, [], ◌∷◌, ◌++◌, length, get_or, Option, Some, None, refl, sym, ap, subst, ◌∙◌, append_assoc, arith}
+use Rattle.std.proofs.Common.{◌≡◌, ℕ, zero, suc, ◌+◌, ◌<◌, List, [], ◌∷◌, ◌++◌, length, get_or, Option, Some, None, refl, sym, ap, subst, ◌∙◌, append_assoc}
 use Rattle.std.specs.List.{flat_map, AllByRecursion}
 use Rattle.std.specs.Prelude.{MatchOption}
 use Rattle.std.proofs.lemmas.List.Concat.{flat_map-cons}
-use Rattle.vf_store_record.specs.Formats.{Format, ◌>>=◌, octet, both, made, shaped, optional, optional_read, optional_spelled, repeated, repeated_read}
+use Rattle.vf_store_record.specs.Formats.{Format, ◌>>=◌, octet, both, made, optional, optional_read, optional_spelled, repeated_read}
 
 abbrev pub IsBytes : List ℕ → Type 0
 IsBytes octets = (i : ℕ) → get_or octets i 0 < 256

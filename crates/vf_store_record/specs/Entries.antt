@@ -1,13 +1,9 @@
 -- The rows of a record (profile): what is kept of a user, of a file, of a recoverable regime and of a task.
-use Rattle.std.specs.Prelude.{ℕ, ◌==◌, Bool, true, ◌&&◌, nat_eq, nat_le, List, [], ◌∷◌, length, map, Option, Some, None, unwrap_or, if◌then◌else◌}
+use Rattle.std.specs.Prelude.{ℕ, ◌==◌, Bool, ◌&&◌, nat_eq, List, [], ◌∷◌, Option, Some, None, if◌then◌else◌}
 use Rattle.std.specs.Option.{option_map}
 use Rattle.std.specs.Str.{bytes_eq}
-use Rattle.vf_attr.specs.Attributes.{attributes_of}
 use Rattle.vf_attr.specs.declared.attributes.Attributes.{Attributes}
-use Rattle.vf_attr.specs.declared.file.File.{File}
 use Rattle.vf_attr.specs.declared.stamp.Stamp.{Stamp}
-use Rattle.vf_base.specs.declared.access.Constraint.{Constraint}
-use Rattle.vf_base.specs.declared.access.Constraint.TheVariants.{Unstructured, SequentialFlat}
 use Rattle.vf_base.specs.declared.access.Context.{Context}
 use Rattle.vf_base.specs.declared.access.Context.TheVariants.{HA, FA, UA, US}
 use Rattle.vf_base.specs.declared.access.FaduId.{FaduId}
@@ -17,9 +13,7 @@ use Rattle.vf_base.specs.declared.contents.Contents.{Contents}
 use Rattle.vf_base.specs.declared.element.Element.{Element}
 use Rattle.vf_base.specs.declared.element.Element.TheVariants.{Descriptor, Enter, Exit, Text, Binary}
 use Rattle.vf_base.specs.declared.term.Term.{Term}
-use Rattle.vf_doctype.specs.DocumentTypes.{constraint_of, entry, is_class, kind_of}
-use Rattle.vf_doctype.specs.declared.doc_type.Kind.{Kind}
-use Rattle.vf_doctype.specs.declared.doc_type.Kind.TheVariants.{Ftam1, Ftam2, Ftam3}
+use Rattle.vf_doctype.specs.DocumentTypes.{entry, is_class}
 use Rattle.vf_tables.specs.declared.docket.Direction.{Direction}
 use Rattle.vf_tables.specs.declared.docket.Direction.TheVariants.{Idle, Read, Write}
 use Rattle.vf_tables.specs.declared.docket.Operation.{Operation}
@@ -251,12 +245,12 @@ progress_parts value = (value.position, (value.number, (value.last, value.window
 unfoldable pub progress : Format Progress
 progress = shaped progress_from progress_parts (both number32 (both number32 (both number16 number16)))
 
--- how the transfer under way stands: its doom, its point, whether its data have ended, the version that it reads
+-- how the transfer under way stands: why it is refused, its point, whether its data have ended, the version that it reads
 abbrev pub standing_from : ℕ × (ℕ × (Bool × ℕ)) → Standing
-standing_from row = record { doom = row.0; point = row.1.0; ended = row.1.1.0; version = row.1.1.1 }
+standing_from row = record { refused = row.0; point = row.1.0; ended = row.1.1.0; version = row.1.1.1 }
 
 abbrev pub standing_parts : Standing → ℕ × (ℕ × (Bool × ℕ))
-standing_parts value = (value.doom, (value.point, (value.ended, value.version)))
+standing_parts value = (value.refused, (value.point, (value.ended, value.version)))
 
 unfoldable pub standing : Format Standing
 standing = shaped standing_from standing_parts (both number16 (both number32 (both truth number32)))
@@ -277,7 +271,7 @@ regime_from row = record {
   window = row.1.1.0.window;
   direction = row.1.1.1.0.direction;
   fadu = row.1.1.1.0.fadu;
-  doom = row.1.1.1.1.doom;
+  refused = row.1.1.1.1.refused;
   point = row.1.1.1.1.point;
   ended = row.1.1.1.1.ended;
   version = row.1.1.1.1.version;
@@ -292,7 +286,7 @@ regime_parts value = (
       record { position = value.position; number = value.number; last = value.last; window = value.window },
       (
         record { direction = value.direction; fadu = value.fadu },
-        record { doom = value.doom; point = value.point; ended = value.ended; version = value.version },
+        record { refused = value.refused; point = value.point; ended = value.ended; version = value.version },
       ),
     ),
   ),

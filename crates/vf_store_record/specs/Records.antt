@@ -9,7 +9,7 @@ use Rattle.vf_base.specs.declared.contents.Contents.{Contents}
 use Rattle.vf_base.specs.declared.element.Element.{Element}
 use Rattle.vf_tables.specs.declared.change.Change.{Change}
 use Rattle.vf_tables.specs.declared.change.Change.TheVariants.{PutUser, PutFile, PutAttributes, DropFile, PutDocket, Stage, CutStage, DropDocket, PutTask, StageTask, CutTask, DropTask}
-use Rattle.vf_tree.specs.FileTree.{FileTree, octets_in, parts_in}
+use Rattle.vf_tree.specs.FileTree.{octets_in, parts_in}
 use Rattle.vf_tree.specs.declared.limits.TheConstants.{MOST_FILE_OCTETS, MOST_FILE_PARTS}
 use Rattle.vf_store_record.specs.declared.changes.Docketed.{Docketed}
 use Rattle.vf_store_record.specs.declared.changes.Piece.{Piece}

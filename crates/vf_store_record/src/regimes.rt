@@ -48,7 +48,7 @@ pub(crate) struct Transfer {
 /// How the transfer under way stands.
 #[derive(Clone, Copy)]
 pub(crate) struct Standing {
-    pub(crate) doom: u16,
+    pub(crate) refused: u16,
     pub(crate) point: u32,
     pub(crate) ended: bool,
     pub(crate) version: u32,
@@ -138,13 +138,13 @@ fn progress_at(octets: &[u8]) -> Result<(Progress, &[u8]), ReadError>
 fn standing_at(octets: &[u8]) -> Result<(Standing, &[u8]), ReadError>
     ensures { Gives (λ found. (found.0, found.1.now)) result (standing.read octets.now) }
 {
-    let (doom, rest) = u16_at(octets)?;
+    let (refused, rest) = u16_at(octets)?;
     let (point, rest) = u32_at(rest)?;
     let (ended, rest) = truth_at(rest)?;
     let (version, rest) = u32_at(rest)?;
     Ok((
         Standing {
-            doom,
+            refused,
             point,
             ended,
             version,
@@ -253,7 +253,7 @@ fn joined(
         window: progress.window,
         direction: transfer.direction,
         fadu: transfer.fadu,
-        doom: standing.doom,
+        refused: standing.refused,
         point: standing.point,
         ended: standing.ended,
         version: standing.version,

@@ -1,6 +1,6 @@
 -- What a filestore keeps, as lists whose entries are found by a key: a user by its identity, a file by its name, a
 -- docket by its initiator's identity and its activity, a task by its activity.
-use Rattle.std.specs.Prelude.{ℕ, Bool, ◌&&◌, nat_eq, not, List, [], ◌∷◌, filter, find, map, Option, Some, None, if◌then◌else◌}
+use Rattle.std.specs.Prelude.{ℕ, Bool, ◌&&◌, nat_eq, List, [], ◌∷◌, find, Option, if◌then◌else◌}
 use Rattle.std.specs.Cmp.Lexicographic.{pointwise}
 use Rattle.vf_attr.specs.declared.file.File.{File}
 use Rattle.vf_tables.specs.declared.docket.Docket.{Docket}

@@ -1,9 +1,8 @@
 -- Which changes fit tables (profile): each field is in its range, and the entry that the change names stands.
-use Rattle.std.specs.Prelude.{ℕ, ◌+◌, Bool, true, false, ◌&&◌, ◌||◌, not, nat_eq, nat_le, List, [], ◌∷◌, length, Option, Some, None, is_some, is_none}
+use Rattle.std.specs.Prelude.{ℕ, ◌+◌, Bool, true, false, ◌&&◌, ◌||◌, nat_eq, nat_le, List, [], ◌∷◌, length, Option, Some, None, is_some, is_none}
 use Rattle.std.specs.Cmp.Lexicographic.{pointwise}
 use Rattle.std.specs.List.{list_all}
 use Rattle.std.specs.Option.{option_map_or}
-use Rattle.vf_attr.specs.declared.attributes.Attributes.{Attributes}
 use Rattle.vf_attr.specs.declared.file.File.{File}
 use Rattle.vf_base.specs.declared.access.Constraint.{Constraint}
 use Rattle.vf_base.specs.declared.access.Constraint.TheVariants.{Unstructured, SequentialFlat}
@@ -26,7 +25,6 @@ use Rattle.vf_tables.specs.declared.task.Plan.{Plan}
 use Rattle.vf_tables.specs.declared.task.Task.{Task}
 use Rattle.vf_tables.specs.declared.task.Way.{Way}
 use Rattle.vf_tables.specs.declared.task.Way.TheVariants.{Get, Put}
-use Rattle.vf_tables.specs.declared.user.User.{User}
 use Rattle.vf_tables.specs.Entries.{docket_of, file_of, task_of}
 use Rattle.vf_tables.specs.Changes.{after}
 

@@ -1,6 +1,6 @@
 -- Which tables are valid (profile): those that a filestore may keep. What each regime and each task has kept agrees
 -- with the files and with each other.
-use Rattle.std.specs.Prelude.{ℕ, ◌+◌, ◌-◌, Bool, true, false, ◌&&◌, ◌||◌, not, nat_eq, nat_le, nat_lt, bit_and, List, [], ◌∷◌, length, find, Option, Some, None, Result, Ok, Err, is_none, if◌then◌else◌}
+use Rattle.std.specs.Prelude.{ℕ, ◌+◌, ◌-◌, Bool, true, false, ◌&&◌, ◌||◌, not, nat_eq, nat_le, nat_lt, bit_and, List, [], ◌∷◌, length, find, Result, Ok, Err, is_none, if◌then◌else◌}
 use Rattle.std.specs.Cmp.Lexicographic.{pointwise}
 use Rattle.std.specs.Int.{bit_at}
 use Rattle.std.specs.List.{list_all, sum_by, zip}
@@ -10,8 +10,7 @@ use Rattle.vf_base.specs.declared.access.Constraint.{Constraint}
 use Rattle.vf_base.specs.declared.access.Constraint.TheVariants.{Unstructured, SequentialFlat}
 use Rattle.vf_base.specs.declared.access.Context.{Context}
 use Rattle.vf_base.specs.declared.access.FaduId.{FaduId}
-use Rattle.vf_base.specs.declared.access.FaduId.TheVariants.{Begin, End, First, Last, Current, Next, Previous, Number}
-use Rattle.vf_base.specs.declared.action.Actions.{Actions}
+use Rattle.vf_base.specs.declared.access.FaduId.TheVariants.{Begin, End, First, Next, Previous}
 use Rattle.vf_base.specs.declared.action.Control.{Control}
 use Rattle.vf_base.specs.declared.element.Element.{Element}
 use Rattle.vf_base.specs.declared.limits.TheConstants.{MOST_STRING_OCTETS}
@@ -117,7 +116,7 @@ is_read file regime context =
 abbrev pub is_write : Regime → Operation → Bool
 is_write regime operation = includes regime.mode.value (action_of operation) && is_written operation regime.fadu
 
--- a transfer under way that isn't doomed
+-- a transfer under way that isn't refused
 abbrev pub is_transfer : File → Regime → Direction → Bool
 is_transfer file regime Idle = true
 is_transfer file regime (Read context) = is_read file regime context
@@ -127,7 +126,7 @@ abbrev pub is_regime_on : Regime → File → Bool
 is_regime_on regime file =
     includes regime.requested.value regime.mode.value && includes (modes file.tree.constraint) regime.mode.value
     && are_controlled regime.mode.value regime.requested.value regime.controls.each
-    && (not (nat_eq regime.doom 0) || is_transfer file regime regime.direction)
+    && (not (nat_eq regime.refused 0) || is_transfer file regime regime.direction)
 
 -- a write has a staged piece for each checkpoint up to its point, and no other regime has any
 abbrev pub pieces_of : Regime → Direction → ℕ

@@ -52,7 +52,7 @@ pub struct Regime {
     /// The FADU that the transfer under way names.
     pub fadu: FaduId,
     /// The number of the diagnostic by which the transfer under way performs nothing, or 0.
-    pub doom: u16,
+    pub refused: u16,
     /// The last checkpoint of the transfer under way that is acknowledged.
     pub point: u32,
     /// The data of the transfer under way have ended.
@@ -83,7 +83,7 @@ impl Regime {
             window: self.window,
             direction: self.direction,
             fadu: self.fadu,
-            doom: self.doom,
+            refused: self.refused,
             point: self.point,
             ended: self.ended,
             version: self.version,
