@@ -16,7 +16,9 @@
 //! number of each end that the first word names, and `*` where the end has the token.
 use bench_base::{Fault, put, put_digits, text_of};
 use std::alloc::Global;
-use vf_session::{Session, SessionError, SessionOut, SpduError, TokenSide, read, write};
+use vf_session::{
+    Session, SessionError, SessionOut, SessionSay, SpduError, TokenSide, read, write,
+};
 
 mod units;
 
@@ -59,26 +61,29 @@ fn put_fault(alloc: Global, fault: SessionError, out: &mut Vec<u8>) -> Result<()
 }
 
 /// The TSDU in which an end sends a unit; none where it may not.
-fn tsdu_of(alloc: Global, from: &mut Session, word: &str) -> Result<Option<Vec<u8>>, Fault> {
-    let mut tsdu = Vec::new(alloc);
-    if word == "q" {
-        tsdu.extend_from_slice(&ABORT_ACCEPTED)?;
-        return Ok(Some(tsdu));
-    }
-    let unit = unit_of(alloc, word)?;
-    let may = from.may(&unit);
-    if may != from.may_carry(&unit.parameters(), unit.data_length()) {
-        return Err(Fault::Received);
-    }
-    if !may {
+fn sent(alloc: Global, from: &mut Session, unit: &SessionSay) -> Result<Option<Vec<u8>>, Fault> {
+    if !from.may(unit) {
         return Ok(None);
     }
     let mut spdus = Vec::new(alloc);
     from.say(alloc, &unit.copy(alloc)?, &mut spdus)?;
+    let mut tsdu = Vec::new(alloc);
     for spdu in &spdus {
         write(alloc, spdu, &mut tsdu)?;
     }
     Ok(Some(tsdu))
+}
+
+/// The TSDU of a word; none where its unit may not be sent.
+fn tsdu_of(alloc: Global, from: &mut Session, word: &str) -> Result<Option<Vec<u8>>, Fault> {
+    if word == "q" {
+        return Ok(Some(Vec::from_slice(alloc, &ABORT_ACCEPTED)?));
+    }
+    let unit = unit_of(alloc, word)?;
+    if from.may(&unit) != from.may_carry(&unit.parameters(), unit.data_length()) {
+        return Err(Fault::Received);
+    }
+    sent(alloc, from, &unit)
 }
 
 /// Takes the SPDUs of a TSDU, up to a fault.
