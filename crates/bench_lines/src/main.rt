@@ -1,9 +1,9 @@
-//! Answers lines, each by one layer: its values, its PDUs, its user data or its sessions. For what stands in bench/, and
-//! for the gate, which compares the answers to the lines of its file stdin.
+//! Answers lines, each by one layer: its values, its PDUs, its user data, its sessions or its streams. For what stands in
+//! bench/, and for the gate, which compares the answers to the lines of its file stdin.
 //!
-//! Without words each line begins with the name of its layer, `ber`, `pdu`, `upper` or `session`, and a space. With the
-//! name as a word all lines are of that layer, and have no name. The files of the layers say what a line has and what is
-//! answered to it, which is one line too.
+//! Without words each line begins with the name of its layer, `ber`, `pdu`, `upper`, `session` or `transport`, and a space;
+//! one that begins with `#` is a heading, and is answered by itself. With the name as a word all lines are of that layer,
+//! and have no name. The files of the layers say what a line has and what is answered to it, which is one line too.
 //!
 //! `ber parse`, `ber rewrite`, `upper parse` and `upper rewrite` take the octets of one value, and of the user data of a
 //! P-DATA, and write how many octets or values there are, or the octets as they are written again. `hold` takes any
@@ -13,11 +13,12 @@
 mod pdu;
 mod session;
 mod spelling;
+mod transport;
 mod upper;
 mod value;
 
 use crate::session::Ends;
-use bench_base::{Fault, end, first_word, input, put_count};
+use bench_base::{Fault, end, first_word, input, put, put_count};
 use std::alloc::Global;
 use std::env;
 use std::process::ExitCode;
@@ -28,6 +29,8 @@ enum Layer {
     Pdu,
     Upper,
     Session,
+    Transport,
+    Heading,
 }
 
 /// What the words ask for.
@@ -47,6 +50,8 @@ fn layer_of(name: &[u8]) -> Option<Layer> {
         b"pdu" => Some(Layer::Pdu),
         b"upper" => Some(Layer::Upper),
         b"session" => Some(Layer::Session),
+        b"transport" => Some(Layer::Transport),
+        b"#" => Some(Layer::Heading),
         _ => None,
     }
 }
@@ -66,6 +71,12 @@ fn command_of(first: Option<&str>, second: Option<&str>) -> Option<Command> {
     }
 }
 
+fn put_heading(text: &[u8], out: &mut Vec<u8>) -> Result<(), Fault> {
+    put(out, "# ")?;
+    out.extend_from_slice(text)?;
+    put(out, "\n")
+}
+
 /// Appends what a layer answers to a line.
 fn put_answer(
     alloc: Global,
@@ -79,12 +90,14 @@ fn put_answer(
         Layer::Pdu => pdu::put_line(alloc, line, out),
         Layer::Upper => upper::put_line(alloc, line, out),
         Layer::Session => ends.put_line(alloc, line, out),
+        Layer::Transport => transport::put_line(alloc, line, out),
+        Layer::Heading => put_heading(line, out),
     }
 }
 
 /// The answers to the lines, which are of this layer, or of those that they name.
 fn answers(alloc: Global, of_all: Option<Layer>, text: &[u8]) -> Result<Vec<u8>, Fault> {
-    let mut ends = Ends::new();
+    let mut ends = Ends::new(alloc, false);
     let mut out = Vec::new(alloc);
     let mut rest = text;
     while let Some(end) = rest.iter().position(|octet| *octet == b'\n') {

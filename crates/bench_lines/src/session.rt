@@ -1,197 +1,333 @@
-//! Two ends of session connections.
+//! Two ends of session connections: a line is a row of steps.
 //!
-//! A line `sync` or `plain` begins a connection, whose calling end proposes sync or doesn't, and is its own answer. A line
-//! such as `I K 1 0` is a unit: the end that sends it, `I` for the calling one and `O` for the other, its letter, its
-//! number, and how many octets of user data it has. The letters are those of `named`; `q` is an AA. The answer is the
-//! end, the letter and the TSDU in hexadecimal digits, and the other end takes it. A unit that may not be sent, and one
-//! that the other end takes for a fault, ends the program.
+//! The first word says how the row begins: with ends at which nothing came yet (`sync` and `calling`, whose calling end
+//! proposes sync, `plain`, whose doesn't, and `called`), with ends at which a connection with sync stands from a number on
+//! (`5`, `I5`, `O5`), or with the ends as the line before left them (`on`).
+//!
+//! A step has the letter of its end, `I` for the calling one and `O` for the other; without it it is a step of the end
+//! that the first word names. `>K5` sends a unit, whose TSDU joins those that the other end is to take, or is answered by
+//! `no` where it may not be sent. `<` takes the next TSDU, and is answered by the letter of the end and what that told.
+//! `<K5` takes an SPDU that no end sent, by the letters of `prefix`. `=K5` sends a unit that the other end takes at once,
+//! and is answered by what that told and by the TSDU in hexadecimal digits, the first 12 octets and their number where
+//! there are more than 1,024.
+//!
+//! A unit is a letter, its number and, after a colon, its user data, so many `x` where these are `*` and a number. Of
+//! what is taken the units are told, and the fault that ends it. After the steps stands a colon, with the next serial
+//! number of each end that the first word names, and `*` where the end has the token.
 use bench_base::{Fault, put, put_digits, text_of};
 use std::alloc::Global;
-use vf_base::{Octets, SpduKind};
 use vf_session::{
-    ResyncKind, Session, SessionError, SessionSay, Spdu, SpduError, SpduFields, TokenSide, read,
-    write,
+    Session, SessionError, SessionOut, SessionSay, SpduError, TokenSide, read, write,
 };
 
-/// A unit, and which end sends it.
-#[derive(Clone, Copy)]
-struct Step {
-    calling: bool,
-    letter: u8,
-    serial: u32,
-    size: usize,
+mod units;
+
+use units::{letter_and_number, prefix, put_unit, unit_of};
+
+/// The most octets of a TSDU that are shown whole.
+const SHOWN: usize = 1024;
+
+/// An AA, which no end sends by itself.
+const ABORT_ACCEPTED: [u8; 2] = [0x1A, 0];
+
+/// One end, and the TSDUs that it is to take: those from `taken` on are left.
+#[derive(Drop)]
+struct End {
+    session: Session,
+    inbox: Vec<Vec<u8>>,
+    taken: usize,
 }
 
-fn step_of(line: &str) -> Option<Step> {
-    let mut words = line.split(' ');
-    let calling = match words.next()? {
-        "I" => true,
-        "O" => false,
-        _ => return None,
-    };
-    let letter = *words.next()?.as_bytes().first()?;
-    let serial = words.next()?.parse::<u32>().ok()?;
-    let size = words.next()?.parse::<u16>().ok()?;
-    Some(Step {
-        calling,
-        letter,
-        serial,
-        size: usize::from(size),
-    })
-}
-
-/// The unit of a letter. A capital proposes or accepts sync, passes the token, or names the calling end.
-fn unit_of(alloc: Global, step: Step) -> Result<SessionSay, Fault> {
-    let filled = vec![in alloc; b'x'; step.size]?;
-    let data = Octets::of(alloc, filled.as_slice())?;
-    let serial = step.serial;
-    let large = step.letter.is_ascii_uppercase();
-    let side = if large {
-        TokenSide::Initiator
-    } else {
-        TokenSide::Responder
-    };
-    Ok(named(step.letter.to_ascii_lowercase(), large, serial, side, data))
-}
-
-fn named(letter: u8, sync: bool, serial: u32, side: TokenSide, data: Octets) -> SessionSay {
-    let token = Some(side);
-    match letter {
-        b'c' => SessionSay::Connect { sync, serial, data },
-        b'a' => SessionSay::Accept { sync, serial, data },
-        b'n' => SessionSay::Refuse { data },
-        b'f' => SessionSay::Finish { data },
-        b'g' => SessionSay::Finished { data },
-        b'd' => SessionSay::Data { pass: sync, data },
-        b'k' => SessionSay::Check { serial },
-        b'l' => SessionSay::Acknowledge { serial },
-        b'r' => SessionSay::Resync {
-            kind: ResyncKind::Restart,
-            serial,
-            token,
-            data,
-        },
-        b's' => SessionSay::Resync {
-            kind: ResyncKind::Abandon,
-            serial,
-            token,
-            data,
-        },
-        b'e' => SessionSay::Resynced {
-            serial,
-            token,
-            data,
-        },
-        b't' => SessionSay::Token { to: side },
-        _ => SessionSay::Abort { data },
+impl End {
+    fn new(alloc: Global, session: Session) -> End {
+        End {
+            session,
+            inbox: Vec::new(alloc),
+            taken: 0,
+        }
     }
 }
 
-/// The TSDU in which an end sends a unit.
-fn sent(alloc: Global, from: &mut Session, unit: &SessionSay) -> Result<Vec<u8>, Fault> {
+fn put_fault(alloc: Global, fault: SessionError, out: &mut Vec<u8>) -> Result<(), Fault> {
+    let text = match fault {
+        SessionError::State { spdu } => format!(in alloc; "State {spdu} ")?,
+        SessionError::Serial { expected, found } => {
+            format!(in alloc; "Serial {expected} {found} ")?
+        }
+        SessionError::Token => format!(in alloc; "Token ")?,
+        SessionError::NoMemory => return Err(Fault::NoMemory),
+    };
+    put(out, text.as_str())
+}
+
+/// The TSDU in which an end sends a unit; none where it may not.
+fn sent(alloc: Global, from: &mut Session, unit: &SessionSay) -> Result<Option<Vec<u8>>, Fault> {
     if !from.may(unit) {
-        return Err(Fault::Line);
+        return Ok(None);
     }
     let mut spdus = Vec::new(alloc);
-    from.say(alloc, unit, &mut spdus)?;
+    from.say(alloc, &unit.copy(alloc)?, &mut spdus)?;
     let mut tsdu = Vec::new(alloc);
     for spdu in &spdus {
         write(alloc, spdu, &mut tsdu)?;
     }
-    Ok(tsdu)
+    Ok(Some(tsdu))
 }
 
-/// The TSDU of an AA, which no end sends by itself.
-fn abort_accepted(alloc: Global) -> Result<Vec<u8>, Fault> {
-    let fields = SpduFields {
-        given: None,
-        abort: None,
-        units: None,
-        first: None,
-        tokens: None,
-        resync: None,
-        serial: None,
-        reason: None,
-    };
-    let octets = Octets::of(alloc, &[])?;
-    let spdu = Spdu {
-        kind: SpduKind::AA,
-        fields,
-        octets,
-    };
-    let mut tsdu = Vec::new(alloc);
-    write(alloc, &spdu, &mut tsdu)?;
-    Ok(tsdu)
+/// The TSDU of a word; none where its unit may not be sent.
+fn tsdu_of(alloc: Global, from: &mut Session, word: &str) -> Result<Option<Vec<u8>>, Fault> {
+    if word == "q" {
+        return Ok(Some(Vec::from_slice(alloc, &ABORT_ACCEPTED)?));
+    }
+    let unit = unit_of(alloc, word)?;
+    if from.may(&unit) != from.may_carry(&unit.parameters(), unit.data_length()) {
+        return Err(Fault::Received);
+    }
+    sent(alloc, from, &unit)
 }
 
-fn receive(alloc: Global, to: &mut Session, tsdu: &[u8]) -> Result<(), Fault> {
-    let mut told = Vec::new(alloc);
+/// Takes the SPDUs of a TSDU, up to a fault.
+fn take_all(
+    alloc: Global,
+    to: &mut Session,
+    tsdu: &[u8],
+    told: &mut Vec<SessionOut>,
+) -> Result<Option<SessionError>, Fault> {
     let spdus = match read(alloc, tsdu) {
         Ok(spdus) => spdus,
         Err(SpduError::NoMemory) => return Err(Fault::NoMemory),
         Err(_) => return Err(Fault::Received),
     };
     for spdu in spdus {
-        match to.take(alloc, spdu, &mut told) {
-            Ok(()) => {}
-            Err(SessionError::NoMemory) => return Err(Fault::NoMemory),
-            Err(_) => return Err(Fault::Received),
+        if let Err(fault) = to.take(alloc, spdu, told) {
+            return Ok(Some(fault));
         }
     }
-    Ok(())
+    Ok(None)
 }
 
-/// One end sends a unit, the other takes it, and its TSDU is appended as a line.
+/// An end takes a TSDU, and what that told is appended.
+fn take(alloc: Global, to: &mut Session, tsdu: &[u8], out: &mut Vec<u8>) -> Result<(), Fault> {
+    let mut told = Vec::new(alloc);
+    let fault = take_all(alloc, to, tsdu, &mut told)?;
+    for unit in &told {
+        put_unit(alloc, unit, out)?;
+    }
+    match fault {
+        None => Ok(()),
+        Some(fault) => put_fault(alloc, fault, out),
+    }
+}
+
+/// An end takes the next TSDU.
+fn take_next(alloc: Global, end: &mut End, out: &mut Vec<u8>) -> Result<(), Fault> {
+    put(
+        out,
+        match end.session.side() {
+            TokenSide::Initiator => "I ",
+            TokenSide::Responder => "O ",
+        },
+    )?;
+    let tsdu = end.inbox.get(end.taken).ok_or(Fault::Line)?;
+    end.taken = end.taken.saturating_add(1);
+    take(alloc, &mut end.session, tsdu.as_slice(), out)
+}
+
+/// An end takes the SPDU of a letter and a number.
+fn take_made(alloc: Global, to: &mut Session, word: &str, out: &mut Vec<u8>) -> Result<(), Fault> {
+    let (letter, number) = letter_and_number(word).ok_or(Fault::Line)?;
+    let mut tsdu = Vec::from_slice(alloc, prefix(letter))?;
+    if letter == b'U' || letter == b'V' {
+        let [_, _, high, low] = number.to_be_bytes();
+        tsdu.extend_from_slice(&[high, low])?;
+    } else {
+        tsdu.extend_from_slice(format!(in alloc; "{number:06}")?.as_bytes())?;
+    }
+    take(alloc, to, tsdu.as_slice(), out)
+}
+
+/// An end sends a unit, which the other one is to take.
+fn send(
+    alloc: Global,
+    from: &mut Session,
+    to: &mut End,
+    word: &str,
+    out: &mut Vec<u8>,
+) -> Result<(), Fault> {
+    match tsdu_of(alloc, from, word)? {
+        None => put(out, "no "),
+        Some(tsdu) => {
+            to.inbox.push(tsdu)?;
+            Ok(())
+        }
+    }
+}
+
+fn put_tsdu(alloc: Global, tsdu: &[u8], out: &mut Vec<u8>) -> Result<(), Fault> {
+    if tsdu.len() <= SHOWN {
+        put_digits(alloc, tsdu, out)?;
+        return put(out, " ");
+    }
+    put_digits(alloc, tsdu.get(..12).unwrap_or(&[]), out)?;
+    let text = format!(in alloc; "..{} ", tsdu.len())?;
+    put(out, text.as_str())
+}
+
+/// An end sends a unit, and the other one takes it at once.
 fn pass(
     alloc: Global,
     from: &mut Session,
     to: &mut Session,
-    step: Step,
+    word: &str,
     out: &mut Vec<u8>,
 ) -> Result<(), Fault> {
-    let tsdu = if step.letter == b'q' {
-        abort_accepted(alloc)?
-    } else {
-        let unit = unit_of(alloc, step)?;
-        sent(alloc, from, &unit)?
-    };
-    receive(alloc, to, tsdu.as_slice())?;
-    let end = if step.calling { b'I' } else { b'O' };
-    out.extend_from_slice(&[end, b' ', step.letter, b' '])?;
-    put_digits(alloc, tsdu.as_slice(), out)?;
-    put(out, "\n")
+    match tsdu_of(alloc, from, word)? {
+        None => put(out, "no "),
+        Some(tsdu) => {
+            take(alloc, to, tsdu.as_slice(), out)?;
+            put_tsdu(alloc, tsdu.as_slice(), out)
+        }
+    }
 }
 
-/// The two ends of the connection that a line began.
+/// A step of one end.
+fn step(
+    alloc: Global,
+    end: &mut End,
+    peer: &mut End,
+    word: &str,
+    out: &mut Vec<u8>,
+) -> Result<(), Fault> {
+    if let Some(unit) = word.strip_prefix('>') {
+        return send(alloc, &mut end.session, peer, unit, out);
+    }
+    if let Some(unit) = word.strip_prefix('=') {
+        return pass(alloc, &mut end.session, &mut peer.session, unit, out);
+    }
+    match word.strip_prefix('<') {
+        Some("") => take_next(alloc, end, out),
+        Some(made) => take_made(alloc, &mut end.session, made, out),
+        None => Err(Fault::Line),
+    }
+}
+
+/// A calling end at which a connection with sync stands, from this number on.
+fn open_calling(alloc: Global, number: u32) -> Result<Session, Fault> {
+    let mut session = Session::calling(true);
+    let mut out = Vec::new(alloc);
+    tsdu_of(alloc, &mut session, "C1")?;
+    let answer = format!(in alloc; "A{number}")?;
+    take_made(alloc, &mut session, answer.as_str(), &mut out)?;
+    Ok(session)
+}
+
+/// A called end at which a connection with sync stands, from this number on.
+fn open_called(alloc: Global, number: u32) -> Result<Session, Fault> {
+    let mut session = Session::called();
+    let mut out = Vec::new(alloc);
+    let request = format!(in alloc; "C{number}")?;
+    take_made(alloc, &mut session, request.as_str(), &mut out)?;
+    let answer = format!(in alloc; "A{number}")?;
+    tsdu_of(alloc, &mut session, answer.as_str())?;
+    Ok(session)
+}
+
+fn put_left(alloc: Global, session: &Session, out: &mut Vec<u8>) -> Result<(), Fault> {
+    let token = if session.has_token() { "*" } else { "" };
+    let text = format!(in alloc; " {}{token}", session.next_serial())?;
+    put(out, text.as_str())
+}
+
+/// The ends that the first word of a row names.
+#[derive(Clone, Copy, PartialEq, Eq)]
+enum Named {
+    Calling,
+    Called,
+    Both,
+}
+
+fn named_by(word: &str) -> Named {
+    match word.as_bytes() {
+        b"calling" | b"plain" | [b'I', ..] => Named::Calling,
+        b"called" | [b'O', ..] => Named::Called,
+        _ => Named::Both,
+    }
+}
+
+/// The two ends of a connection.
 #[derive(Drop)]
 pub struct Ends {
-    calling: Session,
-    called: Session,
+    calling: End,
+    called: End,
 }
 
 impl Ends {
-    /// Those of a connection without sync.
-    pub fn new() -> Ends {
+    /// Those of a connection that doesn't stand, whose calling end proposes sync or not.
+    pub fn new(alloc: Global, sync: bool) -> Ends {
         Ends {
-            calling: Session::calling(false),
-            called: Session::called(),
+            calling: End::new(alloc, Session::calling(sync)),
+            called: End::new(alloc, Session::called()),
         }
     }
 
-    /// Does what a line says, and appends its answer.
+    /// Those with which a row begins.
+    fn begin(&mut self, alloc: Global, word: &str) -> Result<(), Fault> {
+        match word {
+            "on" => return Ok(()),
+            "sync" | "calling" | "called" => *self = Ends::new(alloc, true),
+            "plain" => *self = Ends::new(alloc, false),
+            _ => {
+                let number = word.trim_start_matches(['I', 'O']).parse::<u32>();
+                let number = number.ok().ok_or(Fault::Line)?;
+                self.calling = End::new(alloc, open_calling(alloc, number)?);
+                self.called = End::new(alloc, open_called(alloc, number)?);
+            }
+        }
+        Ok(())
+    }
+
+    /// A step, of an end by its letter or of the one that is named.
+    fn step(
+        &mut self,
+        alloc: Global,
+        named: Named,
+        word: &str,
+        out: &mut Vec<u8>,
+    ) -> Result<(), Fault> {
+        if let Some(word) = word.strip_prefix('I') {
+            return step(alloc, &mut self.calling, &mut self.called, word, out);
+        }
+        if let Some(word) = word.strip_prefix('O') {
+            return step(alloc, &mut self.called, &mut self.calling, word, out);
+        }
+        match named {
+            Named::Calling => step(alloc, &mut self.calling, &mut self.called, word, out),
+            Named::Called => step(alloc, &mut self.called, &mut self.calling, word, out),
+            Named::Both => Err(Fault::Line),
+        }
+    }
+
+    /// What the ends that are named have after a row.
+    fn put_left(&self, alloc: Global, named: Named, out: &mut Vec<u8>) -> Result<(), Fault> {
+        put(out, ":")?;
+        if named != Named::Called {
+            put_left(alloc, &self.calling.session, out)?;
+        }
+        if named != Named::Calling {
+            put_left(alloc, &self.called.session, out)?;
+        }
+        put(out, "\n")
+    }
+
+    /// Does the steps of a row, and appends what they tell.
     pub fn put_line(&mut self, alloc: Global, line: &[u8], out: &mut Vec<u8>) -> Result<(), Fault> {
-        let line = text_of(line)?;
-        if line == "sync" || line == "plain" {
-            self.calling = Session::calling(line == "sync");
-            self.called = Session::called();
-            put(out, line)?;
-            return put(out, "\n");
+        let mut words = text_of(line)?.split(' ');
+        let first = words.next().ok_or(Fault::Line)?;
+        self.begin(alloc, first)?;
+        let named = named_by(first);
+        for word in words {
+            self.step(alloc, named, word, out)?;
         }
-        let step = step_of(line).ok_or(Fault::Line)?;
-        if step.calling {
-            pass(alloc, &mut self.calling, &mut self.called, step, out)
-        } else {
-            pass(alloc, &mut self.called, &mut self.calling, step, out)
-        }
+        self.put_left(alloc, named, out)
     }
 }

@@ -1,13 +1,10 @@
-//! Rows of octets and of what they tell, and of what is sent, for the lower layers.
+//! Tests of public calls of session, presentation and ACSE that no line of `bench_lines` shows: SPDUs as what they are, what
+//! is found in user data, and values that no octets are read as.
 #![tactic(auto)]
 
 #[cfg(test)]
 mod octets;
 #[cfg(test)]
-mod session;
-#[cfg(test)]
 mod spdus;
-#[cfg(test)]
-mod transport;
 #[cfg(test)]
 mod upper;

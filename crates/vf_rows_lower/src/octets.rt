@@ -21,7 +21,7 @@ fn push_digits(word: &str, octets: &mut Vec<u8>) -> Result<(), Fail> {
 }
 
 /// Appends a word of digits, of `*` and a number, or of both.
-pub(crate) fn push_word(word: &str, octets: &mut Vec<u8>) -> Result<(), Fail> {
+fn push_word(word: &str, octets: &mut Vec<u8>) -> Result<(), Fail> {
     let Some((digits, count)) = word.split_once('*') else {
         return push_digits(word, octets);
     };
@@ -46,21 +46,4 @@ pub(crate) fn show_all(alloc: Global, octets: &[u8], text: &mut String) -> Resul
         text.push_str(format!(in alloc; "{octet:02X}")?.as_str())?;
     }
     Ok(())
-}
-
-/// Appends all octets, or the first 12 of more than 32, and how many there are.
-pub(crate) fn show(alloc: Global, octets: &[u8], text: &mut String) -> Result<(), Fail> {
-    if octets.len() <= 32 {
-        return show_all(alloc, octets, text);
-    }
-    show_all(alloc, octets.get(..12).unwrap_or(&[]), text)?;
-    text.push_str(format!(in alloc; "..{}", octets.len())?.as_str())?;
-    Ok(())
-}
-
-/// The next number of a short generator (Marsaglia's xorshift).
-pub(crate) fn next(seed: u64) -> u64 {
-    let seed = seed ^ (seed << 13);
-    let seed = seed ^ (seed >> 7);
-    seed ^ (seed << 17)
 }
