@@ -1,22 +1,21 @@
 -- Which limit aborts a message that its stage takes, by what is kept.
-use Rattle.std.proofs.Common.{◌≡◌, ℕ, ◌<◌, ◌≤◌, Bool, length, None, Some, ap, sym, ◌∙◌}
-use Rattle.std.proofs.lemmas.Bool.{le-leb, lt-leb}
+use Rattle.std.proofs.Common.{◌≡◌, Bool, false, length, ap, sym, ◌∙◌}
 use Rattle.vf_base.specs.declared.element.Element.{Element}
 use Rattle.vf_elements.specs.declared.message.Message.TheVariants as messages
+use Rattle.vf_pdu.specs.declared.pdu.Pdu.{Pdu}
 use Rattle.vf_transfer.specs.Transfer.{survivors as surviving}
 use Rattle.vf_tree.specs.FileTree.{octets_of_unit}
+use Rattle.vf_regime.specs.declared.party.Party.{Party}
 use Rattle.vf_regime.specs.declared.write.Write.{Write}
 use Rattle.vf_regime.specs.History.{History, done, survivors, transferred}
-use Rattle.vf_regime.specs.Represents.{IsWriting}
-use Rattle.vf_regime.specs.Transition.{abort_where, is_spent, limit, numbers_spent, passes, too_long}
+use Rattle.vf_regime.specs.Represents.{IsWithinLimits, IsWriting, Represents}
+use Rattle.vf_regime.specs.State.{StandingParty}
+use Rattle.vf_regime.specs.Transition.{abort_where, is_past_last, limit, numbers_spent, passes, too_long}
 
-pub spent : (now kept : ℕ) → now ≡ kept → 1000000 ≤ kept → abort_where (is_spent now) numbers_spent ≡ Some numbers_spent
-spent now kept same many =
-    ap (λ n. abort_where (is_spent n) numbers_spent) same ∙ ap (λ (b : Bool). abort_where b numbers_spent) (le-leb 1000000 kept many)
-
-pub unspent : (now kept : ℕ) → now ≡ kept → kept < 1000000 → abort_where (is_spent now) numbers_spent ≡ None
-unspent now kept same few =
-    ap (λ n. abort_where (is_spent n) numbers_spent) same ∙ ap (λ (b : Bool). abort_where b numbers_spent) (lt-leb 1000000 kept few)
+-- a request that begins no transfer past the last is within its limits
+pub unlimited : (party : Party) (request : Pdu) → ((standing : StandingParty) → Represents party standing → is_past_last request (done standing.history) ≡ false)
+    → IsWithinLimits party (messages.Pdu request)
+unlimited party request not_past = λ standing represents. ap (λ (b : Bool). abort_where b numbers_spent) (not_past standing represents)
 
 -- the values that are kept are those that stand
 pub values_kept : (write : Write) (history : History) → IsWriting write history → survivors history ≡ write.receiving.values

@@ -64,7 +64,7 @@ use Rattle.vf_regime.specs.Built.{is_built}
 use Rattle.vf_regime.specs.History.{History, Move, Reads, Writes, Transfer, agreed, association, data_end, done, mode, position, selection, stage, survivors, transfer, transfers}
 use Rattle.vf_regime.specs.Sayable.{CanServe, GoesOnServing, IsConcluded, IsGiven, IsSayable, IsServable, IsTold, NextCanServe, SaidIsSayable}
 use Rattle.vf_regime.specs.State.{State, StandingParty}
-use Rattle.vf_regime.specs.Transition.{Consequence, abort_where, aborts, after_transition, concludes, created_by, ended_by, ending_by, ending_in, file_in, given_by, identity_in, is_spent, ending_diagnostic, leaves, limit, mode_in, not_built, numbers_spent, opened_by, passes_survivors, performed, read_by, refuses, requested, requested_in, selected_by, stamp_of, accepted, too_long, transition, units_in, unless_aborted, wrong_state}
+use Rattle.vf_regime.specs.Transition.{Consequence, abort_where, aborts, after_transition, concludes, created_by, ended_by, ending_by, ending_in, file_in, given_by, identity_in, is_past_last, ending_diagnostic, leaves, limit, mode_in, not_built, numbers_spent, opened_by, passes_survivors, performed, read_by, refuses, requested, requested_in, selected_by, stamp_of, accepted, too_long, transition, units_in, unless_aborted, wrong_state}
 use Rattle.vf_regime.proofs.Strings.{AreStrings, AreUnits, IsShown, ShowsGood, shown_good, units_good}
 
 abbrev AreServable : List File → Type 0
@@ -551,17 +551,11 @@ module _ (state : State) (party : StandingParty) (moment : ℕ) (serves : CanSer
       by : (b : Bool) → IfSome (abort_where b too_long) (λ number. IsInRange (ProviderAbort number 0))
       by true = refl
       by false = tt
-  limit_told values done (messages.Pdu (ReadRequest fadu context)) = by (is_spent done)
+  limit_told values done (messages.Pdu request) = by (is_past_last request done)
     where
       by : (b : Bool) → IfSome (abort_where b numbers_spent) (λ number. IsInRange (ProviderAbort number 0))
       by true = refl
       by false = tt
-  limit_told values done (messages.Pdu (WriteRequest operation fadu)) = by (is_spent done)
-    where
-      by : (b : Bool) → IfSome (abort_where b numbers_spent) (λ number. IsInRange (ProviderAbort number 0))
-      by true = refl
-      by false = tt
-  limit_told values done (messages.Pdu _) = tt
   limit_told values done _ = tt
 
   unless_good : (row : Option ℕ) (consequence : Consequence) → IfSome row (λ number. IsInRange (ProviderAbort number 0)) → IsGood state.files consequence

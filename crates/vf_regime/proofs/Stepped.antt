@@ -1,5 +1,5 @@
 -- From what a typed step answers to what comes of the message.
-use Rattle.std.proofs.Common.{◌≡◌, ℕ, true, List, [], ◌∷◌, Option, None, Some, Result, Ok, Err, MatchResult, ap, sym, subst, ◌∙◌}
+use Rattle.std.proofs.Common.{◌≡◌, ℕ, true, List, [], ◌∷◌, Option, None, Some, Result, Ok, Err, IfErr, MatchResult, ap, sym, subst, ◌∙◌}
 use Rattle.vf_base.specs.declared.diagnostic.Diagnostic.{Diagnostic}
 use Rattle.vf_base.specs.declared.errors.NoMemory.{NoMemory}
 use Rattle.vf_elements.specs.Stages.{takes}
@@ -16,7 +16,7 @@ use Rattle.vf_regime.specs.declared.step.StepError.{StepError}
 use Rattle.vf_regime.specs.declared.step.StepError.TheVariants as errors
 use Rattle.vf_regime.specs.Built.{is_built}
 use Rattle.vf_regime.specs.History.{History, done, survivors}
-use Rattle.vf_regime.specs.Represents.{IsAnswer, IsAnswered, IsGone, IsNext, IsStep, IsAccepted, IsTransition, Meets, MeetsStep, Represents, link_of, stage_of, with_tables}
+use Rattle.vf_regime.specs.Represents.{IsAccepted, IsAnswer, IsAnswered, IsGone, IsNext, IsOutcome, IsStep, IsTransition, IsWithinLimits, Meets, MeetsStep, Represents, link_of, stage_of, with_tables}
 use Rattle.vf_regime.specs.State.{State, StandingParty}
 use Rattle.vf_regime.specs.Transition.{Consequence, leaves, limit, performed, accepted, unless_aborted}
 use Rattle.vf_regime.proofs.Stages.{stage_kept, taken_transition}
@@ -27,41 +27,55 @@ pub taken_performed : (state : State) (standing : StandingParty) (moment : ℕ) 
 taken_performed state standing moment message none =
     ap (λ l. unless_aborted l (performed state standing moment message)) none
 
--- a good step
-pub stepped : {Old New : Type 0} (before : Old → ℕ → History → Type 0) (after : New → ℕ → History → Type 0) (party : Party) (next_party : New → Party)
-    → (tables : Tables) (old : Old) (moment : ℕ) (message : Message) (response : Diagnostic → Pdu) (step : Step New)
-    → ((standing : StandingParty) → Represents party standing → before old standing.link standing.history)
-    → ((link : ℕ) (next : StandingParty) → after step.state next.link next.history → IsNext link (Some next) (next_party step.state))
-    → ((standing : StandingParty) → Represents party standing → limit (survivors standing.history) (done standing.history) message ≡ None)
-    → IsStep before after tables old moment message response (Ok step)
-    → IsAccepted tables party moment message (Ok (record { party = next_party step.state; said = step.said; changes = step.changes }))
-stepped before after party next_party tables old moment message response step into out unlimited is_step = λ state standing represents.
-    let meets = is_step state standing (into standing represents) in
-    let outcome : Outcome = record { party = next_party step.state; said = step.said; changes = step.changes } in
-    subst (λ (q : Consequence). Meets standing.link q outcome)
-    (sym (taken_performed (with_tables tables state) standing moment message (unlimited standing represents)))
-    (meets.0, meets.1, subst (λ (next : Option StandingParty). IsNext standing.link next (next_party step.state)) (sym (meets.2).1) (out standing.link (meets.2).0 (meets.2).2))
+module _ {Old New : Type 0} (before : Old → ℕ → History → Type 0) (after : New → ℕ → History → Type 0)
+    (party_of : Old → Party) (next_of : New → Party)
+    (into : (state : Old) (standing : StandingParty) → Represents (party_of state) standing → before state standing.link standing.history)
+    (response : Diagnostic → Pdu) (answer : Result (Step New) (Old × StepError)) where
+  -- a good step
+  pub good_outcome : ((state : New) (link : ℕ) (next : StandingParty) → after state next.link next.history → IsNext link (Some next) (next_of state))
+      → (step : Step New) (party : Party) → answer ≡ Ok step → party ≡ next_of step.state
+      → IsOutcome before after party_of response answer (Ok (record { party = party; said = step.said; changes = step.changes }))
+  good_outcome out step party is same = λ tables old moment message is_step kept within state standing represents.
+      let consequence = performed (with_tables tables state) standing moment message in
+      let meets = subst (λ (a : Result (Step New) (Old × StepError)). MeetsStep before after consequence old response a) is (is_step state standing (into old standing represents)) in
+      let outcome : Outcome = record { party = party; said = step.said; changes = step.changes } in
+      subst (λ (q : Consequence). Meets standing.link q outcome)
+      (sym (taken_performed (with_tables tables state) standing moment message (within standing represents))) (
+        meets.0,
+        meets.1,
+        subst (λ (p : Party). IsNext standing.link consequence.party p) (sym same)
+            (subst (λ (next : Option StandingParty). IsNext standing.link next (next_of step.state)) (sym (meets.2).1) (out step.state standing.link (meets.2).0 (meets.2).2)),
+      )
 
--- a step that gives its state back with a diagnostic, and an answer that says the response with it
-pub refused_answer : {Old New : Type 0} (before : Old → ℕ → History → Type 0) (after : New → ℕ → History → Type 0) (wrap : Old → Party)
-    → (tables : Tables) (old back : Old) (moment : ℕ) (message : Message) (response : Diagnostic → Pdu) (error : StepError) (diagnostic : Diagnostic)
-    (result : Result Outcome (Party × NoMemory))
-    → ((standing : StandingParty) → Represents (wrap old) standing → before old standing.link standing.history)
-    → ((link : ℕ) (next : StandingParty) → before old next.link next.history → IsNext link (Some next) (wrap old))
-    → ((standing : StandingParty) → Represents (wrap old) standing → limit (survivors standing.history) (done standing.history) message ≡ None)
-    → IsStep {New = New} before after tables old moment message response (Err (back, error)) → back ≡ old → error ≡ errors.Refused diagnostic
-    → MatchResult result (IsAnswered (wrap back) (answers.Pdu (response diagnostic) ∷ [])) (λ given. given.0 ≡ wrap back)
-    → IsAccepted tables (wrap old) moment message result
-refused_answer {Old} {New} before after wrap tables old back moment message response error diagnostic (Ok outcome) into out unlimited is_step kept refused answered =
-    λ state standing represents.
-    let consequence = performed (with_tables tables state) standing moment message in
-    let meets = subst (λ (e : StepError). MeetsStep {New = New} before after consequence old response (Err (back, e))) refused (is_step state standing (into standing represents)) in
-    let same : outcome.party ≡ wrap old = answered.2 ∙ ap wrap kept in
-    subst (λ (q : Consequence). Meets standing.link q outcome)
-    (sym (taken_performed (with_tables tables state) standing moment message (unlimited standing represents)))
-    (answered.0 ∙ sym meets.0, answered.1 ∙ sym meets.1, subst (λ (party : Party). IsNext standing.link consequence.party party) (sym same) (subst (λ (next : Option StandingParty). IsNext standing.link next (wrap old)) (sym (meets.2).1) (out standing.link (meets.2).0 (meets.2).2)))
-refused_answer {Old} {New} before after wrap tables old back moment message response error diagnostic (Err given) into out unlimited is_step kept refused answered =
-    answered ∙ ap wrap kept
+  -- a step that gives its state back with a diagnostic, of which the response is said
+  pub refused_outcome : ((state : Old) (link : ℕ) (next : StandingParty) → before state next.link next.history → IsNext link (Some next) (party_of state))
+      → (back : Old) (error : StepError) (diagnostic : Diagnostic) (party : Party) (said : Pdu) (result : Result Outcome (Party × NoMemory))
+      → answer ≡ Err (back, error) → error ≡ errors.Refused diagnostic → party ≡ party_of back → said ≡ response diagnostic
+      → MatchResult result (IsAnswered party (answers.Pdu said ∷ [])) (λ given. given.0 ≡ party)
+      → IsOutcome before after party_of response answer result
+  refused_outcome out back error diagnostic party said result is refused same says answered = λ tables old moment message is_step kept within.
+      by tables old moment message is_step
+      (answer_kept old (is ∙ ap (λ (e : StepError). Err (back, e)) refused) kept) within result answered
+    where
+      answer_kept : (old : Old) → answer ≡ Err (back, errors.Refused diagnostic) → IfErr answer (λ given. given.0 ≡ old) → back ≡ old
+      answer_kept old is kept = subst (λ (a : Result (Step New) (Old × StepError)). IfErr a (λ given. given.0 ≡ old)) is kept
+
+      by : (tables : Tables) (old : Old) (moment : ℕ) (message : Message) → IsStep before after tables old moment message response answer → back ≡ old
+          → IsWithinLimits (party_of old) message → (result : Result Outcome (Party × NoMemory))
+          → MatchResult result (IsAnswered party (answers.Pdu said ∷ [])) (λ given. given.0 ≡ party) → IsAccepted tables (party_of old) moment message result
+      by tables old moment message is_step kept within (Ok outcome) answered = λ state standing represents.
+          let consequence = performed (with_tables tables state) standing moment message in
+          let meets = subst (λ (a : Result (Step New) (Old × StepError)). MeetsStep before after consequence old response a)
+          (is ∙ ap (λ (e : StepError). Err (back, e)) refused) (is_step state standing (into old standing represents)) in
+          let stays : outcome.party ≡ party_of old = answered.2 ∙ same ∙ ap party_of kept in
+          subst (λ (q : Consequence). Meets standing.link q outcome)
+          (sym (taken_performed (with_tables tables state) standing moment message (within standing represents))) (
+            answered.0 ∙ ap (λ (pdu : Pdu). answers.Pdu pdu ∷ []) says ∙ sym meets.0,
+            answered.1 ∙ sym meets.1,
+            subst (λ (p : Party). IsNext standing.link consequence.party p) (sym stays)
+                (subst (λ (next : Option StandingParty). IsNext standing.link next (party_of old)) (sym (meets.2).1) (out old standing.link (meets.2).0 (meets.2).2)),
+          )
+      by tables old moment message is_step kept within (Err given) answered = answered ∙ same ∙ ap party_of kept
 
 -- the link of a party that is represented
 pub link_kept : (party : Party) (standing : StandingParty) → Represents party standing → standing.link ≡ link_of party

@@ -1,6 +1,6 @@
 -- Which standing parties the typed states and a party represent, and what their steps owe: what is kept equals
 -- what the filters give on the history, so that one clause speaks of every history that a state may stand after.
-use Rattle.std.specs.Prelude.{◌≡◌, ℕ, ◌<◌, true, List, [], ◌∷◌, Option, None, Some, Result, Ok, Err}
+use Rattle.std.specs.Prelude.{◌≡◌, ℕ, ◌<◌, true, List, [], ◌∷◌, Option, None, Some, Result, Ok, Err, IfErr}
 use Rattle.vf_base.specs.declared.access.Context.{Context}
 use Rattle.vf_base.specs.declared.access.FaduId.{FaduId}
 use Rattle.vf_base.specs.declared.diagnostic.Diagnostic.{Diagnostic}
@@ -11,7 +11,7 @@ use Rattle.vf_elements.specs.declared.message.Said.TheVariants as answers
 use Rattle.vf_elements.specs.declared.stage.Stage.{Stage}
 use Rattle.vf_elements.specs.declared.stage.Stage.TheVariants as stages
 use Rattle.vf_pdu.specs.declared.pdu.Pdu.{Pdu}
-use Rattle.vf_pdu.specs.declared.pdu.Pdu.TheVariants.{UserAbort, ProviderAbort}
+use Rattle.vf_pdu.specs.declared.pdu.Pdu.TheVariants.{SelectResponse, CreateResponse, OpenResponse}
 use Rattle.vf_files.specs.Rows.{Given, refusal_of}
 use Rattle.vf_files.specs.declared.tables.Tables.{Tables}
 use Rattle.vf_transfer.specs.Checks.{RepresentsReceived}
@@ -23,6 +23,8 @@ use Rattle.vf_regime.specs.declared.moving.Movement.TheVariants as movements
 use Rattle.vf_regime.specs.declared.moving.Moving.{Moving}
 use Rattle.vf_regime.specs.declared.write.Write.{Write}
 use Rattle.vf_regime.specs.declared.opened.Open.{Open}
+use Rattle.vf_regime.specs.declared.outcomes.Refusable.{Refusable}
+use Rattle.vf_regime.specs.declared.outcomes.Refusable.TheVariants as refusables
 use Rattle.vf_regime.specs.declared.party.Outcome.{Outcome}
 use Rattle.vf_regime.specs.declared.party.Party.{Party}
 use Rattle.vf_regime.specs.declared.party.Party.TheVariants as parties
@@ -30,9 +32,9 @@ use Rattle.vf_regime.specs.declared.selected.Selected.{Selected}
 use Rattle.vf_regime.specs.declared.step.Step.{Step}
 use Rattle.vf_regime.specs.declared.step.StepError.{StepError}
 use Rattle.vf_regime.specs.declared.step.StepError.TheVariants as errors
-use Rattle.vf_regime.specs.History.{Association, History, Reads, Writes, Selection, association, data_end, done, mode, position, selection, transfer, transferred, was_shown}
+use Rattle.vf_regime.specs.History.{Association, History, Reads, Writes, Selection, association, data_end, done, mode, position, selection, survivors, transfer, transferred, was_shown}
 use Rattle.vf_regime.specs.State.{State, StandingParty}
-use Rattle.vf_regime.specs.Transition.{Consequence, given_by, performed, accepted, transition}
+use Rattle.vf_regime.specs.Transition.{Consequence, accepted, given_by, limit, performed, transition}
 
 pub record IsIdle (idle : Idle) (link : ℕ) (history : History) : Type 0 where
   pub linked : link ≡ idle.link
@@ -202,8 +204,21 @@ IsTransition tables party moment message =
 abbrev pub IsAccepted : Tables → Party → (moment : ℕ) → Message → Result Outcome (Party × NoMemory) → Type 0
 IsAccepted tables party moment message = IsAnswer (λ state standing. accepted state standing moment message) tables party
 
--- the initiator's aborts (ISO 8571-4, F-U-ABORT and F-P-ABORT)
-abbrev pub IsAbort : Pdu → Type 0
-IsAbort (UserAbort number) = Unit {0}
-IsAbort (ProviderAbort number place) = Unit {0}
-IsAbort _ = ⊥
+-- no limit aborts the message of any party that is represented
+abbrev pub IsWithinLimits : Party → Message → Type 0
+IsWithinLimits party message =
+    (standing : StandingParty) → Represents party standing → limit (survivors standing.history) (done standing.history) message ≡ None
+
+-- the response that says why a request is refused
+abbrev pub refusing : Refusable → Diagnostic → Pdu
+refusing refusables.Select diagnostic = SelectResponse (Some diagnostic)
+refusing refusables.Create diagnostic = CreateResponse (Some diagnostic)
+refusing refusables.Open diagnostic = OpenResponse (Some diagnostic) None
+
+-- What comes of a step's answer: of each message whose step this may be, and that no limit aborts, what the message
+-- comes to.
+abbrev pub IsOutcome : {Old New : Type 0} → (Old → ℕ → History → Type 0) → (New → ℕ → History → Type 0) → (Old → Party)
+    → (Diagnostic → Pdu) → Result (Step New) (Old × StepError) → Result Outcome (Party × NoMemory) → Type 0
+IsOutcome before after party_of response answer result =
+    (tables : Tables) (old : _) (moment : ℕ) (message : Message) → IsStep before after tables old moment message response answer
+    → IfErr answer (λ back. back.0 ≡ old) → IsWithinLimits (party_of old) message → IsAccepted tables (party_of old) moment message result

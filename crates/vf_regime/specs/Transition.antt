@@ -1,14 +1,16 @@
 -- One transition of the abstract filestore: a party takes a message (ISO 8571-4; profile).
-use Rattle.std.specs.Prelude.{ℕ, ◌+◌, Bool, ◌||◌, not, min, List, [], ◌∷◌, ◌++◌, map, length, Option, None, Some, if◌then◌else◌, nat_lt, nat_le}
+use Rattle.std.specs.Prelude.{ℕ, ◌+◌, Bool, ◌&&◌, ◌||◌, not, min, List, [], ◌∷◌, ◌++◌, map, length, Option, None, Some, if◌then◌else◌, nat_lt, nat_le}
+use Rattle.std.specs.List.{list_any}
 use Rattle.vf_attr.specs.declared.stamp.Stamp.{Stamp}
 use Rattle.vf_base.specs.declared.action.Actions.{Actions}
 use Rattle.vf_base.specs.declared.diagnostic.Diagnostic.{Diagnostic}
 use Rattle.vf_base.specs.declared.element.Element.{Element}
-use Rattle.vf_elements.specs.Stages.{takes}
+use Rattle.vf_elements.specs.Stages.{aborts as aborting, is_same, pdu, read, takes, write}
 use Rattle.vf_elements.specs.declared.message.Message.{Message}
 use Rattle.vf_elements.specs.declared.message.Message.TheVariants as messages
 use Rattle.vf_elements.specs.declared.message.Said.{Said}
 use Rattle.vf_elements.specs.declared.message.Said.TheVariants as answers
+use Rattle.vf_pdu.specs.PduNumbers.{number_of}
 use Rattle.vf_pdu.specs.declared.pdu.Pdu.{Pdu}
 use Rattle.vf_pdu.specs.declared.pdu.Pdu.TheVariants.{InitializeRequest, InitializeResponse, TerminateRequest, TerminateResponse, UserAbort, ProviderAbort, SelectRequest, SelectResponse, DeselectRequest, DeselectResponse, CreateRequest, CreateResponse, DeleteRequest, DeleteResponse, ReadAttribRequest, ReadAttribResponse, ChangeAttribRequest, ChangeAttribResponse, OpenRequest, OpenResponse, CloseRequest, CloseResponse, BeginGroupRequest, BeginGroupResponse, EndGroupRequest, EndGroupResponse, RecoverRequest, RecoverResponse, LocateRequest, LocateResponse, EraseRequest, EraseResponse, ReadRequest, WriteRequest, DataEnd, TransferEndRequest, TransferEndResponse, CancelRequest, CancelResponse, RestartRequest, RestartResponse}
 use Rattle.vf_files.specs.Effects.{read_ending, write_ending}
@@ -80,19 +82,25 @@ passes octets count element = nat_lt 17825792 (octets + octets_of element) || na
 abbrev pub passes_survivors : List Element → Element → Bool
 passes_survivors values element = passes (octets_of_unit values) (length values) element
 
--- an open has at most 1,000,000 transfers
-abbrev pub is_spent : ℕ → Bool
-is_spent done = nat_le 1000000 done
-
 abbrev pub abort_where : Bool → ℕ → Option ℕ
 abort_where applies number = if applies then Some number else None
 
+-- the initiator's aborts (ISO 8571-4, F-U-ABORT and F-P-ABORT)
+abbrev pub is_abort : Pdu → Bool
+is_abort request = list_any (is_same (pdu (number_of request))) aborting
+
+-- F-READ or F-WRITE, where the open has had 1,000,000 transfers
+abbrev pub is_past_last : Pdu → (done : ℕ) → Bool
+is_past_last request done = list_any (is_same (pdu (number_of request))) (read ∷ write ∷ []) && nat_le 1000000 done
+
 -- the aborts of a message that its stage takes
 abbrev pub limit : (values : List Element) (done : ℕ) → Message → Option ℕ
+limit values done (messages.Pdu request) = abort_where (is_past_last request done) numbers_spent
 limit values done (messages.Element element) = abort_where (passes_survivors values element) too_long
-limit values done (messages.Pdu (ReadRequest fadu context)) = abort_where (is_spent done) numbers_spent
-limit values done (messages.Pdu (WriteRequest operation fadu)) = abort_where (is_spent done) numbers_spent
-limit values done _ = None
+limit values done messages.Check = None
+limit values done (messages.Acknowledge point) = None
+limit values done (messages.Restart point) = None
+limit values done messages.Break = None
 
 -- what is read off a history where a regime stands
 abbrev pub units_in : Option Association → ℕ

@@ -1,9 +1,6 @@
-ghost use Rattle.std.specs.Prelude.{◌≡◌, [], ◌∷◌, IfOk, IfErr, List, ℕ, Option};
-ghost use Rattle.vf_base.specs.declared.action.Actions.{Actions as ActionSet};
-ghost use Rattle.vf_base.specs.declared.contents.Contents.{Contents as FileContents};
-ghost use Rattle.vf_base.specs.declared.term.Term.{Term as FileTerm};
-ghost use Rattle.vf_pdu_fields.specs.declared.controls.AttributeControls.{AttributeControls as Controls};
+ghost use Rattle.std.specs.Prelude.{◌≡◌, [], ◌∷◌, IfOk, IfErr};
 ghost use Rattle.vf_elements.specs.declared.message.Message.TheVariants as messages;
+ghost use Rattle.vf_pdu.specs.PduNumbers.{number_of};
 ghost use Rattle.vf_pdu.specs.declared.pdu.Pdu.TheVariants as pdus;
 ghost use Rattle.vf_elements.specs.declared.message.Said.TheVariants as answers;
 ghost use Rattle.vf_regime.specs.Represents.{IsAssociated, IsSelected, IsStep};
@@ -39,7 +36,7 @@ impl Associated {
         _sync: bool,
         tables: &Tables,
     ) -> Result<Step<Selected>, (Associated, StepError)>
-        requires { (name : List ℕ) × (requested : ActionSet) × (controls : Option Controls) × (password : Option (List ℕ)) × (request ≡ Pdu.SelectRequest name requested controls password) }
+        requires { number_of request ≡ 6 }
         ensures consequence { IsStep IsAssociated IsSelected tables.now self moment (messages.Pdu request) (λ diagnostic. pdus.SelectResponse (Some diagnostic)) result }
         ensures kept { IfErr result (λ back. back.0 ≡ self) }
     {
@@ -90,7 +87,7 @@ impl Associated {
         _sync: bool,
         tables: &Tables,
     ) -> Result<Step<Selected>, (Associated, StepError)>
-        requires { (over : ℕ) × (name : List ℕ) × (contents : FileContents) × (permitted : ActionSet) × (terms : List FileTerm) × (requested : ActionSet) × (controls : Option Controls) × (password : Option (List ℕ)) × (request ≡ Pdu.CreateRequest over name contents permitted terms requested controls password) }
+        requires { number_of request ≡ 10 }
         ensures consequence { IsStep IsAssociated IsSelected tables.now self moment (messages.Pdu request) (λ diagnostic. pdus.CreateResponse (Some diagnostic)) result }
         ensures kept { IfErr result (λ back. back.0 ≡ self) }
     {

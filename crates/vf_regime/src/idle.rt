@@ -1,4 +1,5 @@
-ghost use Rattle.std.specs.Prelude.{◌≡◌, IfErr, IfOk, ℕ, List, Option, min, unwrap_or};
+ghost use Rattle.std.specs.Prelude.{◌≡◌, IfErr, IfOk, min, unwrap_or};
+ghost use Rattle.vf_pdu.specs.PduNumbers.{number_of};
 ghost use Rattle.vf_pdu.specs.declared.pdu.Pdu.TheVariants as pdus;
 ghost use Rattle.vf_elements.specs.declared.message.Message.TheVariants as messages;
 ghost use Rattle.vf_regime.specs.History.{guest as guest_name};
@@ -34,7 +35,7 @@ impl Idle {
         _sync: bool,
         tables: &Tables,
     ) -> Result<Step<Associated>, (Idle, StepError)>
-        requires { (units : ℕ) × (identity : Option (List ℕ)) × (password : Option (List ℕ)) × (window : ℕ) × (request ≡ Pdu.InitializeRequest units identity password window) }
+        requires { number_of request ≡ 0 }
         ensures consequence { IsStep IsIdle IsAssociated tables.now self moment (messages.Pdu request) (λ diagnostic. pdus.InitializeResponse (Some diagnostic) 0 1) result }
         ensures kept { IfErr result (λ back. back.0 ≡ self) }
         // No diagnostic refuses it so far.

@@ -12,6 +12,7 @@ mod party;
 mod selected;
 mod step;
 mod transfers;
+mod typed;
 mod write;
 
 pub use associated::Associated;

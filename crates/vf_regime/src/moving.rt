@@ -1,6 +1,7 @@
 ghost use Rattle.std.specs.Prelude.{◌≡◌, IfErr, IfOk};
 ghost use Rattle.vf_attr.specs.declared.stamp.Stamp.{Stamp as FileStamp};
 ghost use Rattle.vf_elements.specs.declared.message.Message.TheVariants as messages;
+ghost use Rattle.vf_pdu.specs.PduNumbers.{number_of};
 ghost use Rattle.vf_pdu.specs.declared.pdu.Pdu.TheVariants as pdus;
 ghost use Rattle.vf_regime.specs.Represents.{IsMoving, IsOpen, IsStep};
 ghost use Rattle.vf_regime.specs.Transfers.{kept_ending};
@@ -41,13 +42,15 @@ impl Moving {
         _sync: bool,
         tables: &Tables,
     ) -> Result<Step<Open>, (Moving, StepError)>
-        requires { request ≡ Pdu.TransferEndRequest }
+        requires { number_of request ≡ 35 }
         ensures consequence { IsStep IsMoving IsOpen tables.now self moment (messages.Pdu request) (λ diagnostic. pdus.TransferEndResponse (Some diagnostic)) result }
         ensures kept { IfErr result (λ back. back.0 ≡ self) }
         // No diagnostic refuses the request.
         ensures memory { IfErr result (λ back. back.1 ≡ StepError.NoMemory) }
     {
-        drop(request);
+        let Pdu::TransferEndRequest = request else {
+            unreachable!()
+        };
         let Ok(ending) = self.ending(alloc, moment, tables) else {
             return Err((self, StepError::NoMemory));
         };

@@ -1,8 +1,6 @@
 ghost use Rattle.std.specs.Prelude.{◌≡◌, ◌<◌, IfErr, IsOk};
-ghost use Rattle.vf_base.specs.declared.access.Context.{Context as AccessContext};
-ghost use Rattle.vf_base.specs.declared.access.FaduId.{FaduId as Fadu};
 ghost use Rattle.vf_elements.specs.declared.message.Message.TheVariants as messages;
-ghost use Rattle.vf_pdu_fields.specs.declared.operation.WriteOperation.TheVariants as operations;
+ghost use Rattle.vf_pdu.specs.PduNumbers.{number_of};
 ghost use Rattle.vf_pdu.specs.declared.pdu.Pdu.TheVariants as pdus;
 ghost use Rattle.vf_regime.specs.Represents.{IsMoving, IsOpen, IsSelected, IsStep};
 
@@ -38,13 +36,15 @@ impl Open {
         _sync: bool,
         tables: &Tables,
     ) -> Result<Step<Selected>, (Open, StepError)>
-        requires { request ≡ Pdu.CloseRequest }
+        requires { number_of request ≡ 20 }
         ensures consequence { IsStep IsOpen IsSelected tables.now self moment (messages.Pdu request) (λ diagnostic. pdus.CloseResponse (Some diagnostic)) result }
         ensures kept { IfErr result (λ back. back.0 ≡ self) }
         // No diagnostic refuses it.
         ensures memory { IfErr result (λ back. back.1 ≡ StepError.NoMemory) }
     {
-        drop(request);
+        let Pdu::CloseRequest = request else {
+            unreachable!()
+        };
         let Ok(said) = one_said(alloc, Said::Pdu(Pdu::CloseResponse { diagnostic: None })) else {
             return Err((self, StepError::NoMemory));
         };
@@ -67,7 +67,7 @@ impl Open {
         _sync: bool,
         tables: &Tables,
     ) -> Result<Step<Moving>, (Open, StepError)>
-        requires asked { (fadu : Fadu) × (context : AccessContext) × (request ≡ Pdu.ReadRequest fadu context) }
+        requires asked { number_of request ≡ 32 }
         requires left { self.done < 1000000 }
         ensures consequence { IsStep IsOpen IsMoving tables.now self moment (messages.Pdu request) (λ diagnostic. pdus.DataEnd (Some diagnostic)) result }
         ensures kept { IfErr result (λ back. back.0 ≡ self) }
@@ -115,8 +115,9 @@ impl Open {
         })
     }
 
-    /// Takes a WriteRequest that replaces, and that no abort refuses. Nothing is said; a write that is refused, with
-    /// 33, 11, 13, 18 or 19, takes its values all the same, and has its diagnostic at its end. It takes no memory.
+    /// Takes a WriteRequest that no abort refuses, as one that replaces, since no other operation is built. Nothing is
+    /// said; a write that is refused, with 33, 11, 13, 18 or 19, takes its values all the same, and has its diagnostic at
+    /// its end. It takes no memory.
     pub fn write(
         self,
         alloc: Global,
@@ -127,7 +128,7 @@ impl Open {
         _sync: bool,
         tables: &Tables,
     ) -> Result<Step<Moving>, (Open, StepError)>
-        requires asked { (fadu : Fadu) × (request ≡ Pdu.WriteRequest operations.Replace fadu) }
+        requires asked { number_of request ≡ 33 }
         requires left { self.done < 1000000 }
         ensures consequence { IsStep IsOpen IsMoving tables.now self moment (messages.Pdu request) (λ diagnostic. pdus.TransferEndResponse (Some diagnostic)) result }
         ensures good { IsOk result }

@@ -2,10 +2,11 @@ ghost use Rattle.std.specs.Prelude.{◌≡◌, None, option_copied, option_map, 
 ghost use Rattle.vf_elements.specs.Stages.{takes};
 ghost use Rattle.vf_elements.specs.declared.message.Message.TheVariants as messages;
 ghost use Rattle.vf_elements.specs.declared.stage.Stage.TheVariants as stages;
-ghost use Rattle.vf_regime.specs.Built.{is_built as built_test};
+ghost use Rattle.vf_regime.specs.Built.{is_built as built_test, is_built_pdu};
 ghost use Rattle.vf_regime.specs.History.{association, stage};
-ghost use Rattle.vf_regime.specs.Represents.{IsAbort, IsAccepted, IsTransition, Represents, identity_of, link_of as link_number, named, stage_of, stage_of_movement};
+ghost use Rattle.vf_regime.specs.Represents.{IsAccepted, IsTransition, Represents, identity_of, link_of as link_number, named, stage_of, stage_of_movement};
 ghost use Rattle.vf_regime.specs.State.{StandingParty, arrived};
+ghost use Rattle.vf_regime.specs.Transition.{is_abort as abort_test};
 
 use crate::built::is_built;
 use crate::outcomes::{self, Setting, moves, regimes};
@@ -201,141 +202,29 @@ fn take_request(
     setting: Setting,
     tables: &Tables,
 ) -> Result<Outcome, (Party, NoMemory)>
-    requires built { built_test (messages.Pdu request) ≡ true }
+    requires built { is_built_pdu request ≡ true }
     requires taken { takes (stage_of party) (messages.Pdu request) ≡ true }
     ensures { IsAccepted tables.now party setting.moment (messages.Pdu request) result }
 {
+    if is_abort(&request) {
+        return Ok(outcomes::end_party(alloc, party, Vec::new(alloc)));
+    }
     match party {
-        Party::Idle(idle) => take_idle(idle, alloc, request, setting, tables),
-        Party::Associated(associated) => take_associated(
+        Party::Idle(idle) => regimes::take_idle(idle, alloc, request, setting, tables),
+        Party::Associated(associated) => regimes::take_associated(
             associated, alloc, request, setting, tables,
         ),
-        Party::Selected(selected) => take_selected(selected, alloc, request, setting, tables),
-        Party::Open(opened) => take_open(opened, alloc, request, setting, tables),
-        Party::Moving(moving) => take_moving(moving, alloc, request, setting, tables),
-    }
-}
-
-fn take_idle(
-    idle: Idle,
-    alloc: Global,
-    request: Pdu,
-    setting: Setting,
-    tables: &Tables,
-) -> Result<Outcome, (Party, NoMemory)>
-    requires built { built_test (messages.Pdu request) ≡ true }
-    requires taken { takes stages.Idle (messages.Pdu request) ≡ true }
-    ensures { IsAccepted tables.now (Party.Idle idle) setting.moment (messages.Pdu request) result }
-{
-    match request {
-        request @ Pdu::InitializeRequest { .. } => regimes::initialize(
-            idle, alloc, request, setting, tables,
-        ),
-        _ => unreachable!(),
-    }
-}
-
-fn take_associated(
-    associated: Associated,
-    alloc: Global,
-    request: Pdu,
-    setting: Setting,
-    tables: &Tables,
-) -> Result<Outcome, (Party, NoMemory)>
-    requires built { built_test (messages.Pdu request) ≡ true }
-    requires taken { takes stages.Associated (messages.Pdu request) ≡ true }
-    ensures { IsAccepted tables.now (Party.Associated associated) setting.moment (messages.Pdu request) result }
-{
-    match request {
-        request @ Pdu::SelectRequest { .. } => regimes::select(
-            associated, alloc, request, setting, tables,
-        ),
-        request @ Pdu::CreateRequest { .. } => regimes::create(
-            associated, alloc, request, setting, tables,
-        ),
-        request @ Pdu::TerminateRequest => regimes::terminate(
-            associated, alloc, request, setting, tables,
-        ),
-        request => take_abort(
-            Party::Associated(associated),
-            alloc,
-            request,
-            setting,
-            tables,
-        ),
-    }
-}
-
-fn take_selected(
-    selected: Selected,
-    alloc: Global,
-    request: Pdu,
-    setting: Setting,
-    tables: &Tables,
-) -> Result<Outcome, (Party, NoMemory)>
-    requires built { built_test (messages.Pdu request) ≡ true }
-    requires taken { takes stages.Selected (messages.Pdu request) ≡ true }
-    ensures { IsAccepted tables.now (Party.Selected selected) setting.moment (messages.Pdu request) result }
-{
-    match request {
-        request @ Pdu::DeselectRequest => regimes::deselect(
+        Party::Selected(selected) => regimes::take_selected(
             selected, alloc, request, setting, tables,
         ),
-        request @ Pdu::OpenRequest { .. } => regimes::open_file(
-            selected, alloc, request, setting, tables,
-        ),
-        request => take_abort(Party::Selected(selected), alloc, request, setting, tables),
+        Party::Open(opened) => regimes::take_open(opened, alloc, request, setting, tables),
+        Party::Moving(moving) => moves::take_moving(moving, alloc, request, setting, tables),
     }
 }
 
-fn take_open(
-    opened: Open,
-    alloc: Global,
-    request: Pdu,
-    setting: Setting,
-    tables: &Tables,
-) -> Result<Outcome, (Party, NoMemory)>
-    requires built { built_test (messages.Pdu request) ≡ true }
-    requires taken { takes stages.Opened (messages.Pdu request) ≡ true }
-    ensures { IsAccepted tables.now (Party.Open opened) setting.moment (messages.Pdu request) result }
+/// Whether the request is an abort of the initiator's (F-U-ABORT, F-P-ABORT).
+fn is_abort(request: &Pdu) -> bool
+    ensures { result ≡ abort_test request.now }
 {
-    match request {
-        request @ Pdu::CloseRequest => regimes::close(opened, alloc, request, setting, tables),
-        request @ Pdu::ReadRequest { .. } => moves::read(opened, alloc, request, setting, tables),
-        request @ Pdu::WriteRequest { .. } => moves::write(opened, alloc, request, setting, tables),
-        request => take_abort(Party::Open(opened), alloc, request, setting, tables),
-    }
-}
-
-fn take_moving(
-    moving: Moving,
-    alloc: Global,
-    request: Pdu,
-    setting: Setting,
-    tables: &Tables,
-) -> Result<Outcome, (Party, NoMemory)>
-    requires built { built_test (messages.Pdu request) ≡ true }
-    requires taken { takes (stage_of_movement moving.movement) (messages.Pdu request) ≡ true }
-    ensures { IsAccepted tables.now (Party.Moving moving) setting.moment (messages.Pdu request) result }
-{
-    match request {
-        request @ Pdu::DataEnd { .. } => moves::data_end(moving, alloc, request, setting, tables),
-        request @ Pdu::TransferEndRequest => moves::finish(moving, alloc, request, setting, tables),
-        request => take_abort(Party::Moving(moving), alloc, request, setting, tables),
-    }
-}
-
-/// The initiator's abort, after which the party is gone.
-fn take_abort(
-    party: Party,
-    alloc: Global,
-    request: Pdu,
-    setting: Setting,
-    tables: &Tables,
-) -> Result<Outcome, (Party, NoMemory)>
-    requires { IsAbort request }
-    ensures { IsAccepted tables.now party setting.moment (messages.Pdu request) result }
-{
-    drop(request);
-    Ok(outcomes::end_party(alloc, party, Vec::new(alloc)))
+    matches!(request.number(), 4 | 5)
 }

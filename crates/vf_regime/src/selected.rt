@@ -1,7 +1,6 @@
-ghost use Rattle.std.specs.Prelude.{◌≡◌, IfErr, List, ℕ, Option};
-ghost use Rattle.vf_base.specs.declared.contents.Contents.{Contents as FileContents};
-ghost use Rattle.vf_pdu_fields.specs.declared.controls.ContentControls.{ContentControls as Controls};
+ghost use Rattle.std.specs.Prelude.{◌≡◌, IfErr};
 ghost use Rattle.vf_elements.specs.declared.message.Message.TheVariants as messages;
+ghost use Rattle.vf_pdu.specs.PduNumbers.{number_of};
 ghost use Rattle.vf_pdu.specs.declared.pdu.Pdu.TheVariants as pdus;
 ghost use Rattle.vf_regime.specs.Represents.{IsAssociated, IsOpen, IsSelected, IsStep};
 
@@ -34,13 +33,15 @@ impl Selected {
         _sync: bool,
         tables: &Tables,
     ) -> Result<Step<Associated>, (Selected, StepError)>
-        requires { request ≡ Pdu.DeselectRequest }
+        requires { number_of request ≡ 8 }
         ensures consequence { IsStep IsSelected IsAssociated tables.now self moment (messages.Pdu request) (λ diagnostic. pdus.DeselectResponse (Some diagnostic)) result }
         ensures kept { IfErr result (λ back. back.0 ≡ self) }
         // No diagnostic refuses it.
         ensures memory { IfErr result (λ back. back.1 ≡ StepError.NoMemory) }
     {
-        drop(request);
+        let Pdu::DeselectRequest = request else {
+            unreachable!()
+        };
         let Ok(said) = one_said(alloc, Said::Pdu(Pdu::DeselectResponse { diagnostic: None })) else {
             return Err((self, StepError::NoMemory));
         };
@@ -64,7 +65,7 @@ impl Selected {
         _sync: bool,
         tables: &Tables,
     ) -> Result<Step<Open>, (Selected, StepError)>
-        requires { (mode : ℕ) × (contents : Option FileContents) × (controls : Option Controls) × (activity : Option ℕ) × (request ≡ Pdu.OpenRequest mode contents controls activity) }
+        requires { number_of request ≡ 18 }
         ensures consequence { IsStep IsSelected IsOpen tables.now self moment (messages.Pdu request) (λ diagnostic. pdus.OpenResponse (Some diagnostic) None) result }
         ensures kept { IfErr result (λ back. back.0 ≡ self) }
     {

@@ -6,6 +6,7 @@ ghost use Rattle.vf_tree.specs.FileTree.{octets_of as octets_meant};
 
 use vf_base::{Diagnostic, Element, FaduId, NoMemory};
 use vf_transfer::Receiving;
+use vf_tree::octets_of;
 
 /// A write that is under way: its values, and how it began and how far it has come.
 #[derive(Drop)]
@@ -50,15 +51,5 @@ impl Write {
         self.receiving.value(element)?;
         self.octets += more;
         Ok(())
-    }
-}
-
-/// The octets of a string; none where the element is no string.
-pub(crate) fn octets_of(element: &Element) -> u64
-    ensures { result ≡ octets_meant element.now }
-{
-    match element {
-        Element::Text { octets, .. } | Element::Binary { octets } => octets.len() as u64,
-        _ => 0,
     }
 }

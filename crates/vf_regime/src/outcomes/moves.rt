@@ -1,40 +1,36 @@
-//! What comes of the messages of a transfer.
-ghost use Rattle.std.specs.Prelude.{◌≡◌, Option};
-ghost use Rattle.vf_base.specs.declared.access.Context.{Context as AccessContext};
-ghost use Rattle.vf_base.specs.declared.access.FaduId.{FaduId as Fadu};
-ghost use Rattle.vf_base.specs.declared.diagnostic.Diagnostic.{Diagnostic as Reason};
+//! What comes of the messages of a transfer, each built and taken by its stage.
+ghost use Rattle.std.specs.Prelude.{◌≡◌, false, true};
+ghost use Rattle.vf_elements.specs.Stages.{takes};
 ghost use Rattle.vf_elements.specs.declared.message.Message.TheVariants as messages;
 ghost use Rattle.vf_elements.specs.declared.stage.Stage.TheVariants as stages;
-ghost use Rattle.vf_pdu_fields.specs.declared.operation.WriteOperation.TheVariants as operations;
 ghost use Rattle.vf_regime.specs.declared.moving.Movement.TheVariants as movements;
 ghost use Rattle.vf_regime.specs.declared.party.Party.TheVariants as parties;
+ghost use Rattle.vf_regime.specs.Built.{is_built_pdu};
 ghost use Rattle.vf_regime.specs.Represents.{IsAccepted, stage_of_movement};
+ghost use Rattle.vf_regime.specs.Transition.{is_abort};
 
-use super::{Setting, abort_party};
+use super::{Setting, abort_party, concluded};
 use crate::party::{Outcome, Party};
 use crate::{Changes, Movement, Moving, Open, Tables, Write};
 use std::alloc::Global;
-use vf_base::{Element, NoMemory};
+use vf_base::{Diagnostic, Element, NoMemory};
 use vf_pdu::Pdu;
 
 /// The abort of values that would pass the limits of those that stand (profile).
 const TOO_LONG: u16 = 104;
 
-/// The abort of a transfer after the last that an open may have (profile).
-const NUMBERS_SPENT: u16 = 105;
-
-/// An open has at most so many transfers.
-const MOST_TRANSFERS: u32 = 1_000_000;
-
-pub(crate) fn read(
-    opened: Open,
+/// Takes a request in a transfer.
+pub(crate) fn take_moving(
+    moving: Moving,
     alloc: Global,
     request: Pdu,
     setting: Setting,
     tables: &Tables,
 ) -> Result<Outcome, (Party, NoMemory)>
-    requires { (fadu : Fadu) × (context : AccessContext) × (request ≡ Pdu.ReadRequest fadu context) }
-    ensures { IsAccepted tables.now (Party.Open opened) setting.moment (messages.Pdu request) result }
+    requires built { is_built_pdu request ≡ true }
+    requires taken { takes (stage_of_movement moving.movement) (messages.Pdu request) ≡ true }
+    requires stays { is_abort request ≡ false }
+    ensures { IsAccepted tables.now (Party.Moving moving) setting.moment (messages.Pdu request) result }
 {
     let Setting {
         moment,
@@ -42,45 +38,12 @@ pub(crate) fn read(
         token,
         sync,
     } = setting;
-    if opened.done >= MOST_TRANSFERS {
-        return abort_party(alloc, Party::Open(opened), NUMBERS_SPENT);
-    }
-    match opened.read(alloc, request, moment, serial, token, sync, tables) {
-        Ok(step) => Ok(Outcome {
-            party: Party::Moving(step.state),
-            said: step.said,
-            changes: step.changes,
-        }),
-        Err((opened, _)) => Err((Party::Open(opened), NoMemory)),
-    }
-}
-
-pub(crate) fn write(
-    opened: Open,
-    alloc: Global,
-    request: Pdu,
-    setting: Setting,
-    tables: &Tables,
-) -> Result<Outcome, (Party, NoMemory)>
-    requires { (fadu : Fadu) × (request ≡ Pdu.WriteRequest operations.Replace fadu) }
-    ensures { IsAccepted tables.now (Party.Open opened) setting.moment (messages.Pdu request) result }
-{
-    let Setting {
-        moment,
-        serial,
-        token,
-        sync,
-    } = setting;
-    if opened.done >= MOST_TRANSFERS {
-        return abort_party(alloc, Party::Open(opened), NUMBERS_SPENT);
-    }
-    match opened.write(alloc, request, moment, serial, token, sync, tables) {
-        Ok(step) => Ok(Outcome {
-            party: Party::Moving(step.state),
-            said: step.said,
-            changes: step.changes,
-        }),
-        Err((opened, _)) => Err((Party::Open(opened), NoMemory)),
+    match request {
+        Pdu::DataEnd { diagnostic } => data_end(moving, alloc, diagnostic, setting, tables),
+        request @ Pdu::TransferEndRequest => concluded(moving.finish(
+            alloc, request, moment, serial, token, sync, tables,
+        )),
+        _ => unreachable!(),
     }
 }
 
@@ -124,20 +87,16 @@ fn writing(opened: Open, write: Write) -> Party
 }
 
 /// Takes the end of the values of a write.
-pub(crate) fn data_end(
+fn data_end(
     moving: Moving,
     alloc: Global,
-    request: Pdu,
+    diagnostic: Option<Diagnostic>,
     setting: Setting,
     tables: &Tables,
 ) -> Result<Outcome, (Party, NoMemory)>
-    requires asked { (diagnostic : Option Reason) × (request ≡ Pdu.DataEnd diagnostic) }
-    requires stage { stage_of_movement moving.movement ≡ stages.Writing }
-    ensures { IsAccepted tables.now (Party.Moving moving) setting.moment (messages.Pdu request) result }
+    requires { stage_of_movement moving.movement ≡ stages.Writing }
+    ensures { IsAccepted tables.now (Party.Moving moving) setting.moment (messages.Pdu (Pdu.DataEnd diagnostic)) result }
 {
-    let Pdu::DataEnd { diagnostic } = request else {
-        unreachable!()
-    };
     let Moving { opened, movement } = moving;
     let Movement::Writing(mut write) = movement else {
         unreachable!()
@@ -149,30 +108,4 @@ pub(crate) fn data_end(
         said,
         changes: Changes::new(alloc),
     })
-}
-
-pub(crate) fn finish(
-    moving: Moving,
-    alloc: Global,
-    request: Pdu,
-    setting: Setting,
-    tables: &Tables,
-) -> Result<Outcome, (Party, NoMemory)>
-    requires { request ≡ Pdu.TransferEndRequest }
-    ensures { IsAccepted tables.now (Party.Moving moving) setting.moment (messages.Pdu request) result }
-{
-    let Setting {
-        moment,
-        serial,
-        token,
-        sync,
-    } = setting;
-    match moving.finish(alloc, request, moment, serial, token, sync, tables) {
-        Ok(step) => Ok(Outcome {
-            party: Party::Open(step.state),
-            said: step.said,
-            changes: step.changes,
-        }),
-        Err((moving, _)) => Err((Party::Moving(moving), NoMemory)),
-    }
 }

@@ -1,29 +1,35 @@
-//! What comes of the requests that begin and end regimes.
-ghost use Rattle.std.specs.Prelude.{◌≡◌, ℕ, List, Option};
-ghost use Rattle.vf_base.specs.declared.action.Actions.{Actions as ActionSet};
-ghost use Rattle.vf_base.specs.declared.contents.Contents.{Contents as FileContents};
-ghost use Rattle.vf_base.specs.declared.term.Term.{Term as FileTerm};
+//! What comes of the requests by which regimes begin and end, each built and taken by its stage.
+ghost use Rattle.std.specs.Prelude.{◌≡◌, false, true};
+ghost use Rattle.vf_elements.specs.Stages.{takes};
 ghost use Rattle.vf_elements.specs.declared.message.Message.TheVariants as messages;
-ghost use Rattle.vf_pdu_fields.specs.declared.controls.AttributeControls.{AttributeControls as Controls};
-ghost use Rattle.vf_pdu_fields.specs.declared.controls.ContentControls.{ContentControls as OpenControls};
+ghost use Rattle.vf_elements.specs.declared.stage.Stage.TheVariants as stages;
+ghost use Rattle.vf_regime.specs.Built.{is_built_pdu};
 ghost use Rattle.vf_regime.specs.Represents.{IsAccepted};
+ghost use Rattle.vf_regime.specs.Transition.{is_abort, is_past_last as past_last_test};
 
-use super::{Setting, end_party, keep_party};
+use super::{Refusable, Setting, abort_party, answered, concluded, end_saying};
 use crate::party::{Outcome, Party};
-use crate::step::one_said;
-use crate::{Associated, Idle, Open, Said, Selected, StepError, Tables};
+use crate::{Associated, Idle, Open, Said, Selected, Tables};
 use std::alloc::Global;
 use vf_base::NoMemory;
 use vf_pdu::Pdu;
 
-pub(crate) fn initialize(
+/// The abort of a transfer after the last that an open may have (profile).
+const NUMBERS_SPENT: u16 = 105;
+
+/// An open has at most so many transfers.
+const MOST_TRANSFERS: u32 = 1_000_000;
+
+/// Takes a request without an association.
+pub(crate) fn take_idle(
     idle: Idle,
     alloc: Global,
     request: Pdu,
     setting: Setting,
     tables: &Tables,
 ) -> Result<Outcome, (Party, NoMemory)>
-    requires { (units : ℕ) × (identity : Option (List ℕ)) × (password : Option (List ℕ)) × (window : ℕ) × (request ≡ Pdu.InitializeRequest units identity password window) }
+    requires built { is_built_pdu request ≡ true }
+    requires taken { takes stages.Idle (messages.Pdu request) ≡ true }
     ensures { IsAccepted tables.now (Party.Idle idle) setting.moment (messages.Pdu request) result }
 {
     let Setting {
@@ -32,24 +38,25 @@ pub(crate) fn initialize(
         token,
         sync,
     } = setting;
-    match idle.initialize(alloc, request, moment, serial, token, sync, tables) {
-        Ok(step) => Ok(Outcome {
-            party: Party::Associated(step.state),
-            said: step.said,
-            changes: step.changes,
-        }),
-        Err((idle, _)) => Err((Party::Idle(idle), NoMemory)),
+    match request {
+        request @ Pdu::InitializeRequest { .. } => concluded(idle.initialize(
+            alloc, request, moment, serial, token, sync, tables,
+        )),
+        _ => unreachable!(),
     }
 }
 
-pub(crate) fn select(
+/// Takes a request with an association and no selected file.
+pub(crate) fn take_associated(
     associated: Associated,
     alloc: Global,
     request: Pdu,
     setting: Setting,
     tables: &Tables,
 ) -> Result<Outcome, (Party, NoMemory)>
-    requires { (name : List ℕ) × (requested : ActionSet) × (controls : Option Controls) × (password : Option (List ℕ)) × (request ≡ Pdu.SelectRequest name requested controls password) }
+    requires built { is_built_pdu request ≡ true }
+    requires taken { takes stages.Associated (messages.Pdu request) ≡ true }
+    requires stays { is_abort request ≡ false }
     ensures { IsAccepted tables.now (Party.Associated associated) setting.moment (messages.Pdu request) result }
 {
     let Setting {
@@ -58,93 +65,37 @@ pub(crate) fn select(
         token,
         sync,
     } = setting;
-    match associated.select(alloc, request, moment, serial, token, sync, tables) {
-        Ok(step) => Ok(Outcome {
-            party: Party::Selected(step.state),
-            said: step.said,
-            changes: step.changes,
-        }),
-        Err((associated, error)) => {
-            let party = Party::Associated(associated);
-            match error {
-                StepError::Refused(diagnostic) => keep_party(
-                    alloc,
-                    party,
-                    Pdu::SelectResponse {
-                        diagnostic: Some(diagnostic),
-                    },
-                ),
-                StepError::NoMemory => Err((party, NoMemory)),
-            }
-        }
+    match request {
+        request @ Pdu::SelectRequest { .. } => answered(
+            alloc,
+            associated.select(alloc, request, moment, serial, token, sync, tables),
+            Refusable::Select,
+        ),
+        request @ Pdu::CreateRequest { .. } => answered(
+            alloc,
+            associated.create(alloc, request, moment, serial, token, sync, tables),
+            Refusable::Create,
+        ),
+        Pdu::TerminateRequest => end_saying(
+            alloc,
+            Party::Associated(associated),
+            Said::Pdu(Pdu::TerminateResponse),
+        ),
+        _ => unreachable!(),
     }
 }
 
-pub(crate) fn create(
-    associated: Associated,
-    alloc: Global,
-    request: Pdu,
-    setting: Setting,
-    tables: &Tables,
-) -> Result<Outcome, (Party, NoMemory)>
-    requires { (over : ℕ) × (name : List ℕ) × (contents : FileContents) × (permitted : ActionSet) × (terms : List FileTerm) × (requested : ActionSet) × (controls : Option Controls) × (password : Option (List ℕ)) × (request ≡ Pdu.CreateRequest over name contents permitted terms requested controls password) }
-    ensures { IsAccepted tables.now (Party.Associated associated) setting.moment (messages.Pdu request) result }
-{
-    let Setting {
-        moment,
-        serial,
-        token,
-        sync,
-    } = setting;
-    match associated.create(alloc, request, moment, serial, token, sync, tables) {
-        Ok(step) => Ok(Outcome {
-            party: Party::Selected(step.state),
-            said: step.said,
-            changes: step.changes,
-        }),
-        Err((associated, error)) => {
-            let party = Party::Associated(associated);
-            match error {
-                StepError::Refused(diagnostic) => keep_party(
-                    alloc,
-                    party,
-                    Pdu::CreateResponse {
-                        diagnostic: Some(diagnostic),
-                    },
-                ),
-                StepError::NoMemory => Err((party, NoMemory)),
-            }
-        }
-    }
-}
-
-/// Takes a TerminateRequest, which ends the association: the party is gone.
-pub(crate) fn terminate(
-    associated: Associated,
-    alloc: Global,
-    request: Pdu,
-    setting: Setting,
-    tables: &Tables,
-) -> Result<Outcome, (Party, NoMemory)>
-    requires { request ≡ Pdu.TerminateRequest }
-    ensures { IsAccepted tables.now (Party.Associated associated) setting.moment (messages.Pdu request) result }
-{
-    drop(request);
-    let party = Party::Associated(associated);
-    let Ok(said) = one_said(alloc, Said::Pdu(Pdu::TerminateResponse)) else {
-        return Err((party, NoMemory));
-    };
-    Ok(end_party(alloc, party, said))
-}
-
-pub(crate) fn deselect(
+/// Takes a request with a selected file that isn't open.
+pub(crate) fn take_selected(
     selected: Selected,
     alloc: Global,
     request: Pdu,
     setting: Setting,
     tables: &Tables,
 ) -> Result<Outcome, (Party, NoMemory)>
-    requires { request ≡ Pdu.DeselectRequest }
+    requires built { is_built_pdu request ≡ true }
+    requires taken { takes stages.Selected (messages.Pdu request) ≡ true }
+    requires stays { is_abort request ≡ false }
     ensures { IsAccepted tables.now (Party.Selected selected) setting.moment (messages.Pdu request) result }
 {
     let Setting {
@@ -153,63 +104,30 @@ pub(crate) fn deselect(
         token,
         sync,
     } = setting;
-    match selected.deselect(alloc, request, moment, serial, token, sync, tables) {
-        Ok(step) => Ok(Outcome {
-            party: Party::Associated(step.state),
-            said: step.said,
-            changes: step.changes,
-        }),
-        Err((selected, _)) => Err((Party::Selected(selected), NoMemory)),
+    match request {
+        request @ Pdu::DeselectRequest => concluded(selected.deselect(
+            alloc, request, moment, serial, token, sync, tables,
+        )),
+        request @ Pdu::OpenRequest { .. } => answered(
+            alloc,
+            selected.open(alloc, request, moment, serial, token, sync, tables),
+            Refusable::Open,
+        ),
+        _ => unreachable!(),
     }
 }
 
-pub(crate) fn open_file(
-    selected: Selected,
-    alloc: Global,
-    request: Pdu,
-    setting: Setting,
-    tables: &Tables,
-) -> Result<Outcome, (Party, NoMemory)>
-    requires { (mode : ℕ) × (contents : Option FileContents) × (controls : Option OpenControls) × (activity : Option ℕ) × (request ≡ Pdu.OpenRequest mode contents controls activity) }
-    ensures { IsAccepted tables.now (Party.Selected selected) setting.moment (messages.Pdu request) result }
-{
-    let Setting {
-        moment,
-        serial,
-        token,
-        sync,
-    } = setting;
-    match selected.open(alloc, request, moment, serial, token, sync, tables) {
-        Ok(step) => Ok(Outcome {
-            party: Party::Open(step.state),
-            said: step.said,
-            changes: step.changes,
-        }),
-        Err((selected, error)) => {
-            let party = Party::Selected(selected);
-            match error {
-                StepError::Refused(diagnostic) => keep_party(
-                    alloc,
-                    party,
-                    Pdu::OpenResponse {
-                        diagnostic: Some(diagnostic),
-                        contents: None,
-                    },
-                ),
-                StepError::NoMemory => Err((party, NoMemory)),
-            }
-        }
-    }
-}
-
-pub(crate) fn close(
+/// Takes a request with an open file and no transfer.
+pub(crate) fn take_open(
     opened: Open,
     alloc: Global,
     request: Pdu,
     setting: Setting,
     tables: &Tables,
 ) -> Result<Outcome, (Party, NoMemory)>
-    requires { request ≡ Pdu.CloseRequest }
+    requires built { is_built_pdu request ≡ true }
+    requires taken { takes stages.Opened (messages.Pdu request) ≡ true }
+    requires stays { is_abort request ≡ false }
     ensures { IsAccepted tables.now (Party.Open opened) setting.moment (messages.Pdu request) result }
 {
     let Setting {
@@ -218,12 +136,26 @@ pub(crate) fn close(
         token,
         sync,
     } = setting;
-    match opened.close(alloc, request, moment, serial, token, sync, tables) {
-        Ok(step) => Ok(Outcome {
-            party: Party::Selected(step.state),
-            said: step.said,
-            changes: step.changes,
-        }),
-        Err((opened, _)) => Err((Party::Open(opened), NoMemory)),
+    if is_past_last(&request, opened.done) {
+        return abort_party(alloc, Party::Open(opened), NUMBERS_SPENT);
     }
+    match request {
+        request @ Pdu::CloseRequest => concluded(opened.close(
+            alloc, request, moment, serial, token, sync, tables,
+        )),
+        request @ Pdu::ReadRequest { .. } => concluded(opened.read(
+            alloc, request, moment, serial, token, sync, tables,
+        )),
+        request @ Pdu::WriteRequest { .. } => concluded(opened.write(
+            alloc, request, moment, serial, token, sync, tables,
+        )),
+        _ => unreachable!(),
+    }
+}
+
+/// Whether the request begins a transfer (F-READ, F-WRITE), and the open has had its last.
+fn is_past_last(request: &Pdu, done: u32) -> bool
+    ensures { result ≡ past_last_test request.now done }
+{
+    matches!(request.number(), 32 | 33) && done >= MOST_TRANSFERS
 }

@@ -23,7 +23,7 @@ returns-clause-consequence c =
     (λ (diagnostic : Diagnostic). TransferEndResponse (Some diagnostic)) step
     (answers.Pdu (TransferEndResponse ending.diagnostic) ∷ []) ending.changes (given_by ending.diagnostic)
     (λ state party represents.
-    ap (λ r. performed (with_tables tables state) party c.args.moment (messages.Pdu r)) c.requires
+    ap (λ r. performed (with_tables tables state) party c.args.moment (messages.Pdu r)) c.in-TransferEndRequest.is
     ∙ finish_performed tables state party c.args.moment kept represents ending (sym c.in-Ok.ensures))
     c.in-Ok-one_said.ensures refl
     (λ ordinal link history represents. record {

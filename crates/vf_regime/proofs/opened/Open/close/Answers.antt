@@ -17,7 +17,7 @@ returns-clause-consequence c =
     let step : Step Selected = record { state = c.args.self.selected; said = c.in-Ok.said; changes = c.new.result } in
     good_step IsOpen IsSelected tables c.args.self c.args.moment (messages.Pdu c.args.request) (messages.Pdu CloseRequest)
     (λ (diagnostic : Diagnostic). CloseResponse (Some diagnostic)) step (answers.Pdu (CloseResponse None) ∷ []) [] Nothing
-    (λ state party represents. ap (λ r. performed (with_tables tables state) party c.args.moment (messages.Pdu r)) c.requires)
+    (λ state party represents. ap (λ r. performed (with_tables tables state) party c.args.moment (messages.Pdu r)) c.in-CloseRequest.is)
     c.in-Ok.ensures c.new.ensures
     (λ ordinal link history represents. record {
       linked = represents.opened.linked;

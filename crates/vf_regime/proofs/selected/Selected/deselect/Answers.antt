@@ -17,7 +17,7 @@ returns-clause-consequence c =
     let step : Step Associated = record { state = c.args.self.associated; said = c.in-Ok.said; changes = c.new.result } in
     good_step IsSelected IsAssociated tables c.args.self c.args.moment (messages.Pdu c.args.request) (messages.Pdu DeselectRequest)
     (λ (diagnostic : Diagnostic). DeselectResponse (Some diagnostic)) step (answers.Pdu (DeselectResponse None) ∷ []) [] Nothing
-    (λ state party represents. ap (λ r. performed (with_tables tables state) party c.args.moment (messages.Pdu r)) c.requires)
+    (λ state party represents. ap (λ r. performed (with_tables tables state) party c.args.moment (messages.Pdu r)) c.in-DeselectRequest.is)
     c.in-Ok.ensures c.new.ensures
     (λ ordinal link history represents. record {
       linked = represents.linked;
