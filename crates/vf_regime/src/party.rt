@@ -143,9 +143,9 @@ impl Party {
 }
 
 fn stage_of_moving(moving: &Moving) -> Stage
-    ensures { result ≡ stage_of_movement moving.now.movement }
+    ensures { result ≡ stage_of_movement moving.now.opened.room }
 {
-    match &moving.movement {
+    match moving.opened.room.movement() {
         Movement::Writing(write) => match write.ended {
             None => Stage::Writing,
             Some(_) => Stage::Written,
