@@ -145,7 +145,7 @@ ends_idle link (Some standing) (parties.Idle state) next idle = absurd next
 ends_idle link (Some standing) (parties.Associated associated) next idle = absurd cc
 ends_idle link (Some standing) (parties.Selected selected) next idle = absurd cc
 ends_idle link (Some standing) (parties.Open opened) next idle = absurd cc
-ends_idle link (Some standing) (parties.Moving moving) next idle = absurd (moving_busy moving.movement idle)
+ends_idle link (Some standing) (parties.Moving moving) next idle = absurd (moving_busy moving.opened.room idle)
 
 both : (a b : Bool) → a ≡ true → b ≡ true → IsTrue ((a && b) && true)
 both true true x y = refl

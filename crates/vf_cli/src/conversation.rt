@@ -8,6 +8,7 @@ ghost use Rattle.vf_regime.specs.Sayable.{CanServe, IsSayable};
 ghost use Rattle.vf_regime.specs.State.{State, StandingParty};
 ghost use Rattle.vf_regime.specs.Transition.{transition};
 ghost use Rattle.vf_ber_scan.specs.Scanned.{HasTaken};
+ghost use Rattle.vf_files.specs.Files.{after_changes};
 ghost use Rattle.vf_files.specs.declared.tables.Tables.{Tables};
 ghost use Rattle.vf_cli.specs.Conversation.{Adds, Appends, Holds, IsRest, IsTaking, Makes, Stands, TakesReady, is_ready as ready_test, octets_in, size_of};
 ghost use Rattle.vf_cli.specs.Dialogue.{is_abort as abort_test, opened, outside, reply};
@@ -19,7 +20,7 @@ use std::mem;
 use vf_base::{Moment, NoMemory, Octets};
 use vf_ber_scan::Scan;
 use vf_elements::{Message, Said, Stage};
-use vf_regime::{Outcome, Party, Tables};
+use vf_regime::{Changes, Outcome, Party, Tables};
 
 /// The octets of a stream that its party hasn't taken.
 #[derive(Drop)]
@@ -316,7 +317,7 @@ fn take_message(
         changes,
     } = outcome;
     *party = next;
-    tables.apply(alloc, changes)?;
+    make_changes(alloc, tables, changes)?;
     if append_replies(alloc, said.as_slice(), replies)? {
         return Ok(After::Aborted);
     }
@@ -324,6 +325,17 @@ fn take_message(
         Stage::Idle => Ok(After::Gone),
         _ => Ok(After::Goes),
     }
+}
+
+/// Makes all of the changes or none. Most messages have none, for which the tables need no look.
+fn make_changes(alloc: Global, tables: &mut Tables, changes: Changes) -> Result<(), NoMemory>
+    ensures { OnOk result (tables.new.files ≡ after_changes changes tables.old.files) }
+{
+    if changes.as_slice().is_empty() {
+        return Ok(());
+    }
+    tables.apply(alloc, changes)?;
+    Ok(())
 }
 
 /// Appends the replies as lines, and says whether an abort is among them.

@@ -98,11 +98,11 @@ module _ (tables : Tables) (state : State) (party : StandingParty) (moment : ℕ
       ((λ i. write_given (file_named (file_in (represents.opened.stands i)) tables.files) (units_in (represents.opened.associated i)) (mode_in (represents.opened.moded i)) fadu) ∙ decides)
 
   pub finish_performed : (moving : Moving) → IsMoving moving party.link party.history → (ending : Ending)
-      → kept_ending moving.movement tables.files (record { moment = moment; identity = moving.opened.selected.associated.identity }) moving.opened.selected.file ≡ ending
+      → kept_ending moving.opened.room tables.files (record { moment = moment; identity = moving.opened.selected.associated.identity }) moving.opened.selected.file ≡ ending
       → performed (with_tables tables state) party moment (messages.Pdu TransferEndRequest)
       ≡ ended_by ending (with_tables tables state) party moment (messages.Pdu TransferEndRequest)
   finish_performed moving represents ending decides =
       ap (λ e. ended_by e (with_tables tables state) party moment (messages.Pdu TransferEndRequest))
       ((λ i. ending_in (transfer party.history) tables.files (stamp_of (represents.opened.associated i) moment) (file_in (represents.opened.stands i)) (ending_diagnostic (data_end party.history)) (survivors party.history))
-      ∙ ending_kept moving.movement party.history represents.movement tables.files (record { moment = moment; identity = moving.opened.selected.associated.identity }) moving.opened.selected.file
+      ∙ ending_kept moving.opened.room party.history represents.movement tables.files (record { moment = moment; identity = moving.opened.selected.associated.identity }) moving.opened.selected.file
       ∙ decides)

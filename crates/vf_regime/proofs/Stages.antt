@@ -61,7 +61,7 @@ stage_kept (parties.Idle idle) standing r = stage_idle standing.history idle sta
 stage_kept (parties.Associated associated) standing r = stage_associated standing.history associated standing.link r
 stage_kept (parties.Selected selected) standing r = stage_selected standing.history selected standing.link r
 stage_kept (parties.Open opened) standing r = stage_opened standing.history opened standing.link r
-stage_kept (parties.Moving moving) standing r = stage_moving standing.history moving.movement r.movement
+stage_kept (parties.Moving moving) standing r = stage_moving standing.history moving.opened.room r.movement
 
 module _ (state : State) (standing : StandingParty) (moment : ℕ) (message : Message) where
   decided : (built takes_it : Bool) → Consequence

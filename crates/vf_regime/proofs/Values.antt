@@ -43,11 +43,11 @@ counted_after element old new t entries received counted =
     t.octets ∙ ap (λ n. n + octets_of element) (counted ∙ ap octets_of_unit received.values) ∙ sym after
 
 pub value_taken : (tables : Tables) (moving : Moving) (moment : ℕ) (element : Element) (old new : Write) (outcome : Outcome)
-    → moving.movement ≡ movements.Writing old
+    → moving.opened.room ≡ movements.Writing old
     → passes old.octets (length old.receiving.values) element ≡ false
     → Takes element old new
     → outcome.said.items ≡ [] → outcome.changes ≡ []
-    → outcome.party ≡ parties.Moving (record { opened = moving.opened; movement = movements.Writing new })
+    → outcome.party ≡ parties.Moving (record { opened = record moving.opened { room = movements.Writing new } })
     → IsAccepted tables (parties.Moving moving) moment (messages.Element element) (Ok outcome)
 value_taken tables moving moment element old new outcome is unpassed t says makes party = λ state standing represents.
     let r : IsWriting old standing.history = subst (λ (m : Movement). IsMovement m standing.history) is represents.movement in
@@ -77,9 +77,9 @@ value_taken tables moving moment element old new outcome is unpassed t says make
     )
 
 pub end_taken : (tables : Tables) (moving : Moving) (moment : ℕ) (diagnostic : Option Diagnostic) (write : Write) (outcome : Outcome)
-    → moving.movement ≡ movements.Writing write
+    → moving.opened.room ≡ movements.Writing write
     → outcome.said.items ≡ [] → outcome.changes ≡ []
-    → outcome.party ≡ parties.Moving (record { opened = moving.opened; movement = movements.Writing (record write { ended = Some diagnostic }) })
+    → outcome.party ≡ parties.Moving (record { opened = record moving.opened { room = movements.Writing (record write { ended = Some diagnostic }) } })
     → IsAccepted tables (parties.Moving moving) moment (messages.Pdu (DataEnd diagnostic)) (Ok outcome)
 end_taken tables moving moment diagnostic write outcome is says makes party = λ state standing represents.
     let r : IsWriting write standing.history = subst (λ (m : Movement). IsMovement m standing.history) is represents.movement in (

@@ -63,7 +63,7 @@ pub record IsSelected (selected : Selected) (link : ℕ) (history : History) : T
   pub opened : mode history ≡ None
   pub moved : transfer history ≡ None
 
--- what an open file keeps, whether or not a transfer is under way
+-- what an open file keeps, whether or not a transfer is under way; its room is that of the transfer
 pub record IsOpened (open_file : Open) (link : ℕ) (history : History) : Type 0 where
   pub linked : link ≡ open_file.selected.associated.link
   pub associated : association history ≡ Some (association_of open_file.selected.associated)
@@ -98,7 +98,7 @@ IsMovement (movements.Reading refused) = IsReading refused
 pub record IsMoving (moving : Moving) (link : ℕ) (history : History) : Type 0 where
   pub opened : IsOpened moving.opened link history
   pub numbered : moving.opened.done < 1000000
-  pub movement : IsMovement moving.movement history
+  pub movement : IsMovement moving.opened.room history
 
 abbrev pub Represents : Party → StandingParty → Type 0
 Represents (parties.Idle idle) party = IsIdle idle party.link party.history
@@ -185,7 +185,7 @@ stage_of (parties.Idle idle) = stages.Idle
 stage_of (parties.Associated associated) = stages.Associated
 stage_of (parties.Selected selected) = stages.Selected
 stage_of (parties.Open opened) = stages.Opened
-stage_of (parties.Moving moving) = stage_of_movement moving.movement
+stage_of (parties.Moving moving) = stage_of_movement moving.opened.room
 
 -- What a party answers is this consequence, of every standing party that it represents; without memory the party is
 -- given back as it was.

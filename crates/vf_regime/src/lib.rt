@@ -9,6 +9,7 @@ mod moving;
 mod opened;
 mod outcomes;
 mod party;
+mod room;
 mod selected;
 mod step;
 mod transfers;

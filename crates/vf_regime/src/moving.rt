@@ -22,11 +22,10 @@ pub enum Movement {
     Reading(Option<Diagnostic>),
 }
 
-/// A party with an open file and a transfer.
+/// A party with an open file and a transfer, which stands in the room of the open file.
 #[derive(Drop)]
 pub struct Moving {
     pub(crate) opened: Open,
-    pub(crate) movement: Movement,
 }
 
 impl Moving {
@@ -64,6 +63,7 @@ impl Moving {
         };
         let mut state = self.opened;
         state.done = state.done.saturating_add(1);
+        let _ = state.room.take();
         Ok(Step {
             state,
             said,
@@ -74,12 +74,12 @@ impl Moving {
     /// What the end of the transfer gives.
     fn ending(&self, alloc: Global, moment: Moment, tables: &Tables) -> Result<Ending, NoMemory>
         ensures { let selected = self.now.opened.selected in let stamp : FileStamp = record { moment = moment; identity = selected.associated.identity } in
-            IfOk result (λ ending. ending ≡ kept_ending self.now.movement tables.now.files stamp selected.file) }
+            IfOk result (λ ending. ending ≡ kept_ending self.now.opened.room tables.now.files stamp selected.file) }
     {
         let selected = &self.opened.selected;
         let identity = selected.associated.identity.copy(alloc)?;
         let stamp = Stamp { moment, identity };
-        let ending = match &self.movement {
+        let ending = match self.opened.room.movement() {
             Movement::Writing(write) => end_write(
                 alloc,
                 &tables.files,

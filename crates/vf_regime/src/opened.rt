@@ -4,6 +4,7 @@ ghost use Rattle.vf_pdu.specs.PduNumbers.{number_of};
 ghost use Rattle.vf_pdu.specs.declared.pdu.Pdu.TheVariants as pdus;
 ghost use Rattle.vf_regime.specs.Represents.{IsMoving, IsOpen, IsSelected, IsStep};
 
+use crate::room::Room;
 use crate::step::one_said;
 use crate::transfers::{Shown, show, start};
 use crate::{Changes, Movement, Moving, Said, Selected, Step, StepError, Tables};
@@ -22,6 +23,8 @@ pub struct Open {
     pub(crate) position: u32,
     /// The number of transfers that are concluded.
     pub(crate) done: u32,
+    /// The transfer that is under way; of no meaning where none is.
+    pub(crate) room: Room,
 }
 
 impl Open {
@@ -98,16 +101,10 @@ impl Open {
             refused,
             position,
         } = shown;
-        let opened = Open {
-            selected: self.selected,
-            mode: self.mode,
-            position,
-            done: self.done,
-        };
-        let state = Moving {
-            opened,
-            movement: Movement::Reading(refused),
-        };
+        let mut opened = self;
+        opened.position = position;
+        let _ = opened.room.put(Movement::Reading(refused));
+        let state = Moving { opened };
         Ok(Step {
             state,
             said,
@@ -142,10 +139,9 @@ impl Open {
         };
         let write = start(alloc, tables, &self, fadu);
         let said = Vec::new(alloc);
-        let state = Moving {
-            opened: self,
-            movement: Movement::Writing(write),
-        };
+        let mut opened = self;
+        let _ = opened.room.put(Movement::Writing(write));
+        let state = Moving { opened };
         Ok(Step {
             state,
             said,

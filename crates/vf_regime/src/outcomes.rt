@@ -36,6 +36,13 @@ pub(crate) fn end_party(alloc: Global, party: Party, said: Vec<Said>) -> Outcome
     }
 }
 
+/// Nothing is said, and the party is gone.
+pub(crate) fn break_party(alloc: Global, party: Party) -> Outcome
+    ensures { IsGone party [] result }
+{
+    end_party(alloc, party, Vec::new(alloc))
+}
+
 /// This alone is said, and the party is gone.
 pub(crate) fn end_saying(
     alloc: Global,
@@ -103,6 +110,7 @@ fn refusal(request: Refusable, diagnostic: Diagnostic) -> Pdu
 }
 
 /// What comes of a request that a diagnostic may refuse, from the step's answer.
+#[inline(always)]
 pub(crate) fn answered<Old: Regime, New: Regime>(
     alloc: Global,
     answer: Result<Step<New>, (Old, StepError)>,

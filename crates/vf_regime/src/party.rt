@@ -143,9 +143,9 @@ impl Party {
 }
 
 fn stage_of_moving(moving: &Moving) -> Stage
-    ensures { result ≡ stage_of_movement moving.now.movement }
+    ensures { result ≡ stage_of_movement moving.now.opened.room }
 {
-    match &moving.movement {
+    match moving.opened.room.movement() {
         Movement::Writing(write) => match write.ended {
             None => Stage::Writing,
             Some(_) => Stage::Written,
@@ -169,7 +169,7 @@ fn take_built(
     match message {
         Message::Pdu(request) => take_request(party, alloc, request, setting, tables),
         Message::Element(element) => take_element(party, alloc, element, setting, tables),
-        Message::Break => Ok(outcomes::end_party(alloc, party, Vec::new(alloc))),
+        Message::Break => Ok(outcomes::break_party(alloc, party)),
         Message::Check => unreachable!(),
         Message::Acknowledge { .. } => unreachable!(),
         Message::Restart { .. } => unreachable!(),
@@ -195,6 +195,7 @@ fn take_element(
     }
 }
 
+#[inline(always)]
 fn take_request(
     party: Party,
     alloc: Global,
@@ -207,7 +208,7 @@ fn take_request(
     ensures { IsAccepted tables.now party setting.moment (messages.Pdu request) result }
 {
     if is_abort(&request) {
-        return Ok(outcomes::end_party(alloc, party, Vec::new(alloc)));
+        return Ok(outcomes::break_party(alloc, party));
     }
     match party {
         Party::Idle(idle) => regimes::take_idle(idle, alloc, request, setting, tables),

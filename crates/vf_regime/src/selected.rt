@@ -4,6 +4,7 @@ ghost use Rattle.vf_pdu.specs.PduNumbers.{number_of};
 ghost use Rattle.vf_pdu.specs.declared.pdu.Pdu.TheVariants as pdus;
 ghost use Rattle.vf_regime.specs.Represents.{IsAssociated, IsOpen, IsSelected, IsStep};
 
+use crate::room::Room;
 use crate::step::one_said;
 use crate::{Associated, Changes, Open, Said, Step, StepError, Tables};
 use std::alloc::Global;
@@ -91,11 +92,15 @@ impl Selected {
                 let Ok(said) = one_said(alloc, Said::Pdu(response)) else {
                     return Err((self, StepError::NoMemory));
                 };
+                let Ok(room) = Room::empty(alloc) else {
+                    return Err((self, StepError::NoMemory));
+                };
                 let state = Open {
                     selected: self,
                     mode,
                     position: 0,
                     done: 0,
+                    room,
                 };
                 Ok(Step {
                     state,

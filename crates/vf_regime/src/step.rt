@@ -21,6 +21,7 @@ pub enum StepError {
 }
 
 /// A list of one thing that is said.
+#[inline(always)]
 pub(crate) fn one_said(alloc: Global, said: Said) -> Result<Vec<Said>, NoMemory>
     ensures { IfOk result (λ list. list.items ≡ said ∷ []) }
 {

@@ -28,7 +28,7 @@ pub(crate) fn take_moving(
     tables: &Tables,
 ) -> Result<Outcome, (Party, NoMemory)>
     requires built { is_built_pdu request ≡ true }
-    requires taken { takes (stage_of_movement moving.movement) (messages.Pdu request) ≡ true }
+    requires taken { takes (stage_of_movement moving.opened.room) (messages.Pdu request) ≡ true }
     requires stays { is_abort request ≡ false }
     ensures { IsAccepted tables.now (Party.Moving moving) setting.moment (messages.Pdu request) result }
 {
@@ -55,11 +55,11 @@ pub(crate) fn element(
     setting: Setting,
     tables: &Tables,
 ) -> Result<Outcome, (Party, NoMemory)>
-    requires { stage_of_movement moving.movement ≡ stages.Writing }
+    requires { stage_of_movement moving.opened.room ≡ stages.Writing }
     ensures { IsAccepted tables.now (Party.Moving moving) setting.moment (messages.Element element) result }
 {
-    let Moving { opened, movement } = moving;
-    let Movement::Writing(mut write) = movement else {
+    let Moving { mut opened } = moving;
+    let Movement::Writing(mut write) = opened.room.take() else {
         unreachable!()
     };
     if write.is_passed_by(&element) {
@@ -78,12 +78,11 @@ pub(crate) fn element(
 
 /// A party with a write under way.
 fn writing(opened: Open, write: Write) -> Party
-    ensures { result ≡ parties.Moving (record { opened = opened; movement = movements.Writing write }) }
+    ensures { result ≡ parties.Moving (record { opened = record opened { room = movements.Writing write } }) }
 {
-    Party::Moving(Moving {
-        opened,
-        movement: Movement::Writing(write),
-    })
+    let mut opened = opened;
+    let _ = opened.room.put(Movement::Writing(write));
+    Party::Moving(Moving { opened })
 }
 
 /// Takes the end of the values of a write.
@@ -94,11 +93,11 @@ fn data_end(
     setting: Setting,
     tables: &Tables,
 ) -> Result<Outcome, (Party, NoMemory)>
-    requires { stage_of_movement moving.movement ≡ stages.Writing }
+    requires { stage_of_movement moving.opened.room ≡ stages.Writing }
     ensures { IsAccepted tables.now (Party.Moving moving) setting.moment (messages.Pdu (Pdu.DataEnd diagnostic)) result }
 {
-    let Moving { opened, movement } = moving;
-    let Movement::Writing(mut write) = movement else {
+    let Moving { mut opened } = moving;
+    let Movement::Writing(mut write) = opened.room.take() else {
         unreachable!()
     };
     write.ended = Some(diagnostic);

@@ -1,10 +1,12 @@
 //! What comes of the requests by which regimes begin and end, each built and taken by its stage.
-ghost use Rattle.std.specs.Prelude.{◌≡◌, false, true};
+ghost use Rattle.std.specs.Prelude.{◌≡◌, ◌∷◌, [], false, true, MatchResult};
 ghost use Rattle.vf_elements.specs.Stages.{takes};
 ghost use Rattle.vf_elements.specs.declared.message.Message.TheVariants as messages;
+ghost use Rattle.vf_elements.specs.declared.message.Said.TheVariants as answers;
 ghost use Rattle.vf_elements.specs.declared.stage.Stage.TheVariants as stages;
+ghost use Rattle.vf_pdu.specs.declared.pdu.Pdu.TheVariants as pdus;
 ghost use Rattle.vf_regime.specs.Built.{is_built_pdu};
-ghost use Rattle.vf_regime.specs.Represents.{IsAccepted};
+ghost use Rattle.vf_regime.specs.Represents.{IsAccepted, IsGone};
 ghost use Rattle.vf_regime.specs.Transition.{is_abort, is_past_last as past_last_test};
 
 use super::{Refusable, Setting, abort_party, answered, concluded, end_saying};
@@ -76,13 +78,20 @@ pub(crate) fn take_associated(
             associated.create(alloc, request, moment, serial, token, sync, tables),
             Refusable::Create,
         ),
-        Pdu::TerminateRequest => end_saying(
-            alloc,
-            Party::Associated(associated),
-            Said::Pdu(Pdu::TerminateResponse),
-        ),
+        Pdu::TerminateRequest => terminate(alloc, associated),
         _ => unreachable!(),
     }
+}
+
+/// The association ends.
+fn terminate(alloc: Global, associated: Associated) -> Result<Outcome, (Party, NoMemory)>
+    ensures { MatchResult result (IsGone (Party.Associated associated) (answers.Pdu pdus.TerminateResponse ∷ [])) (λ back. back.0 ≡ Party.Associated associated) }
+{
+    end_saying(
+        alloc,
+        Party::Associated(associated),
+        Said::Pdu(Pdu::TerminateResponse),
+    )
 }
 
 /// Takes a request with a selected file that isn't open.

@@ -22,7 +22,7 @@ returns c = λ state standing represents.
     let goes = goes_on standing.link (transition filestore standing 0 c.args.message).party outcome.party meets.2 (λ idle. c.in_default-stage.not-Idle (c.stage.ensures.kept ∙ idle)) in
     record {
       said = c.in_ok-append_replies.ensures.lines ∙ ap (λ (l : List Said). c.args.replies.now.lines.items ++ flat_map reply l) said;
-      changed = c.in_ok-apply.ensures.ok ∙ ap (λ l. after_changes l c.args.tables.now.files) meets.1;
+      changed = c.in_ok-make_changes.ensures ∙ ap (λ l. after_changes l c.args.tables.now.files) meets.1;
       goes = (goes.0, goes.1, goes.2, ap (list_any is_abort) (sym said) ∙ sym c.in_ok-append_replies.ensures.abort ∙ c.if-branch.false);
     }
 
@@ -37,7 +37,7 @@ returns-in-Idle c = λ state standing represents.
     let gone = ends_idle standing.link (transition filestore standing 0 c.args.message).party outcome.party meets.2 (sym c.stage.ensures.kept ∙ c.in-Idle.is) in
     record {
       said = c.in_ok-append_replies.ensures.lines ∙ ap (λ (l : List Said). c.args.replies.now.lines.items ++ flat_map reply l) said;
-      changed = c.in_ok-apply.ensures.ok ∙ ap (λ l. after_changes l c.args.tables.now.files) meets.1;
+      changed = c.in_ok-make_changes.ensures ∙ ap (λ l. after_changes l c.args.tables.now.files) meets.1;
       goes = (gone, ap (list_any is_abort) (sym said) ∙ sym c.in_ok-append_replies.ensures.abort ∙ c.if-branch.false);
     }
 
@@ -52,7 +52,7 @@ returns-then-branch c = λ state standing represents.
     let aborted = ap (list_any is_abort) (sym said) ∙ sym c.in_ok-append_replies.ensures.abort ∙ c.if-branch.true in
     record {
       said = c.in_ok-append_replies.ensures.lines ∙ ap (λ (l : List Said). c.args.replies.now.lines.items ++ flat_map reply l) said;
-      changed = c.in_ok-apply.ensures.ok ∙ ap (λ l. after_changes l c.args.tables.now.files) meets.1;
+      changed = c.in_ok-make_changes.ensures ∙ ap (λ l. after_changes l c.args.tables.now.files) meets.1;
       goes = (abort_ends filestore standing 0 c.args.message aborted, aborted);
     }
 

@@ -17,7 +17,7 @@ returns-clause-consequence c =
     let tables = c.args.tables.now in
     let kept = c.args.self in
     let ending : Ending = c.in-Ok.ending in
-    let state : Open = record kept.opened { done = c.saturating_add.result } in
+    let state : Open = record kept.opened { done = c.saturating_add.result; room = c.take.new.self } in
     let step : Step Open = record { state = state; said = c.in-Ok-one_said.said; changes = ending.changes } in
     good_step IsMoving IsOpen tables kept c.args.moment (messages.Pdu c.args.request) (messages.Pdu TransferEndRequest)
     (λ (diagnostic : Diagnostic). TransferEndResponse (Some diagnostic)) step

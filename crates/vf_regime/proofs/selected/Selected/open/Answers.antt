@@ -40,7 +40,7 @@ returns-clause-consequence c =
     let contents = c.in-Contents.contents in
     let answer = openings.Contents contents in
     let decides : opened (file_named c.args.self.file tables.files) c.args.self.requested asked.mode ≡ answer = sym c.in-Ok.ensures ∙ c.in-Contents.is in
-    let state : Open = record { selected = c.args.self; mode = asked.mode; position = 0; done = 0 } in
+    let state : Open = record { selected = c.args.self; mode = asked.mode; position = 0; done = 0; room = c.in-Ok-empty.room } in
     let step : Step Open = record { state = state; said = c.in-Ok-one_said.said; changes = c.new.result } in
     good_step IsSelected IsOpen tables c.args.self c.args.moment (messages.Pdu c.args.request) (messages.Pdu request) response
     step (answers.Pdu (OpenResponse None (Some contents)) ∷ []) [] Nothing
