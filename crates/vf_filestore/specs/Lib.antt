@@ -19,6 +19,7 @@ pub mod RowsOfAttributes
 pub mod RowsOfControls
 pub mod RowsOfGroups
 pub mod RowsOfOpens
+pub mod RowsOfRandom
 pub mod RowsOfReads
 pub mod RowsOfRecovery
 pub mod RowsOfWrites

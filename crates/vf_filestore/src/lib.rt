@@ -5,6 +5,6 @@
 mod rows;
 
 pub use rows::{
-    attributes_compute, controls_compute, groups_compute, opens_compute, reads_compute,
-    recovery_computes, writes_compute,
+    attributes_compute, controls_compute, groups_compute, opens_compute, random_runs_compute,
+    reads_compute, recovery_computes, writes_compute,
 };

@@ -3,6 +3,7 @@ ghost use Rattle.vf_filestore.specs.RowsOfAttributes.{RowsOfAttributes};
 ghost use Rattle.vf_filestore.specs.RowsOfControls.{RowsOfControls};
 ghost use Rattle.vf_filestore.specs.RowsOfGroups.{RowsOfGroups};
 ghost use Rattle.vf_filestore.specs.RowsOfOpens.{RowsOfOpens};
+ghost use Rattle.vf_filestore.specs.RowsOfRandom.{RowsOfRandom};
 ghost use Rattle.vf_filestore.specs.RowsOfReads.{RowsOfReads};
 ghost use Rattle.vf_filestore.specs.RowsOfRecovery.{RowsOfRecovery};
 ghost use Rattle.vf_filestore.specs.RowsOfWrites.{RowsOfWrites};
@@ -25,6 +26,11 @@ pub fn groups_compute()
 /// What selections, creations and opens come to, and which refusal goes first.
 pub fn opens_compute()
     ensures { RowsOfOpens }
+{}
+
+/// What runs come to that were drawn at random, as another model (bench/filestore) makes them.
+pub fn random_runs_compute()
+    ensures { RowsOfRandom }
 {}
 
 /// What reads come to, with checks and without.
