@@ -6,3 +6,5 @@ pub mod Carriage
 pub mod Receiving
 pub mod Pieces
 pub mod Rows
+pub mod Sending
+pub mod Mutual

@@ -1,5 +1,8 @@
 //! Laws of an association, each the contract of a function that does nothing.
-ghost use Rattle.std.specs.Prelude.{ℕ, ◌++◌, ◌≤◌, List, length};
+ghost use Rattle.std.specs.Prelude.{ℕ, ◌++◌, ◌≤◌, Bool, List, length};
+ghost use Rattle.vf_session.specs.declared.units.SessionSay.{SessionSay};
+ghost use Rattle.vf_stack.specs.Mutual.{IsReceived};
+ghost use Rattle.vf_stack.specs.declared.indication.Indication.{Indication};
 ghost use Rattle.vf_session.specs.declared.units.TokenSide.{TokenSide};
 ghost use Rattle.vf_stack.specs.Association.{Association, end_of};
 ghost use Rattle.vf_stack.specs.Pieces.{AreCut, TellOnce, TellsByOctets, TellsInPieces};
@@ -28,4 +31,10 @@ pub fn octets_tell_once()
 pub fn worked_rows_compute()
     ensures rows { WorkedRows }
     ensures carriage { WorkedCarriage }
+{}
+
+/// What one end may send the other receives, where both agree by session and nothing is on its way: a unit whose user data
+/// tell one indication is received as this indication and nothing else.
+pub fn sent_is_received()
+    ensures { (own : TokenSide) (offer far_offer : Bool) (a far : Association) (most : ℕ) (unit : SessionSay) (indication : Indication) → IsReceived own offer far_offer a far most unit indication }
 {}

@@ -11,4 +11,6 @@ mod laws;
 
 pub use ending::Ending;
 pub use indication::{FaultName, Indication, Item, Layer};
-pub use laws::{octets_tell_once, octets_tell_the_piece, pieces_tell_all, worked_rows_compute};
+pub use laws::{
+    octets_tell_once, octets_tell_the_piece, pieces_tell_all, sent_is_received, worked_rows_compute,
+};
