@@ -1,0 +1,83 @@
+//! The user data of units of session, and the values in them.
+ghost use Rattle.std.specs.Prelude.{◌≡◌};
+ghost use Rattle.vf_session.specs.Units.{user_data as data_of};
+ghost use Rattle.vf_stack.specs.Carriage.{carrier as carrier_of, is_data as data_test, values_of as values_in};
+
+use vf_base::SpduKind;
+use vf_session::{SayParameters, SessionOut};
+use vf_upper::{CarriedValues, Primitive};
+
+/// The user data of a unit; empty where it has none.
+pub(crate) fn user_data(unit: &SessionOut) -> &[u8]
+    ensures { result.now ≡ data_of unit.now }
+{
+    match unit {
+        SessionOut::Connect { data, .. } => data.as_slice(),
+        SessionOut::Accept { data, .. } => data.as_slice(),
+        SessionOut::Refuse { data } => data.as_slice(),
+        SessionOut::Finish { data } => data.as_slice(),
+        SessionOut::Finished { data } => data.as_slice(),
+        SessionOut::Data { data, .. } => data.as_slice(),
+        SessionOut::Resync { data, .. } => data.as_slice(),
+        SessionOut::Resynced { data, .. } => data.as_slice(),
+        SessionOut::Abort { data } => data.as_slice(),
+        SessionOut::Check { .. } => &[],
+        SessionOut::Acknowledge { .. } => &[],
+        SessionOut::Token { .. } => &[],
+    }
+}
+
+/// The SPDU whose user data a unit has.
+pub(crate) fn carrier(unit: SayParameters) -> Option<SpduKind>
+    ensures { result ≡ carrier_of unit }
+{
+    match unit {
+        SayParameters::Connect { .. } => Some(SpduKind::CN),
+        SayParameters::Accept { .. } => Some(SpduKind::AC),
+        SayParameters::Refuse => Some(SpduKind::RF),
+        SayParameters::Finish => Some(SpduKind::FN),
+        SayParameters::Finished => Some(SpduKind::DN),
+        SayParameters::Data { .. } => Some(SpduKind::DT),
+        SayParameters::Resync { .. } => Some(SpduKind::RS),
+        SayParameters::Resynced { .. } => Some(SpduKind::RA),
+        SayParameters::Abort => Some(SpduKind::AB),
+        SayParameters::Check { .. } => None,
+        SayParameters::Acknowledge { .. } => None,
+        SayParameters::Token { .. } => None,
+    }
+}
+
+/// Whether the unit is P-DATA.
+pub(crate) fn is_data(unit: SayParameters) -> bool
+    ensures { result ≡ data_test unit }
+{
+    match unit {
+        SayParameters::Data { .. } => true,
+        SayParameters::Connect { .. } => false,
+        SayParameters::Accept { .. } => false,
+        SayParameters::Refuse => false,
+        SayParameters::Finish => false,
+        SayParameters::Finished => false,
+        SayParameters::Check { .. } => false,
+        SayParameters::Acknowledge { .. } => false,
+        SayParameters::Resync { .. } => false,
+        SayParameters::Resynced { .. } => false,
+        SayParameters::Abort => false,
+        SayParameters::Token { .. } => false,
+    }
+}
+
+/// The values of a primitive.
+pub(crate) fn values_of(primitive: Primitive) -> CarriedValues
+    ensures { result ≡ values_in primitive }
+{
+    match primitive {
+        Primitive::Associate { values, .. } => values,
+        Primitive::Accepted { values, .. } => values,
+        Primitive::Refused { values, .. } => values,
+        Primitive::Release { values } => values,
+        Primitive::Released { values } => values,
+        Primitive::Data { values } => values,
+        Primitive::Abort { values } => values,
+    }
+}

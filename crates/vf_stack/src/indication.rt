@@ -1,0 +1,128 @@
+ghost use Rattle.std.specs.Prelude.{◌≡◌, IfOk};
+
+use std::alloc::Global;
+use vf_base::{Duplicate, Element, NoMemory, copy_option};
+use vf_pdu::Pdu;
+
+/// A PDU or a data element.
+#[derive(Drop)]
+pub enum Item {
+    Pdu(Pdu),
+    Element(Element),
+}
+
+/// The layer that a fault is of.
+#[derive(Clone, Copy, Debug, PartialEq, Eq)]
+pub enum Layer {
+    /// RFC 1006 and ISO 8073; places are offsets in the stream.
+    Transport,
+    /// ISO 8327; places are offsets in the TSDU.
+    Session,
+    /// Presentation (ISO 8823) and ACSE (ISO 8650); places are offsets in the user data, 0 for `Context` and `Application`.
+    Upper,
+    /// FTAM (ISO 8571-4); a place is that of a part of the value or the number of a field, 0 for `Unknown`.
+    Ftam,
+}
+
+/// What is at fault. Of transport `Version`, `Length`, `Code`, `State`, `Size`; of session `Code`, `Length`, `Missing`,
+/// `Value`, `State`, `Serial`, `Token`; of presentation and ACSE `Context`, `Grammar`, `Application`; of FTAM `Unknown`,
+/// `Field`, `Range`, `Missing`. `Short`, `Bad`, `Deep` and `Long` are those of a value, and no layer tells them.
+#[derive(Clone, Copy, Debug, PartialEq, Eq)]
+pub enum FaultName {
+    Version,
+    Length,
+    Code,
+    State,
+    Size,
+    Missing,
+    Value,
+    Serial,
+    Token,
+    Context,
+    Grammar,
+    Application,
+    Short,
+    Bad,
+    Deep,
+    Long,
+    Unknown,
+    Field,
+    Range,
+}
+
+/// What the other end sent, or what is at fault in it. Serial numbers are 0 to 999,999.
+#[derive(Drop)]
+pub enum Indication {
+    /// F-INITIALIZE request; `sync` where minor synchronize and resynchronize are proposed.
+    Associate {
+        sync: bool,
+        pdu: Pdu,
+    },
+    /// F-INITIALIZE response that accepts; `sync` where they are agreed.
+    Accepted {
+        sync: bool,
+        pdu: Pdu,
+    },
+    /// F-INITIALIZE response that refuses, or a refusal by a lower layer without a PDU.
+    Refused {
+        pdu: Option<Pdu>,
+    },
+    /// F-TERMINATE request.
+    Release {
+        pdu: Pdu,
+    },
+    /// F-TERMINATE response.
+    Released {
+        pdu: Pdu,
+    },
+    /// A PDU or a data element in P-DATA.
+    Item(Item),
+    /// F-CHECK.
+    Check {
+        serial: u32,
+    },
+    /// F-CHECK response.
+    Acknowledged {
+        serial: u32,
+    },
+    /// F-RESTART request in a resynchronization.
+    Restart {
+        serial: u32,
+        pdu: Pdu,
+    },
+    /// F-RESTART response in the answer to it.
+    Restarted {
+        serial: u32,
+        pdu: Pdu,
+    },
+    /// F-CANCEL request in a resynchronization.
+    Cancel {
+        pdu: Pdu,
+    },
+    /// F-CANCEL response in the answer to it.
+    Cancelled {
+        pdu: Pdu,
+    },
+    /// F-U-ABORT, F-P-ABORT, or an abort without a PDU.
+    Abort {
+        pdu: Option<Pdu>,
+    },
+    /// Nothing is received after it.
+    Fault {
+        layer: Layer,
+        name: FaultName,
+        at: u64,
+    },
+}
+
+impl Item {
+    /// The same item; its octets are shared.
+    pub fn copy(&self, alloc: Global) -> Result<Item, NoMemory>
+        ensures { IfOk result (λ made. made ≡ self.now) }
+    {
+        match self {
+            Item::Pdu(pdu) => Ok(Item::Pdu(pdu.copy(alloc)?)),
+            Item::Element(element) => Ok(Item::Element(element.copy(alloc)?)),
+        }
+    }
+}

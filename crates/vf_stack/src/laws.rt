@@ -1,0 +1,40 @@
+//! Laws of an association, each the contract of a function that does nothing.
+ghost use Rattle.std.specs.Prelude.{ℕ, ◌++◌, ◌≤◌, Bool, List, length};
+ghost use Rattle.vf_session.specs.declared.units.SessionSay.{SessionSay};
+ghost use Rattle.vf_stack.specs.Mutual.{IsReceived};
+ghost use Rattle.vf_stack.specs.declared.indication.Indication.{Indication};
+ghost use Rattle.vf_session.specs.declared.units.TokenSide.{TokenSide};
+ghost use Rattle.vf_stack.specs.Association.{Association, end_of};
+ghost use Rattle.vf_stack.specs.Pieces.{AreCut, TellOnce, TellsByOctets, TellsInPieces};
+ghost use Rattle.vf_stack.specs.Rows.{WorkedCarriage, WorkedRows};
+ghost use Rattle.vf_tpkt.specs.Stream.{reading as stream_read};
+ghost use Rattle.vf_tpkt.specs.Wanting.{TellsOnce};
+
+/// A stream tells what its pieces tell, one after the other, wherever it is cut.
+pub fn pieces_tell_all()
+    ensures pieces { (own : TokenSide) (a : Association) (first second : List ℕ) → TellsInPieces own a first second }
+    ensures octets { (own : TokenSide) (a : Association) (first second : List ℕ) → AreCut own a first second }
+{}
+
+/// What octets tell one by one is what they tell as a piece.
+pub fn octets_tell_the_piece()
+    ensures { (own : TokenSide) (a : Association) (octet : ℕ) (octets : List ℕ) → TellsByOctets own a octet octets }
+{}
+
+/// Of octets by which transport tells one thing at most, wherever they are cut, either those before the cut tell nothing or
+/// those after it do.
+pub fn octets_tell_once()
+    ensures { (own : TokenSide) (a : Association) (most : ℕ) (first second : List ℕ) → TellsOnce (stream_read (end_of own) a.stream).kept most → length (first ++ second) ≤ most → TellOnce own a first second }
+{}
+
+/// What worked rows of what is received come to.
+pub fn worked_rows_compute()
+    ensures rows { WorkedRows }
+    ensures carriage { WorkedCarriage }
+{}
+
+/// What one end may send the other receives, where both agree by session and nothing is on its way: a unit whose user data
+/// tell one indication is received as this indication and nothing else.
+pub fn sent_is_received()
+    ensures { (own : TokenSide) (offer far_offer : Bool) (a far : Association) (most : ℕ) (unit : SessionSay) (indication : Indication) → IsReceived own offer far_offer a far most unit indication }
+{}

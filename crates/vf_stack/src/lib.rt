@@ -1,0 +1,16 @@
+//! The four lower layers of one end of an association as one: transport, session, presentation with ACSE, and the carriage
+//! of FTAM's PDUs and data elements by them (ISO 8571-4).
+#![tactic(auto)]
+
+mod carriage;
+mod contexts;
+mod ending;
+mod fault;
+mod indication;
+mod laws;
+
+pub use ending::Ending;
+pub use indication::{FaultName, Indication, Item, Layer};
+pub use laws::{
+    octets_tell_once, octets_tell_the_piece, pieces_tell_all, sent_is_received, worked_rows_compute,
+};
