@@ -1,4 +1,4 @@
--- Messages, settings and runs of which worked rows speak.
+-- Messages, settings and runs that the examples are made of.
 use Rattle.std.specs.Prelude.{ℕ, true, List, [], ◌∷◌, map, filter_map, Option, None, Some, if◌then◌else◌, nat_eq}
 use Rattle.vf_attr.specs.declared.file.File.{File}
 use Rattle.vf_attr.specs.declared.stamp.Stamp.{Stamp}

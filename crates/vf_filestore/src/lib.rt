@@ -1,5 +1,5 @@
-//! The definitions of the whole filestore (ISO 8571-2 to -4; profile), which stand in `specs/`, and worked rows that
-//! they compute.
+//! The definitions of the whole filestore (ISO 8571-2 to -4; profile), which stand in `specs/`, and examples
+//! that they compute.
 #![tactic(auto)]
 
 mod rows;

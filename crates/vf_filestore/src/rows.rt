@@ -1,4 +1,4 @@
-//! Worked rows, each the contract of a function that does nothing.
+//! Examples, each the contract of a function that does nothing.
 ghost use Rattle.vf_filestore.specs.RowsOfAttributes.{RowsOfAttributes};
 ghost use Rattle.vf_filestore.specs.RowsOfControls.{RowsOfControls};
 ghost use Rattle.vf_filestore.specs.RowsOfGroups.{RowsOfGroups};

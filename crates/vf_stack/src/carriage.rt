@@ -51,20 +51,7 @@ pub(crate) fn carrier(unit: SayParameters) -> Option<SpduKind>
 pub(crate) fn is_data(unit: SayParameters) -> bool
     ensures { result ≡ data_test unit }
 {
-    match unit {
-        SayParameters::Data { .. } => true,
-        SayParameters::Connect { .. } => false,
-        SayParameters::Accept { .. } => false,
-        SayParameters::Refuse => false,
-        SayParameters::Finish => false,
-        SayParameters::Finished => false,
-        SayParameters::Check { .. } => false,
-        SayParameters::Acknowledge { .. } => false,
-        SayParameters::Resync { .. } => false,
-        SayParameters::Resynced { .. } => false,
-        SayParameters::Abort => false,
-        SayParameters::Token { .. } => false,
-    }
+    matches!(unit, SayParameters::Data { .. })
 }
 
 /// The values of a primitive.

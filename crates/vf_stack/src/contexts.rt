@@ -23,10 +23,8 @@ pub(crate) fn entries_of(alloc: Global, offers: &[Offer]) -> Result<Contexts, No
     ensures { IfOk result (λ made. made ≡ entries offers.now) }
 {
     let mut made = Contexts::new(alloc);
-    let mut rest = offers;
-    while let Some((offer, others)) = rest.split_first() {
+    for offer in offers {
         made.push(entry_of(alloc, offer)?)?;
-        rest = others;
     }
     Ok(made)
 }
@@ -43,12 +41,10 @@ fn accepted_of(alloc: Global, offers: &[Offer]) -> Result<Contexts, NoMemory>
     ensures { IfOk result (λ made. made ≡ accepted_among offers.now) }
 {
     let mut made = Contexts::new(alloc);
-    let mut rest = offers;
-    while let Some((offer, others)) = rest.split_first() {
+    for offer in offers {
         if is_accepted(offer) {
             made.push(entry_of(alloc, offer)?)?;
         }
-        rest = others;
     }
     Ok(made)
 }
@@ -58,16 +54,14 @@ fn chosen(alloc: Global, proposed: &[ContextEntry], results: &[bool]) -> Result<
     ensures { IfOk result (λ made. made ≡ chosen_among proposed.now results.now) }
 {
     let mut made = Contexts::new(alloc);
-    let mut rest = proposed;
     let mut answers = results;
-    while let Some((entry, others)) = rest.split_first() {
+    for entry in proposed {
         let Some((accepted, after)) = answers.split_first() else {
             return Ok(made);
         };
         if *accepted {
             made.push(entry.copy(alloc)?)?;
         }
-        rest = others;
         answers = after;
     }
     Ok(made)
@@ -106,39 +100,13 @@ fn results_in(read: &Result<Primitive, UpperError>) -> &[bool]
 fn is_connect(unit: SayParameters) -> bool
     ensures { result ≡ connects unit }
 {
-    match unit {
-        SayParameters::Connect { .. } => true,
-        SayParameters::Accept { .. } => false,
-        SayParameters::Refuse => false,
-        SayParameters::Finish => false,
-        SayParameters::Finished => false,
-        SayParameters::Data { .. } => false,
-        SayParameters::Check { .. } => false,
-        SayParameters::Acknowledge { .. } => false,
-        SayParameters::Resync { .. } => false,
-        SayParameters::Resynced { .. } => false,
-        SayParameters::Abort => false,
-        SayParameters::Token { .. } => false,
-    }
+    matches!(unit, SayParameters::Connect { .. })
 }
 
 fn is_accept(unit: SayParameters) -> bool
     ensures { result ≡ accepts_any unit }
 {
-    match unit {
-        SayParameters::Accept { .. } => true,
-        SayParameters::Connect { .. } => false,
-        SayParameters::Refuse => false,
-        SayParameters::Finish => false,
-        SayParameters::Finished => false,
-        SayParameters::Data { .. } => false,
-        SayParameters::Check { .. } => false,
-        SayParameters::Acknowledge { .. } => false,
-        SayParameters::Resync { .. } => false,
-        SayParameters::Resynced { .. } => false,
-        SayParameters::Abort => false,
-        SayParameters::Token { .. } => false,
-    }
+    matches!(unit, SayParameters::Accept { .. })
 }
 
 /// The contexts that a unit proposes, by its user data as they were read; none of other units.

@@ -27,7 +27,7 @@ pub fn octets_tell_once()
     ensures { (own : TokenSide) (a : Association) (most : ℕ) (first second : List ℕ) → TellsOnce (stream_read (end_of own) a.stream).kept most → length (first ++ second) ≤ most → TellOnce own a first second }
 {}
 
-/// What worked rows of what is received come to.
+/// Examples of what is received: the definitions compute what each comes to.
 pub fn worked_rows_compute()
     ensures rows { WorkedRows }
     ensures carriage { WorkedCarriage }

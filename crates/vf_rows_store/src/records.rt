@@ -1,0 +1,60 @@
+//! Octets as records of changes.
+use std::test::Fail;
+use vf_store_record::read;
+use vf_tables::{Change, Changes};
+
+/// Octets, and how many changes they are a record of; none where they are no record.
+const TABLE: [(&[u8], Option<usize>); 12] = [
+    (b"\0\0\0\0", Some(0)),
+    (b"\0\0\0\x01\x01\0\x03ann\x01\0\x02pw", Some(1)),
+    (b"\0\0\0\x01\x01\0\x03ann\0", Some(1)),
+    (b"\0\0\0\x02\x04\0\x01a\x0b\0\0\0\x07\0\0\0\x02", Some(2)),
+    (b"\0\0\0\x01\x0c\0\0\0\x07", Some(1)),
+    (b"", None),
+    (b"\0\0\0", None),
+    (b"\0\0\0\x01", None),
+    (b"\0\0\0\0\0", None),
+    (b"\0\0\0\x01\x0d\0\0\0\x07", None),
+    (b"\0\0\0\x01\x01\0\x03ann\x02\0\x02pw", None),
+    (b"\0\0\0\x01\x04\0\x02a", None),
+];
+
+fn count_of(found: &Option<Changes>) -> Option<usize> {
+    match found {
+        Some(changes) => Some(changes.len()),
+        None => None,
+    }
+}
+
+#[test]
+fn octets_are_read_as_changes(rt: HostRuntime) -> Result<(), Fail> {
+    for (octets, wanted) in TABLE {
+        let found = read(rt.alloc(), octets)?;
+        assert!(rt; count_of(&found) == wanted);
+    }
+    Ok(())
+}
+
+/// Whether it is the user `ann` with the password `pw`.
+fn is_ann(change: &Change) -> bool {
+    match change {
+        Change::PutUser { user } => match &user.password {
+            Some(password) => {
+                user.identity.as_slice() == b"ann".as_slice()
+                    && password.as_slice() == b"pw".as_slice()
+            }
+            None => false,
+        },
+        _ => false,
+    }
+}
+
+#[test]
+fn a_user_is_read_with_its_password(rt: HostRuntime) -> Result<(), Fail> {
+    let found = read(rt.alloc(), b"\0\0\0\x01\x01\0\x03ann\x01\0\x02pw")?;
+    let Some(changes) = found else {
+        return Err(Fail::from("no record"));
+    };
+    assert!(rt; changes.get(0).is_some_and(|change| is_ann(change)));
+    Ok(())
+}
