@@ -5,6 +5,7 @@ pub mod Links
 pub mod Memory
 pub mod Moment
 pub mod Name
+pub mod Octets
 pub mod Oid
 pub mod Plans
 pub mod Script
