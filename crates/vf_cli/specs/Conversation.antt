@@ -1,11 +1,10 @@
 -- What the parts of `dialogue` answer, by what it prints.
-use Rattle.std.specs.Prelude.{◌≡◌, ◌<◌, ◌≤◌, ◌+◌, ◌-◌, ◌*◌, length as length_of, ℕ, Bool, true, false, List, [], ◌∷◌, ◌++◌, Option, None, Some, Result, Ok, Err}
+use Rattle.std.specs.Prelude.{◌≡◌, ◌<◌, ◌≤◌, ◌+◌, ◌-◌, ◌*◌, drop, length as length_of, ℕ, Bool, true, false, List, [], ◌∷◌, ◌++◌, Option, None, Some, Result, Ok, Err}
 use Rattle.std.specs.List.{flat_map, list_any}
-use Rattle.vf_base.specs.declared.errors.NoMemory.{NoMemory}
 use Rattle.vf_ber.specs.Reader.{reading}
-use Rattle.vf_ber.specs.Tree.{Tree}
 use Rattle.vf_ber.specs.Reading.{Reading, Short, Bad, Deep, Long, Read}
 use Rattle.vf_elements.specs.Messages.{message_in, place_of}
+use Rattle.vf_elements.specs.declared.message.Message.{Message}
 use Rattle.vf_pdu_fields.specs.Fault.{Fault}
 use Rattle.vf_regime.specs.declared.party.Party.{Party}
 use Rattle.vf_files.specs.declared.tables.Tables.{Tables}
@@ -21,8 +20,7 @@ use Rattle.vf_cli.specs.declared.conversation.After.TheVariants as after
 use Rattle.vf_cli.specs.declared.conversation.Conversation.{Conversation}
 use Rattle.vf_cli.specs.declared.conversation.Stream.{Stream}
 use Rattle.vf_cli.specs.declared.conversation.Stream.TheVariants as stream
-use Rattle.vf_cli.specs.declared.message.Prefix.{Prefix}
-use Rattle.vf_cli.specs.declared.message.Prefix.TheVariants as prefix
+use Rattle.vf_cli.specs.declared.conversation.First.{First}
 use Rattle.vf_cli.specs.Dialogue.{dialogue, dialogue_from, received, is_abort, link, reply, said_to}
 use Rattle.vf_cli.specs.declared.lines.NextLine.{NextLine}
 use Rattle.vf_cli.specs.Lines.{Input, input_limit}
@@ -31,26 +29,22 @@ use Rattle.vf_cli.specs.declared.dialogue.Interruption.{Interruption}
 use Rattle.vf_cli.specs.Ftam.{EndsDialogue}
 use Rattle.vf_cli.specs.Printed.{Printed, Wrote, WrotePrefix}
 
--- what octets of this reading begin with
-abbrev pub IsPrefix : Reading → Result Prefix NoMemory → Type 0
-IsPrefix reading (Ok prefix.Nothing) = reading ≡ Short
-IsPrefix Short (Ok (prefix.Fault place)) = ⊥
-IsPrefix (Bad at) (Ok (prefix.Fault place)) = place ≡ at
-IsPrefix (Deep at) (Ok (prefix.Fault place)) = place ≡ at
-IsPrefix (Long at) (Ok (prefix.Fault place)) = place ≡ at
-IsPrefix (Read tree n) (Ok (prefix.Fault place)) = (fault : Fault) × (message_in tree ≡ Err fault) × (place ≡ place_of fault)
-IsPrefix (Read tree n) (Ok (prefix.Heard message length)) = (message_in tree ≡ Ok message) × (n ≡ length)
-IsPrefix reading (Ok (prefix.Heard message length)) = ⊥
-IsPrefix reading (Err error) = Unit {0}
+-- where a value that was read so has its fault
+abbrev pub IsFaultIn : Result Message Fault → ℕ → Type 0
+IsFaultIn read place = (fault : Fault) × (read ≡ Err fault) × (place ≡ place_of fault)
 
--- what a first value means
-abbrev pub MeansPrefix : Tree → ℕ → Result Prefix NoMemory → Type 0
-MeansPrefix tree n result = IsPrefix (Read tree n) result
+-- where octets of this reading have theirs
+abbrev pub IsFault : Reading → ℕ → Type 0
+IsFault Short place = ⊥
+IsFault (Bad at) place = place ≡ at
+IsFault (Deep at) place = place ≡ at
+IsFault (Long at) place = place ≡ at
+IsFault (Read tree n) place = IsFaultIn (message_in tree) place
 
--- a first message is some of the octets
-abbrev pub Advances : List ℕ → Result Prefix NoMemory → Type 0
-Advances octets (Ok (prefix.Heard message length)) = (0 < length) × (length ≤ length_of octets)
-Advances octets _ = Unit {0}
+-- octets of this reading begin with no value: they are a proper prefix of one, or have a fault
+abbrev pub IsUnread : Reading → Option ℕ → Type 0
+IsUnread reading None = reading ≡ Short
+IsUnread reading (Some place) = IsFault reading place
 
 -- A party that goes on, with these tables, stands for the one party of the state.
 abbrev pub Holds : Party → Tables → State → Type 0
@@ -138,6 +132,17 @@ Took state octets replies party tables after.Aborted rest = Aborts state octets 
 abbrev pub Appends : State → List ℕ → List ℕ → List ℕ → Party → Tables → After → List ℕ → Type 0
 Appends state octets old new party tables ended rest =
     (replies : List ℕ) × (new ≡ old ++ replies) × Took state octets replies party tables ended rest
+
+-- The first octets were taken, or are the begin of a message, and all is as it was.
+abbrev pub TakesFirst : State → List ℕ → List ℕ → List ℕ → Party → Tables → Party → Tables → Option First → Type 0
+TakesFirst state octets old new old_party old_tables party tables None =
+    (reading octets ≡ Short) × (new ≡ old) × (party ≡ old_party) × (tables ≡ old_tables)
+TakesFirst state octets old new old_party old_tables party tables (Some first) =
+    Appends state octets old new party tables first.after (drop first.length octets)
+
+-- these octets are there, and more than none where the party goes on
+abbrev pub Advances : List ℕ → First → Type 0
+Advances octets first = (first.length ≤ length_of octets) × (first.after ≡ after.Goes → 0 < first.length)
 
 -- a piece joins the octets that weren't taken, and nothing is said
 abbrev pub Adds : State → Conversation → List ℕ → Conversation → Type 0

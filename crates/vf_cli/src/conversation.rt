@@ -1,8 +1,9 @@
 //! A conversation with one party.
-ghost use Rattle.std.specs.Prelude.{◌≡◌, ◌++◌, ◌+◌, ◌<◌, ◌≤◌, [], drop, false, true, IfOk, OnOk, Some, length, List, vec_len, ℕ};
+ghost use Rattle.std.specs.Prelude.{◌≡◌, ◌++◌, ◌+◌, ◌<◌, ◌≤◌, [], drop, false, true, if◌then◌else◌, IfOk, IfSome, OnOk, Some, length, List, ℕ};
 ghost use Rattle.std.specs.List.{AllByRecursion, flat_map, list_any};
 ghost use Rattle.vf_ber.specs.Reader.{reading};
-ghost use Rattle.vf_ber.specs.Reading.{Short};
+ghost use Rattle.vf_ber.specs.Reading.{Read, Short};
+ghost use Rattle.vf_ber.specs.Views.{tree_of};
 ghost use Rattle.vf_regime.specs.Represents.{Represents, with_tables};
 ghost use Rattle.vf_regime.specs.Sayable.{CanServe, IsSayable};
 ghost use Rattle.vf_regime.specs.State.{State, StandingParty};
@@ -10,14 +11,16 @@ ghost use Rattle.vf_regime.specs.Transition.{transition};
 ghost use Rattle.vf_ber_scan.specs.Scanned.{HasTaken};
 ghost use Rattle.vf_files.specs.Files.{after_changes};
 ghost use Rattle.vf_files.specs.declared.tables.Tables.{Tables};
-ghost use Rattle.vf_cli.specs.Conversation.{Adds, Appends, Holds, IsRest, IsTaking, Makes, Stands, TakesReady, is_ready as ready_test, octets_in, size_of};
+ghost use Rattle.vf_cli.specs.declared.conversation.After.TheVariants as ends;
+ghost use Rattle.vf_cli.specs.Conversation.{Adds, Advances, Appends, Holds, IsRest, IsTaking, Makes, Stands, TakesFirst, TakesReady, is_ready as ready_test, octets_in, size_of};
 ghost use Rattle.vf_cli.specs.Dialogue.{is_abort as abort_test, opened, outside, reply};
 
-use crate::message::{Prefix, append_reply, prefix_of};
+use crate::message::{append_reply, fault_in_octets, fault_in_value};
 use crate::printed::Replies;
 use std::alloc::Global;
 use std::mem;
 use vf_base::{Moment, NoMemory, Octets};
+use vf_ber::Value;
 use vf_ber_scan::Scan;
 use vf_elements::{Message, Said, Stage};
 use vf_regime::{Changes, Outcome, Party, Tables};
@@ -98,16 +101,16 @@ impl Conversation {
     {
         match mem::replace(&mut self.stream, Stream::Gone) {
             Stream::Ready { octets } => {
-                let Taken { after, used, more } = take_messages(
+                let Taken { after, rest, more } = take_messages(
                     alloc,
                     &mut self.party,
                     &mut self.tables,
-                    &octets,
+                    octets,
                     replies,
                 )?;
                 match after {
                     After::Goes => {
-                        self.stream = rest_after(alloc, &octets, used, more, &mut self.scan)?;
+                        self.stream = rest_after(alloc, rest, more, &mut self.scan)?;
                         Ok(false)
                     }
                     After::Gone => Ok(false),
@@ -161,30 +164,25 @@ fn octets_of_piece(alloc: Global, piece: &mut Vec<u8>) -> Result<Octets, NoMemor
     Ok(octets)
 }
 
-/// A stream of whose octets so many were taken; `more` says that there may be messages among the others.
+/// The stream of the octets that are left; `more` says that there may be messages among them.
 fn rest_after(
     alloc: Global,
-    octets: &Octets,
-    used: usize,
+    rest: Octets,
     more: bool,
     scan: &mut Scan,
 ) -> Result<Stream, NoMemory>
-    requires within { used ≤ length octets.now }
-    requires some { more ≡ true → 0 < used }
-    requires short { more ≡ false → reading (drop used octets.now) ≡ Short }
-    ensures octets { IfOk result (λ stream. octets_in stream ≡ drop used octets.now) }
-    ensures size { IfOk result (λ stream. size_of stream ≤ length octets.now) }
+    requires { more ≡ false → reading rest ≡ Short }
+    ensures octets { IfOk result (λ stream. octets_in stream ≡ rest) }
+    ensures size { IfOk result (λ stream. size_of stream ≡ (if more then length rest + 1 else length rest)) }
     ensures takes { IfOk result (λ stream. IsTaking stream scan.new) }
 {
     if more {
-        let octets = rest_of(octets, used)?;
-        return Ok(Stream::Ready { octets });
+        return Ok(Stream::Ready { octets: rest });
     }
     let mut pending = Vec::new(alloc);
-    let (_, rest) = octets.as_slice().split_at(used);
-    pending.extend_from_slice(rest)?;
+    pending.extend_from_slice(rest.as_slice())?;
     scan.clear();
-    let _ = scan.feed(rest);
+    let _ = scan.feed(rest.as_slice());
     Ok(Stream::Waiting { pending })
 }
 
@@ -209,13 +207,21 @@ pub(crate) enum After {
 }
 
 /// What came of messages.
-#[derive(Clone, Copy)]
+#[derive(Drop)]
 pub(crate) struct Taken {
     pub(crate) after: After,
-    /// The octets of the messages.
-    pub(crate) used: usize,
-    /// The octets after these may have messages too.
+    /// The octets that are left.
+    pub(crate) rest: Octets,
+    /// There may be messages among them.
     pub(crate) more: bool,
+}
+
+/// What came of the first octets.
+#[derive(Clone, Copy)]
+pub(crate) struct First {
+    pub(crate) after: After,
+    /// How many these are.
+    pub(crate) length: usize,
 }
 
 /// The number of the one link.
@@ -230,65 +236,99 @@ pub(crate) fn take_messages(
     alloc: Global,
     party: &mut Party,
     tables: &mut Tables,
-    octets: &Octets,
+    octets: Octets,
     replies: &mut Replies,
 ) -> Result<Taken, NoMemory>
     requires { (state : State) × Holds party.old tables.old state }
-    ensures within { IfOk result (λ taken. taken.used ≤ length octets.now) }
-    ensures some { IfOk result (λ taken. taken.more ≡ true → 0 < taken.used) }
-    ensures rest { IfOk result (λ taken. IsRest taken.after taken.more (drop taken.used octets.now)) }
+    ensures less { IfOk result (λ taken. (length taken.rest ≤ length octets) × (taken.more ≡ true → length taken.rest < length octets)) }
+    ensures rest { IfOk result (λ taken. IsRest taken.after taken.more taken.rest) }
     ensures took { IfOk result (λ taken. (state : State) → Holds party.old tables.old state
-        → Appends state octets.now replies.old.lines.items replies.new.lines.items party.new tables.new taken.after (drop taken.used octets.now)) }
+        → Appends state octets replies.old.lines.items replies.new.lines.items party.new tables.new taken.after taken.rest) }
 {
-    let end = octets.len();
-    let mut at = 0;
+    let mut rest = octets;
     loop {
-        if at == end {
+        let Some(First { after, length }) = take_first(alloc, party, tables, &rest, replies)?
+        else {
             return Ok(Taken {
                 after: After::Goes,
-                used: at,
+                rest,
                 more: false,
             });
-        }
-        let rest = rest_of(octets, at)?;
-        match prefix_of(alloc, &rest)? {
-            Prefix::Nothing => {
-                return Ok(Taken {
-                    after: After::Goes,
-                    used: at,
-                    more: false,
-                });
-            }
-            Prefix::Fault { place } => {
-                append_abort(alloc, place, replies)?;
-                return Ok(Taken {
-                    after: After::Aborted,
-                    used: at,
-                    more: false,
-                });
-            }
-            Prefix::Heard { message, length } => {
-                at += length;
-                match take_message(alloc, party, tables, message, replies)? {
-                    After::Goes => {
-                        let len = replies.lines.len();
-                        if len >= MOST_REPLIES {
-                            return Ok(Taken {
-                                after: After::Goes,
-                                used: at,
-                                more: true,
-                            });
-                        }
-                    }
-                    ended => {
-                        return Ok(Taken {
-                            after: ended,
-                            used: at,
-                            more: false,
-                        });
-                    }
+        };
+        rest = rest_of(&rest, length)?;
+        match after {
+            After::Goes => {
+                let len = replies.lines.len();
+                if len >= MOST_REPLIES {
+                    return Ok(Taken {
+                        after,
+                        rest,
+                        more: true,
+                    });
                 }
             }
+            ended => {
+                return Ok(Taken {
+                    after: ended,
+                    rest,
+                    more: false,
+                });
+            }
+        }
+    }
+}
+
+/// What the party makes of the message that the octets begin with, or of their fault; `None` where they are a proper prefix
+/// of a message, and nothing changes.
+fn take_first(
+    alloc: Global,
+    party: &mut Party,
+    tables: &mut Tables,
+    octets: &Octets,
+    replies: &mut Replies,
+) -> Result<Option<First>, NoMemory>
+    requires { (state : State) × Holds party.old tables.old state }
+    ensures advances { IfOk result (λ first. IfSome first (Advances octets.now)) }
+    ensures took { IfOk result (λ first. (state : State) → Holds party.old tables.old state
+        → TakesFirst state octets.now replies.old.lines.items replies.new.lines.items party.old tables.old party.new tables.new first) }
+{
+    let (value, length) = match vf_ber::read_shared(alloc, octets) {
+        Ok(read) => read,
+        Err(error) => {
+            let Some(place) = fault_in_octets(&error)? else {
+                return Ok(None);
+            };
+            let first = append_abort(alloc, place, replies)?;
+            return Ok(Some(first));
+        }
+    };
+    let first = take_value(alloc, party, tables, &value, length, replies)?;
+    Ok(Some(first))
+}
+
+/// What the party makes of a value of so many octets.
+fn take_value(
+    alloc: Global,
+    party: &mut Party,
+    tables: &mut Tables,
+    value: &Value,
+    length: usize,
+    replies: &mut Replies,
+) -> Result<First, NoMemory>
+    requires { (state : State) × Holds party.old tables.old state }
+    ensures advances { IfOk result (λ first. (octets : List ℕ) → reading octets ≡ Read (tree_of value.now) length → Advances octets first) }
+    ensures took { IfOk result (λ first. (octets : List ℕ) (state : State) → reading octets ≡ Read (tree_of value.now) length → Holds party.old tables.old state
+        → Appends state octets replies.old.lines.items replies.new.lines.items party.new tables.new first.after (drop first.length octets)) }
+{
+    match vf_elements::message_of(alloc, value) {
+        Ok(message) => {
+            let after = take_message(alloc, party, tables, message, replies)?;
+            Ok(First { after, length })
+        }
+        Err(error) => {
+            let place = fault_in_value(&error)?;
+            let first = append_abort(alloc, place, replies)?;
+            Ok(first)
         }
     }
 }
@@ -367,13 +407,18 @@ fn is_abort(said: &Said) -> bool
 /// The abort of octets that are no message (profile).
 const OUTSIDE: u16 = 101;
 
-fn append_abort(alloc: Global, place: u32, replies: &mut Replies) -> Result<(), NoMemory>
-    ensures { IfOk result (λ _. replies.new.lines.items ≡ replies.old.lines.items ++ reply (Said.Abort outside place)) }
+/// Appends the abort of octets with a fault at this place, and says that the party was told it.
+fn append_abort(alloc: Global, place: u32, replies: &mut Replies) -> Result<First, NoMemory>
+    ensures { IfOk result (λ first. (first.after ≡ ends.Aborted) × (first.length ≡ 0)
+        × (replies.new.lines.items ≡ replies.old.lines.items ++ reply (Said.Abort outside place))) }
 {
     let abort = Said::Abort {
         number: OUTSIDE,
         place: u64::from(place),
     };
     append_reply(alloc, &abort, replies)?;
-    Ok(())
+    Ok(First {
+        after: After::Aborted,
+        length: 0,
+    })
 }

@@ -8,17 +8,16 @@ use std::marker::Model;
 use std::mem;
 use vf_base::NoMemory;
 
-/// Puts the line that spells octets into the end of a text, from a place on.
-pub(crate) fn put_hex_line(octets: &[u8], start: usize, text: &mut [u8])
-    requires { start + 2 * length octets.now + 1 ≡ length text.old }
-    ensures { text.new ≡ take start text.old ++ hex_line octets.now }
+/// Appends the line that spells octets to a text that has room for it.
+pub(crate) fn put_hex_line(octets: &[u8], text: &mut Vec<u8>)
+    requires { vec_len text.old + 2 * length octets.now < vec_capacity text.old }
+    ensures { text.new.items ≡ text.old.items ++ hex_line octets.now }
 {
-    for (place, octet) in octets.iter().enumerate() {
-        let at = start + 2 * place;
-        text[at] = digit(*octet / 16);
-        text[at + 1] = digit(*octet % 16);
+    for octet in octets {
+        text.push_reserved(digit(*octet / 16));
+        text.push_reserved(digit(*octet % 16));
     }
-    text[start + 2 * octets.len()] = 10;
+    text.push_reserved(10);
 }
 
 /// The digits of a line as far as it was read, which are kept as the octets that they spell.
@@ -99,7 +98,7 @@ fn take_digits(octets: &mut Vec<u8>, high: Option<u8>, text: &[u8]) -> (usize, O
     let Some(low) = first_half(text) else {
         return (0, Some(high));
     };
-    octets.push(high * 16 + low).unwrap();
+    octets.push_reserved(high * 16 + low);
     let (_, rest) = text.split_at(1);
     let (count, high) = take_pairs(octets, rest);
     (1 + count, high)
@@ -130,7 +129,7 @@ fn append_pairs(octets: &mut Vec<u8>, text: &[u8]) -> usize
         let Some(low) = half(text[2 * place + 1]) else {
             return place;
         };
-        octets.push(high * 16 + low).unwrap();
+        octets.push_reserved(high * 16 + low);
     }
     text.len() / 2
 }

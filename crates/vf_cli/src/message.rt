@@ -1,75 +1,53 @@
-//! The messages that octets begin with, and replies as lines.
-ghost use Rattle.std.specs.Prelude.{◌≡◌, ◌++◌, OnOk};
+//! Where octets have a fault, and replies as lines.
+ghost use Rattle.std.specs.Prelude.{◌≡◌, ◌++◌, Err, IfOk, List, OnOk, Result, ℕ};
 ghost use Rattle.vf_ber.specs.Limits.{IsTooLarge};
 ghost use Rattle.vf_ber.specs.Reader.{reading};
+ghost use Rattle.vf_ber.specs.Results.{IsAnswer};
 ghost use Rattle.vf_ber.specs.Spelling.{spell};
 ghost use Rattle.vf_ber.specs.Views.{tree_of};
-ghost use Rattle.vf_cli.specs.Conversation.{Advances, IsPrefix, MeansPrefix};
+ghost use Rattle.vf_cli.specs.Conversation.{IsFaultIn, IsUnread};
 ghost use Rattle.vf_cli.specs.Dialogue.{reply};
 ghost use Rattle.vf_cli.specs.Lines.{hex_line};
 ghost use Rattle.vf_elements.specs.ElementValue.{IsWritable, value as element_value};
 ghost use Rattle.vf_elements.specs.Sizes.{IsShort};
 ghost use Rattle.vf_pdu.specs.PduMeaning.{IsInRange};
 ghost use Rattle.vf_pdu.specs.PduValue.{value};
+ghost use Rattle.vf_pdu_fields.specs.Fault.{Fault};
+ghost use Rattle.vf_pdu_fields.specs.Results.{Fails};
+ghost use Rattle.vf_elements.specs.declared.message.Message.{Message};
 ghost use Rattle.vf_regime.specs.Sayable.{IsSayable};
 
 use crate::printed::{Replies, append_hex_line};
 use std::alloc::Global;
-use vf_base::{Element, NoMemory, Octets};
+use vf_base::{Element, NoMemory};
 use vf_ber::{BerError, Value, WriteError};
-use vf_elements::{Message, Said};
+use vf_elements::Said;
 use vf_pdu::Pdu;
 use vf_pdu_fields::PduError;
 
-/// What octets begin with.
-#[derive(Drop)]
-pub(crate) enum Prefix {
-    /// A proper prefix of a message.
-    Nothing,
-    /// Octets outside the grammar, with the place of their fault from 0 on.
-    Fault { place: u32 },
-    /// A message of so many octets.
-    Heard { message: Message, length: usize },
+/// Where octets that begin with no value have a fault; `None` where they are a proper prefix of one.
+pub(crate) fn fault_in_octets(error: &BerError) -> Result<Option<u32>, NoMemory>
+    ensures { IfOk result (λ place. (octets : List ℕ) → IsAnswer (Err error.now) octets → IsUnread (reading octets) place) }
+{
+    match error {
+        BerError::Short => Ok(None),
+        BerError::Bad { at } => Ok(Some(*at)),
+        BerError::Deep { at } => Ok(Some(*at)),
+        BerError::Long { at } => Ok(Some(*at)),
+        BerError::NoMemory => Err(NoMemory),
+    }
 }
 
-/// What the octets begin with, which the message shares.
-pub(crate) fn prefix_of(alloc: Global, octets: &Octets) -> Result<Prefix, NoMemory>
-    ensures prefix { IsPrefix (reading octets.now) result }
-    ensures advances { Advances octets.now result }
+/// Where a value that means no message has its fault: the place of a part, or the number of a field (profile).
+pub(crate) fn fault_in_value(error: &PduError) -> Result<u32, NoMemory>
+    ensures { IfOk result (λ place. (read : Result Message Fault) → Fails error.now read → IsFaultIn read place) }
 {
-    let (value, length) = match vf_ber::read_shared(alloc, octets) {
-        Ok(read) => read,
-        Err(BerError::NoMemory) => return Err(NoMemory),
-        Err(BerError::Short) => return Ok(Prefix::Nothing),
-        Err(BerError::Bad { at }) => return Ok(fault(at)),
-        Err(BerError::Deep { at }) => return Ok(fault(at)),
-        Err(BerError::Long { at }) => return Ok(fault(at)),
-    };
-    let prefix = prefix_by(alloc, &value, length)?;
-    Ok(prefix)
-}
-
-fn fault(place: u32) -> Prefix
-    ensures { result ≡ Prefix.Fault place }
-{
-    Prefix::Fault { place }
-}
-
-/// What a first value of so many octets means.
-fn prefix_by(alloc: Global, value: &Value, length: usize) -> Result<Prefix, NoMemory>
-    ensures { MeansPrefix (tree_of value.now) length result }
-{
-    match vf_elements::message_of(alloc, value) {
-        Ok(message) => Ok(Prefix::Heard { message, length }),
-        Err(PduError::Unknown { .. }) => Ok(Prefix::Fault { place: 0 }),
-        Err(PduError::Field { place }) => Ok(Prefix::Fault { place }),
-        Err(PduError::Range { field }) => Ok(Prefix::Fault {
-            place: u32::from(field),
-        }),
-        Err(PduError::Missing { field }) => Ok(Prefix::Fault {
-            place: u32::from(field),
-        }),
-        Err(PduError::NoMemory) => Err(NoMemory),
+    match error {
+        PduError::Unknown { .. } => Ok(0),
+        PduError::Field { place } => Ok(*place),
+        PduError::Range { field } => Ok(u32::from(*field)),
+        PduError::Missing { field } => Ok(u32::from(*field)),
+        PduError::NoMemory => Err(NoMemory),
     }
 }
 

@@ -30,10 +30,8 @@ pub(crate) fn append_hex_line(octets: &[u8], text: &mut Vec<u8>) -> Result<(), N
     ensures ok { OnOk result (text.new.items ≡ text.old.items ++ hex_line octets.now) }
     ensures err { OnErr result (text.new.items ≡ text.old.items) }
 {
-    let start = text.len();
     text.reserve(2 * octets.len() + 1)?;
-    text.resize(start + 2 * octets.len() + 1, 0)?;
-    put_hex_line(octets, start, text.as_mut_slice());
+    put_hex_line(octets, text);
     Ok(())
 }
 

@@ -25,7 +25,7 @@ pub enum StepError {
 pub(crate) fn one_said(alloc: Global, said: Said) -> Result<Vec<Said>, NoMemory>
     ensures { IfOk result (λ list. list.items ≡ said ∷ []) }
 {
-    let mut list = Vec::new(alloc);
-    list.push(said)?;
+    let mut list = Vec::with_capacity(alloc, 1)?;
+    list.push_reserved(said);
     Ok(list)
 }

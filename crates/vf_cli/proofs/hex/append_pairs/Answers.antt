@@ -1,4 +1,4 @@
-use Rattle.std.proofs.Common.{◌≡◌, ◌∙◌, ap, arith, ◌+◌, ◌*◌, ◌<◌, ◌++◌, ◌∷◌, [], List, ℕ, append_assoc}
+use Rattle.std.proofs.Common.{◌∙◌, ap, arith, ◌+◌, ◌*◌, ◌<◌, ◌++◌, ◌∷◌, [], List, ℕ, append_assoc}
 use Rattle.std.proofs.lemmas.List.Elements.{All-append, All-cons, All-nil}
 use Rattle.vf_cli.proofs.HexLemmas.{one_pair}
 use Rattle.vf_cli.proofs.hex.append_pairs.Goals as goal
@@ -11,12 +11,11 @@ loop-place-preserved c =
     let octet = c.in-Some.high * 16 + c.in-Some-half.low in
     let above = high.0 in
     let below = low.0 in
-    let small : octet < 256 = omega arith in
-    let done : c.push.new.self.items ≡ c.loop-place.octets.items ++ octet ∷ [] = rw c.unwrap.ensures at c.push.ensures.items in (
+    let small : octet < 256 = omega arith in (
       omega arith,
       (
         same.0 ++ octet ∷ [],
-        done ∙ ap (λ (xs : List ℕ). xs ++ octet ∷ []) same.1 ∙ append_assoc c.args.octets.now.items same.0 (octet ∷ []),
+        c.push_reserved.ensures.items ∙ ap (λ (xs : List ℕ). xs ++ octet ∷ []) same.1 ∙ append_assoc c.args.octets.now.items same.0 (octet ∷ []),
         one_pair c.args.text.now same.0 c.loop-place.place c.in-Some.high c.in-Some-half.low (omega arith) same.2 high low,
         All-append (λ octet. octet < 256) same.0 (octet ∷ []) same.3 (All-cons (λ octet. octet < 256) octet [] small (All-nil (λ octet. octet < 256))),
       ),

@@ -1,16 +1,16 @@
-use Rattle.std.proofs.Common.{◌≡◌, ◌<◌, ◌+◌, ◌*◌, ℕ, List, ap, arith, length, set, ◌∙◌}
-use Rattle.vf_cli.proofs.HexLineLemmas.{put_last, put_next, put_so_far}
+use Rattle.std.proofs.Common.{◌<◌, ◌++◌, ◌∷◌, [], List, ℕ, ap, arith, length, ◌∙◌}
+use Rattle.vf_cli.proofs.HexLineLemmas.{put_next}
 use Rattle.vf_cli.proofs.hex.put_hex_line.Goals as goal
 
-pub loop-place-preserved : goal.loop-place-preserved
-loop-place-preserved c =
-    let below : c.loop-place.place < length c.args.octets.now = omega arith in
-    let next = put_next c.args.octets.now c.args.start c.args.text.now c.requires c.loop-place.place below in
-    cc (c.digit.ensures, c.digit-in-loop-place.ensures, c.loop-place.invariant)
-
-pub returns : goal.returns
-returns c =
+pub loop-octet-preserved : goal.loop-octet-preserved
+loop-octet-preserved c =
     let octets = c.args.octets.now in
-    let all : c.loop-place.place ≡ length octets = omega arith in
-    ap (λ (l : List ℕ). set l (c.args.start + 2 * length octets) 10) (c.loop-place.invariant ∙ ap (λ (n : ℕ). put_so_far octets c.args.start c.args.text.now n) all)
-    ∙ put_last octets c.args.start c.args.text.now c.requires
+    let text : List ℕ = c.loop-octet.text.items in
+    let below : c.loop-octet.octet-index < length octets = omega arith in
+    let room = c.loop-octet.invariant.1 in (
+      c.push_reserved-in-loop-octet.ensures.items
+      ∙ ap (λ l. l ++ c.digit-in-loop-octet.result ∷ []) c.push_reserved.ensures.items
+      ∙ (λ i. (text ++ c.digit.ensures i ∷ []) ++ c.digit-in-loop-octet.ensures i ∷ [])
+      ∙ put_next octets c.args.text.now.items text c.loop-octet.octet-index below c.loop-octet.invariant.0,
+      omega (arith, room, below, c.push_reserved.ensures.len, c.push_reserved-in-loop-octet.ensures.len, c.push_reserved.ensures.capacity, c.push_reserved-in-loop-octet.ensures.capacity),
+    )

@@ -1,6 +1,8 @@
-use Rattle.std.proofs.Common.{◌≡◌}
-use Rattle.vf_cli.proofs.HexLineLemmas.{put_so_far}
+use Rattle.std.proofs.Common.{◌≡◌, ◌+◌, ◌-◌, ◌*◌, ◌<◌, ◌++◌, length, take, vec_len, vec_capacity}
+use Rattle.vf_cli.specs.Hex.{hex_of}
 use Rattle.vf_cli.proofs.hex.put_hex_line.Given as goal
 
-abbrev pub invariant-loop-place : goal.invariant-loop-place
-invariant-loop-place l = l.text ≡ put_so_far l.octets l.start l.initial.text l.place
+abbrev pub invariant-loop-octet : goal.invariant-loop-octet
+invariant-loop-octet l =
+    (l.text.items ≡ l.initial.text.items ++ hex_of (take l.octet-index l.octets))
+    × (vec_len l.text + 2 * (length l.octets - l.octet-index) < vec_capacity l.text)

@@ -1,4 +1,4 @@
-use Rattle.std.proofs.Common.{◌≡◌, ℕ, List, Option, None, Some, [], ◌∷◌, ◌*◌, ◌+◌, ◌<◌, ◌++◌, drop, sym, subst, ◌∙◌}
+use Rattle.std.proofs.Common.{ℕ, List, Option, None, Some, ◌+◌, ◌<◌, drop, sym, subst, ◌∙◌}
 use Rattle.std.specs.Prelude.{IfSome}
 use Rattle.vf_cli.specs.Hex.{TakesOctets}
 use Rattle.vf_cli.proofs.HexLemmas.{none_taken, one_taken}
@@ -25,8 +25,7 @@ returns c =
     let last = c.take_pairs-count.result.1 in
     let count = c.take_pairs-count.result.0 in
     let small : high < 16 = subst (λ (h : Option ℕ). IfSome h (λ half. half < 16)) c.in-Some.is c.requires.small in
-    let pushed : c.push.new.self.items ≡ old ++ (high * 16 + low) ∷ [] = rw c.unwrap.ensures at c.push.ensures.items in
-    let later = subst (λ (l : List ℕ). TakesOctets l None new last (drop 1 c.args.text.now) count) pushed
-    (subst (λ (l : List ℕ). TakesOctets c.push.new.self.items None new last l count) c.split_at.ensures.back c.take_pairs-count.ensures) in
+    let later = subst (λ (l : List ℕ). TakesOctets l None new last (drop 1 c.args.text.now) count) c.push_reserved.ensures.items
+    (subst (λ (l : List ℕ). TakesOctets c.push_reserved.new.self.items None new last l count) c.split_at.ensures.back c.take_pairs-count.ensures) in
     subst (λ (h : Option ℕ). TakesOctets old h new last c.args.text.now (1 + count)) (sym c.in-Some.is)
     (one_taken old new c.args.text.now high low last count small (sym c.first_half.ensures.value ∙ c.in-Some-first_half.is) c.in-Some-first_half.ensures.digit later)
