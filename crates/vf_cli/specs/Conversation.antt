@@ -63,6 +63,11 @@ is_ready stream.Gone = false
 is_ready (stream.Waiting pending) = false
 is_ready (stream.Ready octets) = true
 
+-- the octets that are left, where there are any
+abbrev pub left_in : Option (List ℕ) → List ℕ
+left_in None = []
+left_in (Some octets) = octets
+
 -- how much is left to be taken of a stream
 abbrev pub size_of : Stream → ℕ
 size_of stream.Gone = 0

@@ -12,7 +12,7 @@ ghost use Rattle.vf_ber_scan.specs.Scanned.{HasTaken};
 ghost use Rattle.vf_files.specs.Files.{after_changes};
 ghost use Rattle.vf_files.specs.declared.tables.Tables.{Tables};
 ghost use Rattle.vf_cli.specs.declared.conversation.After.TheVariants as ends;
-ghost use Rattle.vf_cli.specs.Conversation.{Adds, Advances, Appends, Holds, IsRest, IsTaking, Makes, Stands, TakesFirst, TakesReady, is_ready as ready_test, octets_in, size_of};
+ghost use Rattle.vf_cli.specs.Conversation.{Adds, Advances, Appends, Holds, IsRest, IsTaking, Makes, Stands, TakesFirst, TakesReady, is_ready as ready_test, left_in, octets_in, size_of};
 ghost use Rattle.vf_cli.specs.Dialogue.{is_abort as abort_test, opened, outside, reply};
 
 use crate::message::{append_reply, fault_in_octets, fault_in_value};
@@ -167,22 +167,25 @@ fn octets_of_piece(alloc: Global, piece: &mut Vec<u8>) -> Result<Octets, NoMemor
 /// The stream of the octets that are left; `more` says that there may be messages among them.
 fn rest_after(
     alloc: Global,
-    rest: Octets,
+    rest: Option<Octets>,
     more: bool,
     scan: &mut Scan,
 ) -> Result<Stream, NoMemory>
-    requires { more ≡ false → reading rest ≡ Short }
-    ensures octets { IfOk result (λ stream. octets_in stream ≡ rest) }
-    ensures size { IfOk result (λ stream. size_of stream ≡ (if more then length rest + 1 else length rest)) }
+    requires { more ≡ false → reading (left_in rest) ≡ Short }
+    ensures octets { IfOk result (λ stream. octets_in stream ≡ left_in rest) }
+    ensures size { IfOk result (λ stream. size_of stream ≤ (if more then length (left_in rest) + 1 else length (left_in rest))) }
     ensures takes { IfOk result (λ stream. IsTaking stream scan.new) }
 {
-    if more {
-        return Ok(Stream::Ready { octets: rest });
-    }
     let mut pending = Vec::new(alloc);
-    pending.extend_from_slice(rest.as_slice())?;
     scan.clear();
-    let _ = scan.feed(rest.as_slice());
+    let Some(octets) = rest else {
+        return Ok(Stream::Waiting { pending });
+    };
+    if more {
+        return Ok(Stream::Ready { octets });
+    }
+    pending.extend_from_slice(octets.as_slice())?;
+    let _ = scan.feed(octets.as_slice());
     Ok(Stream::Waiting { pending })
 }
 
@@ -210,8 +213,8 @@ pub(crate) enum After {
 #[derive(Drop)]
 pub(crate) struct Taken {
     pub(crate) after: After,
-    /// The octets that are left.
-    pub(crate) rest: Octets,
+    /// The octets that are left, where there are any.
+    pub(crate) rest: Option<Octets>,
     /// There may be messages among them.
     pub(crate) more: bool,
 }
@@ -240,21 +243,27 @@ pub(crate) fn take_messages(
     replies: &mut Replies,
 ) -> Result<Taken, NoMemory>
     requires { (state : State) × Holds party.old tables.old state }
-    ensures less { IfOk result (λ taken. (length taken.rest ≤ length octets) × (taken.more ≡ true → length taken.rest < length octets)) }
-    ensures rest { IfOk result (λ taken. IsRest taken.after taken.more taken.rest) }
+    ensures less { IfOk result (λ taken. (length (left_in taken.rest) ≤ length octets) × (taken.more ≡ true → length (left_in taken.rest) < length octets)) }
+    ensures rest { IfOk result (λ taken. IsRest taken.after taken.more (left_in taken.rest)) }
     ensures took { IfOk result (λ taken. (state : State) → Holds party.old tables.old state
-        → Appends state octets replies.old.lines.items replies.new.lines.items party.new tables.new taken.after taken.rest) }
+        → Appends state octets replies.old.lines.items replies.new.lines.items party.new tables.new taken.after (left_in taken.rest)) }
 {
     let mut rest = octets;
     loop {
-        let Some(First { after, length }) = take_first(alloc, party, tables, &rest, replies)?
-        else {
+        let Some(First { after, length }) = take_first(alloc, party, tables, &rest, replies)? else {
             return Ok(Taken {
                 after: After::Goes,
-                rest,
+                rest: Some(rest),
                 more: false,
             });
         };
+        if length == rest.len() {
+            return Ok(Taken {
+                after,
+                rest: None,
+                more: false,
+            });
+        }
         rest = rest_of(&rest, length)?;
         match after {
             After::Goes => {
@@ -262,7 +271,7 @@ pub(crate) fn take_messages(
                 if len >= MOST_REPLIES {
                     return Ok(Taken {
                         after,
-                        rest,
+                        rest: Some(rest),
                         more: true,
                     });
                 }
@@ -270,7 +279,7 @@ pub(crate) fn take_messages(
             ended => {
                 return Ok(Taken {
                     after: ended,
-                    rest,
+                    rest: Some(rest),
                     more: false,
                 });
             }

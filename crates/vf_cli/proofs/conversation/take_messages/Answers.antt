@@ -1,4 +1,5 @@
-use Rattle.std.proofs.Common.{◌≡◌, ℕ, List, Option, None, length, length-drop, ap, sym, subst, ◌∙◌, arith, false, refl}
+use Rattle.std.proofs.Common.{◌≡◌, ℕ, List, Option, None, length, length-drop, ap, sym, subst, ◌∙◌, arith, false, refl, [], ◌≤◌}
+use Rattle.std.proofs.lemmas.List.{drop_all}
 use Rattle.vf_files.specs.declared.tables.Tables.{Tables}
 use Rattle.vf_regime.specs.State.{State}
 use Rattle.vf_regime.specs.declared.party.Party.{Party}
@@ -6,6 +7,7 @@ use Rattle.vf_cli.specs.declared.conversation.After.{After}
 use Rattle.vf_cli.specs.declared.conversation.After.TheVariants as after
 use Rattle.vf_cli.specs.declared.conversation.First.{First}
 use Rattle.vf_cli.specs.Conversation.{Appends, Holds, IsRest, TakesFirst}
+use Rattle.vf_cli.proofs.ReadingLemmas.{reading_none}
 use Rattle.vf_cli.proofs.TakenLemmas.{appends_first}
 use Rattle.vf_cli.proofs.conversation.take_messages.Goals as goal
 use Rattle.vf_cli.proofs.conversation.take_messages.Goals.{In_default}
@@ -17,7 +19,7 @@ take_first-requires c =
 
 none_taken : (c : In_default) (first : State) (holds : Holds c.args.party.now c.args.tables.now first)
     → TakesFirst (c.loop-rest.invariant.goes first holds).0 c.loop-rest.rest c.loop-rest.replies.lines.items c.take_first.new.replies.lines.items
-      c.loop-rest.party c.loop-rest.tables c.take_first.new.party c.take_first.new.tables None
+    c.loop-rest.party c.loop-rest.tables c.take_first.new.party c.take_first.new.tables None
 none_taken c first holds =
     let goes = c.loop-rest.invariant.goes first holds in
     subst (λ (o : Option First). TakesFirst goes.0 c.loop-rest.rest c.loop-rest.replies.lines.items c.take_first.new.replies.lines.items
@@ -32,6 +34,24 @@ returns-in_default-clause-took c = λ first holds.
     let none = none_taken c first holds in
     let held = subst (λ (p : Party). Holds p c.take_first.new.tables goes.0) (sym none.2) (subst (λ (t : Tables). Holds c.loop-rest.party t goes.0) (sym none.3) goes.2) in
     (goes.1, none.1 ∙ goes.3, (goes.0, held, goes.4))
+
+-- nothing is left
+none_left : (ended : After) → IsRest ended false []
+none_left after.Goes = reading_none
+none_left after.Gone = tt
+none_left after.Aborted = tt
+
+pub returns-then-length-len-clause-rest : goal.returns-then-length-len-clause-rest
+returns-then-length-len-clause-rest c = none_left c.in-Some.field-0.after
+
+pub returns-then-length-len-clause-took : goal.returns-then-length-len-clause-took
+returns-then-length-len-clause-took c = λ first holds.
+    let goes = c.loop-rest.invariant.goes first holds in
+    let it = c.in-Some.field-0 in
+    let all : length c.loop-rest.rest ≤ it.length = omega (arith, c.if-length-len.true, c.len.ensures) in
+    appends_first first goes.0 c.args.octets c.loop-rest.rest goes.1 c.args.replies.now.lines.items c.loop-rest.replies.lines.items c.take_first.new.replies.lines.items goes.4 goes.3
+    c.take_first.new.party c.take_first.new.tables [] c.loop-rest.party c.loop-rest.tables c.in_ok-after.field-0 it
+    c.in-Some.is (sym (drop_all it.length c.loop-rest.rest all)) (c.in_ok-after.ensures.took goes.0 goes.2)
 
 pub returns-then-len-ge-MOST_REPLIES-clause-took : goal.returns-then-len-ge-MOST_REPLIES-clause-took
 returns-then-len-ge-MOST_REPLIES-clause-took c = λ first holds.

@@ -9,8 +9,8 @@ loop-octet-preserved c =
     let below : c.loop-octet.octet-index < length octets = omega arith in
     let room = c.loop-octet.invariant.1 in (
       c.push_reserved-in-loop-octet.ensures.items
-      ∙ ap (λ l. l ++ c.digit-in-loop-octet.result ∷ []) c.push_reserved.ensures.items
-      ∙ (λ i. (text ++ c.digit.ensures i ∷ []) ++ c.digit-in-loop-octet.ensures i ∷ [])
-      ∙ put_next octets c.args.text.now.items text c.loop-octet.octet-index below c.loop-octet.invariant.0,
+          ∙ ap (λ l. l ++ c.digit-in-loop-octet.result ∷ []) c.push_reserved.ensures.items
+          ∙ (λ i. (text ++ c.digit.ensures i ∷ []) ++ c.digit-in-loop-octet.ensures i ∷ [])
+          ∙ put_next octets c.args.text.now.items text c.loop-octet.octet-index below c.loop-octet.invariant.0,
       omega (arith, room, below, c.push_reserved.ensures.len, c.push_reserved-in-loop-octet.ensures.len, c.push_reserved.ensures.capacity, c.push_reserved-in-loop-octet.ensures.capacity),
     )

@@ -1,5 +1,5 @@
 use Rattle.std.proofs.Common.{arith, ap, sym, subst, ◌∙◌, true, false, refl}
-use Rattle.vf_cli.specs.Conversation.{StandsBy, is_ready, octets_in, size_of}
+use Rattle.vf_cli.specs.Conversation.{StandsBy, is_ready, left_in, octets_in, size_of}
 use Rattle.vf_cli.proofs.StreamLemmas.{not_ready, rest_short, taken_aborted, taken_goes, taken_gone}
 use Rattle.vf_cli.proofs.conversation.Conversation.take.Goals as goal
 
@@ -10,14 +10,14 @@ take_messages-requires c =
 
 pub rest_after-requires : goal.rest_after-requires
 rest_after-requires c =
-    rest_short c.in_ok-after-in-Ready.field-0.after c.in_ok-after-in-Ready.field-0.more c.in_ok-after-in-Ready.field-0.rest c.in-Goes.is
+    rest_short c.in_ok-after-in-Ready.field-0.after c.in_ok-after-in-Ready.field-0.more (left_in c.in_ok-after-in-Ready.field-0.rest) c.in-Goes.is
     c.in_ok-after-in-Ready.ensures.rest
 
 pub returns-in_ok-self-in-Goes-clause-takes : goal.returns-in_ok-self-in-Goes-clause-takes
 returns-in_ok-self-in-Goes-clause-takes c = λ state stands.
     let is = sym c.replace.ensures.value ∙ c.in-Ready.is in
     taken_goes state c.args.self.now.stream c.in-Ready.octets (ap octets_in is) c.args.replies.now.lines.items c.take_messages.new.replies.lines.items c.take_messages.new.party c.take_messages.new.tables
-    c.in_ok-after-in-Ready.field-0.after c.in_ok-after-in-Ready.field-0.rest
+    c.in_ok-after-in-Ready.field-0.after (left_in c.in_ok-after-in-Ready.field-0.rest)
     (c.in_ok-after-in-Ready.ensures.took state (subst (StandsBy c.args.self.now.party c.args.self.now.tables c.args.self.now.scan state) is stands))
     c.rest_after.new.scan _ c.in-Goes.is c.in_ok-self-in-Goes.ensures.octets c.in_ok-self-in-Goes.ensures.takes
 
@@ -25,7 +25,7 @@ pub returns-in-Gone-after-clause-takes : goal.returns-in-Gone-after-clause-takes
 returns-in-Gone-after-clause-takes c = λ state stands.
     let is = sym c.replace.ensures.value ∙ c.in-Ready.is in
     taken_gone state c.args.self.now.stream c.in-Ready.octets (ap octets_in is) c.args.replies.now.lines.items c.take_messages.new.replies.lines.items c.take_messages.new.party c.take_messages.new.tables
-    c.in_ok-after-in-Ready.field-0.after c.in_ok-after-in-Ready.field-0.rest
+    c.in_ok-after-in-Ready.field-0.after (left_in c.in_ok-after-in-Ready.field-0.rest)
     (c.in_ok-after-in-Ready.ensures.took state (subst (StandsBy c.args.self.now.party c.args.self.now.tables c.args.self.now.scan state) is stands))
     c.args.self.now.scan c.replace.new.dest c.in-Gone-after.is c.replace.ensures.after
 
@@ -38,7 +38,7 @@ pub returns-in-Aborted-clause-takes : goal.returns-in-Aborted-clause-takes
 returns-in-Aborted-clause-takes c = λ state stands.
     let is = sym c.replace.ensures.value ∙ c.in-Ready.is in
     taken_aborted state c.args.self.now.stream c.in-Ready.octets (ap octets_in is) c.args.replies.now.lines.items c.take_messages.new.replies.lines.items c.take_messages.new.party c.take_messages.new.tables
-    c.in_ok-after-in-Ready.field-0.after c.in_ok-after-in-Ready.field-0.rest
+    c.in_ok-after-in-Ready.field-0.after (left_in c.in_ok-after-in-Ready.field-0.rest)
     (c.in_ok-after-in-Ready.ensures.took state (subst (StandsBy c.args.self.now.party c.args.self.now.tables c.args.self.now.scan state) is stands))
     c.in-Aborted.is
 
