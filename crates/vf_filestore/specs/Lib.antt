@@ -10,6 +10,7 @@ pub mod Ending
 pub mod Groups
 pub mod History
 pub mod Holders
+pub mod Laws
 pub mod Limits
 pub mod Opening
 pub mod Performed

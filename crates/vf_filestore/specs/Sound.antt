@@ -1,69 +1,159 @@
--- What holds of every state that a run reaches (profile), so that what a store keeps is enough: the opens are numbered in
--- their order, and a read under way whose file wasn't changed since was shown what the file shows at its position.
-use Rattle.std.specs.Prelude.{◌≡◌, ℕ, ◌<◌, Bool, List, [], ◌∷◌, map, Option, None, Some, IsSome, Ok, nat_eq, if◌then◌else◌}
+-- What holds of every state that a run reaches (profile): each message was taken by the stage in which it came, what is
+-- selected is there, what a read was shown is what its file shows, and open regimes are told apart by their numbers.
+use Rattle.std.specs.Prelude.{◌≡◌, ℕ, ◌<◌, ◌≤◌, Bool, true, false, ◌&&◌, List, [], ◌∷◌, ◌++◌, count_by, flat_map, map, Option, None, Some, IfSome, IsSome, Ok, is_some, nat_eq}
 use Rattle.std.specs.List.{AllByRecursion, IsDistinct}
+use Rattle.std.specs.Str.{bytes_eq}
 use Rattle.vf_attr.specs.declared.file.File.{File}
 use Rattle.vf_base.specs.declared.access.Context.{Context}
 use Rattle.vf_base.specs.declared.access.FaduId.{FaduId}
-use Rattle.vf_base.specs.declared.access.FaduId.TheVariants.{Begin, Number}
 use Rattle.vf_base.specs.declared.element.Element.{Element}
+use Rattle.vf_elements.specs.Stages.{takes}
+use Rattle.vf_elements.specs.declared.message.Message.{Message}
+use Rattle.vf_elements.specs.declared.message.Message.TheVariants as messages
+use Rattle.vf_elements.specs.declared.stage.Stage.{Stage}
+use Rattle.vf_elements.specs.declared.stage.Stage.TheVariants as stages
+use Rattle.vf_files.specs.Files.{file_named}
+use Rattle.vf_pdu.specs.declared.pdu.Pdu.{Pdu}
+use Rattle.vf_pdu.specs.declared.pdu.Pdu.TheVariants.{InitializeRequest, RecoverRequest}
 use Rattle.vf_transfer.specs.Transfer.{NamesKnownChecks}
 use Rattle.vf_tree.specs.Contexts.{shown}
-use Rattle.vf_filestore.specs.History.{Given, Showed, History, association, regime, selection}
-use Rattle.vf_filestore.specs.State.{Docket, State, StandingParty, activity_in, is_docket_of, selected_file}
-use Rattle.vf_filestore.specs.Tables.{Tables, all_dockets, number_of_open, tables_of}
-use Rattle.vf_filestore.specs.Transfers.{Movement, Reads, Writes, Transfer, happened, under_way}
+use Rattle.vf_filestore.specs.History.{Association, Given, Showed, History, Regime, Selection, association, guest, regime, selection}
+use Rattle.vf_filestore.specs.Limits.{most_dockets}
+use Rattle.vf_filestore.specs.Stage.{Group, pending, stage_by}
+use Rattle.vf_filestore.specs.State.{Docket, State, StandingParty, activity_in, identity_of}
+use Rattle.vf_filestore.specs.Tables.{Tables, tables_of}
+use Rattle.vf_filestore.specs.Transfers.{Movement, Reads, Writes, Transfer, data_end, happened, under_way, was_shown}
 
--- these numbers rise, and the next one is above them
-abbrev pub AreRising : List ℕ → (next : ℕ) → Type 0
-AreRising [] next = Unit {0}
-AreRising (number ∷ []) next = number < next
-AreRising (number ∷ other ∷ later) next = (number < other) × AreRising (other ∷ later) next
+-- HISTORIES. Whose association it is doesn't matter for the stage within one.
+abbrev pub someone : Association
+someone = record { identity = guest; units = 0; window = 1 }
 
--- the whole file at its begin, else one unit
-abbrev pub identity_at : (position : ℕ) → FaduId
-identity_at position = if nat_eq position 0 then Begin else Number position
+-- the stage of a history within an association
+abbrev pub stage_within : History → Stage
+stage_within history =
+    stage_by (Some someone) (selection history) (regime history) (under_way history) (is_some (data_end history)) (was_shown history)
 
-abbrev pub IsShown : File → Context → (version : ℕ) → List Element → (position : ℕ) → Type 0
-IsShown file context version elements position =
-    file.version ≡ version → shown file.tree 0 (identity_at position) context ≡ Ok (elements, position)
+-- A message was concluded where its stage takes it. An association begins before there is a selection, and a recovery
+-- stands after what its docket retained.
+abbrev pub IsPlacedRequest : History → Pdu → Type 0
+IsPlacedRequest earlier (InitializeRequest units identity password window) = selection earlier ≡ None
+IsPlacedRequest earlier (RecoverRequest activity number point) = Unit {0}
+IsPlacedRequest earlier request = takes (stage_within earlier) (messages.Pdu request) ≡ true
 
-abbrev pub IsShownIn : Option File → Context → Given → Type 0
-IsShownIn (Some file) context (Showed version elements position) = IsShown file context version elements position
-IsShownIn _ context given = Unit {0}
+abbrev pub IsPlaced : History → Message → Type 0
+IsPlaced earlier (messages.Pdu request) = IsPlacedRequest earlier request
+IsPlaced earlier message = takes (stage_within earlier) message ≡ true
 
-abbrev pub IsFaithfulBy : Option File → Movement → Given → Type 0
-IsFaithfulBy file (Reads fadu context) given = IsShownIn file context given
-IsFaithfulBy file (Writes operation fadu) given = Unit {0}
+abbrev pub IsNested : History → Type 0
+IsNested [] = Unit {0}
+IsNested (entry ∷ earlier) = IsPlaced earlier entry.message × IsNested earlier
 
-abbrev pub IsFaithful : Option File → Option Transfer → Type 0
-IsFaithful file None = Unit {0}
-IsFaithful file (Some transfer) = IsFaithfulBy file transfer.movement transfer.given
+-- What a read was shown: the file's version isn't below that of then, and where it is that one, the file shows from
+-- where the read began what it showed then.
+pub record IsShown (file : File) (fadu : FaduId) (context : Context) (version : ℕ) (elements : List Element) (position : ℕ) : Type 0 where
+  pub rising : version ≤ file.version
+  pub same : file.version ≡ version → (from : ℕ) × (shown file.tree from fadu context ≡ Ok (elements, position))
 
--- acknowledgements and restarts are of checks that stood, and what was shown is what is there
-pub record IsSoundIn (state : State) (history : History) : Type 0 where
+abbrev pub IsShownIn : Option File → FaduId → Context → Given → Type 0
+IsShownIn (Some file) fadu context (Showed version elements position) = IsShown file fadu context version elements position
+IsShownIn _ fadu context given = Unit {0}
+
+abbrev pub IsFaithful : Option File → Movement → Given → Type 0
+IsFaithful file (Reads fadu context) given = IsShownIn file fadu context given
+IsFaithful file (Writes operation fadu) given = Unit {0}
+
+-- a transfer under way: acknowledgements and restarts are of checks that stood, and what was shown is what is there
+pub record IsMoving (file : Option File) (history : History) (transfer : Transfer) : Type 0 where
   pub named : NamesKnownChecks 0 (happened history)
-  pub faithful : IsFaithful (selected_file state history) (under_way history)
+  pub faithful : IsFaithful file transfer.movement transfer.given
 
-abbrev pub IsSoundParty : State → StandingParty → Type 0
-IsSoundParty state party = IsSoundIn state party.history
+abbrev pub IsThere : List File → Selection → Type 0
+IsThere files selection = IsSome (file_named selection.file files)
 
--- a docket retains no association; its open has its activity
-pub record IsSoundDocket (state : State) (docket : Docket) : Type 0 where
+abbrev pub file_of : List File → Option Selection → Option File
+file_of files None = None
+file_of files (Some selection) = file_named selection.file files
+
+pub record IsSoundIn (files : List File) (history : History) : Type 0 where
+  pub nested : IsNested history
+  pub there : IfSome (selection history) (IsThere files)
+  pub moving : IfSome (under_way history) (IsMoving (file_of files (selection history)) history)
+
+-- PARTIES. A pending group has items that a group may have.
+abbrev pub IsItem : Pdu → Type 0
+IsItem item = takes stages.Grouping (messages.Pdu item) ≡ true
+
+abbrev pub HasItems : Group → Type 0
+HasItems group = AllByRecursion IsItem group.items
+
+pub record IsSoundParty (files : List File) (party : StandingParty) : Type 0 where
+  pub sound : IsSoundIn files party.history
+  pub grouped : IfSome (pending party.trace) HasItems
+
+-- DOCKETS. A docket retains no association; its open has its activity.
+pub record IsSoundDocket (files : List File) (docket : Docket) : Type 0 where
   pub bare : association docket.history ≡ None
   pub selected : IsSome (selection docket.history)
   pub opened : activity_in (regime docket.history) ≡ Some docket.activity
-  pub sound : IsSoundIn state docket.history
+  pub sound : IsSoundIn files docket.history
 
--- One identity has one docket of an activity.
-abbrev pub is_same_docket : Docket → Docket → Bool
-is_same_docket docket other = is_docket_of docket.identity docket.activity other
+-- OPEN REGIMES, of parties and of dockets: whose, with its activity where it is recoverable, and the number of its open.
+pub record Standing : Type 0 where
+  pub identity : List ℕ
+  pub activity : Option ℕ
+  pub number : ℕ
+
+abbrev pub standing_by : (identity : List ℕ) → Option Regime → List Standing
+standing_by identity None = []
+standing_by identity (Some regime) = record { identity = identity; activity = regime.activity; number = regime.number } ∷ []
+
+abbrev pub standing_of_party : StandingParty → List Standing
+standing_of_party party = standing_by (identity_of party) (regime party.history)
+
+abbrev pub standing_of_docket : Docket → List Standing
+standing_of_docket docket = standing_by docket.identity (regime docket.history)
+
+abbrev pub standing_regimes : State → List Standing
+standing_regimes state = flat_map standing_of_docket state.dockets ++ flat_map standing_of_party state.parties
+
+abbrev pub is_same_number : Standing → Standing → Bool
+is_same_number one other = nat_eq one.number other.number
+
+abbrev pub is_same_activity : Option ℕ → Option ℕ → Bool
+is_same_activity (Some one) (Some other) = nat_eq one other
+is_same_activity (Some one) None = false
+is_same_activity None other = false
+
+-- one identity has one recoverable open of an activity
+abbrev pub is_same_open : Standing → Standing → Bool
+is_same_open one other = bytes_eq one.identity other.identity && is_same_activity one.activity other.activity
+
+abbrev pub is_recoverable : Standing → Bool
+is_recoverable one = is_some one.activity
+
+abbrev pub IsBefore : (next : ℕ) → Standing → Type 0
+IsBefore next one = one.number < next
+
+-- STATES
+abbrev pub link_of : StandingParty → ℕ
+link_of party = party.link
+
+abbrev pub name_of : File → List ℕ
+name_of file = file.name
+
+-- open regimes have numbers of their own, below the next one, and there are few that are recoverable
+pub record AreNumbered (next : ℕ) (regimes : List Standing) : Type 0 where
+  pub before : AllByRecursion (IsBefore next) regimes
+  pub apart : IsDistinct is_same_number regimes
+  pub differing : IsDistinct is_same_open regimes
+  pub few : count_by is_recoverable regimes ≤ most_dockets
 
 pub record IsSound (state : State) : Type 0 where
-  pub numbered : AreRising (map number_of_open (all_dockets state)) state.concluded
-  pub differing : IsDistinct is_same_docket (all_dockets state)
-  pub parties : AllByRecursion (IsSoundParty state) state.parties
-  pub dockets : AllByRecursion (IsSoundDocket state) state.dockets
+  pub linked : IsDistinct nat_eq (map link_of state.parties)
+  pub filed : IsDistinct bytes_eq (map name_of state.files)
+  pub numbered : AreNumbered state.concluded (standing_regimes state)
+  pub parties : AllByRecursion (IsSoundParty state.files) state.parties
+  pub dockets : AllByRecursion (IsSoundDocket state.files) state.dockets
 
 -- An incarnation of the responder begins with what was kept, whatever histories its dockets have, and no party.
 pub record Begins (tables : Tables) (state : State) : Type 0 where

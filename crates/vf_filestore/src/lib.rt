@@ -1,9 +1,14 @@
-//! The definitions of the whole filestore (ISO 8571-2 to -4; profile), which stand in `specs/`, and examples
-//! that they compute.
+//! The definitions of the whole filestore (ISO 8571-2 to -4; profile), which stand in `specs/`, what holds of every run
+//! of it, and examples that the definitions compute.
 #![tactic(auto)]
 
+mod laws;
 mod rows;
 
+pub use laws::{
+    begins_sound, ends_are_sound, ends_keep_tables, runs_are_sound, stops_begin,
+    transitions_are_sound,
+};
 pub use rows::{
     attributes_compute, controls_compute, groups_compute, opens_compute, random_runs_compute,
     reads_compute, recovery_computes, writes_compute,

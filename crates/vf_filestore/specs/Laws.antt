@@ -1,0 +1,56 @@
+-- What holds of every run of the filestore (profile).
+use Rattle.std.specs.Prelude.{◌≡◌, ℕ, List, [], ◌∷◌, map, None}
+use Rattle.std.specs.List.{IsDistinct}
+use Rattle.std.specs.Str.{bytes_eq}
+use Rattle.vf_attr.specs.declared.file.File.{File}
+use Rattle.vf_elements.specs.declared.message.Message.{Message}
+use Rattle.vf_filestore.specs.Aborts.{Setting}
+use Rattle.vf_filestore.specs.Dockets.{broken, dropped, stopped}
+use Rattle.vf_filestore.specs.Runs.{Event, Arrives, after_event, beginning, run}
+use Rattle.vf_filestore.specs.Sound.{Begins, IsSound, name_of}
+use Rattle.vf_filestore.specs.State.{State, User, party_of}
+use Rattle.vf_filestore.specs.Tables.{tables_of}
+use Rattle.vf_filestore.specs.Transition.{fault, transition}
+
+-- a filestore whose files have names of their own
+abbrev pub BeginsSound : Type 0
+BeginsSound = (users : List User) (files : List File) → IsDistinct bytes_eq (map name_of files) → IsSound (beginning users files)
+
+-- whatever message comes on whatever link
+abbrev pub TransitionsAreSound : Type 0
+TransitionsAreSound = (state : State) (link : ℕ) (setting : Setting) (message : Message) → IsSound state → IsSound (transition state link setting message).state
+
+abbrev pub FaultsAreSound : Type 0
+FaultsAreSound = (state : State) (link number place : ℕ) → IsSound state → IsSound (fault state link number place).state
+
+abbrev pub BreaksAreSound : Type 0
+BreaksAreSound = (state : State) (link : ℕ) → IsSound state → IsSound (broken link state)
+
+abbrev pub StopsAreSound : Type 0
+StopsAreSound = (state : State) → IsSound state → IsSound (stopped state)
+
+abbrev pub DropsAreSound : Type 0
+DropsAreSound = (state : State) (identity : List ℕ) (activity : ℕ) → IsSound state → IsSound (dropped identity activity state)
+
+-- a link that arrives is none that stands
+abbrev pub IsNew : Event → State → Type 0
+IsNew (Arrives link) state = party_of link state.parties ≡ None
+IsNew _ state = Unit {0}
+
+abbrev pub AreNew : List Event → State → Type 0
+AreNew [] state = Unit {0}
+AreNew (event ∷ events) state = IsNew event state × AreNew events (after_event state event).state
+
+abbrev pub RunsAreSound : Type 0
+RunsAreSound = (events : List Event) (state : State) → AreNew events state → IsSound state → IsSound (run events state).state
+
+-- WHAT IS KEPT. A stop and a break change none of it.
+abbrev pub StopsKeep : Type 0
+StopsKeep = (state : State) → tables_of (stopped state) ≡ tables_of state
+
+abbrev pub BreaksKeep : Type 0
+BreaksKeep = (state : State) (link : ℕ) → IsSound state → tables_of (broken link state) ≡ tables_of state
+
+-- what a stop leaves is a state that an incarnation begins with
+abbrev pub StopsBegin : Type 0
+StopsBegin = (state : State) → IsSound state → Begins (tables_of state) (stopped state)

@@ -1,0 +1,36 @@
+//! Laws of the definitions, each the contract of a function that does nothing.
+ghost use Rattle.vf_filestore.specs.Laws.{BeginsSound, BreaksAreSound, BreaksKeep, DropsAreSound, FaultsAreSound, RunsAreSound, StopsAreSound, StopsBegin, StopsKeep, TransitionsAreSound};
+
+/// A filestore whose files have names of their own begins in a sound state.
+pub fn begins_sound()
+    ensures { BeginsSound }
+{}
+
+/// A transition by any message of any link, and an abort by a fault, leave a sound state sound.
+pub fn transitions_are_sound()
+    ensures messages { TransitionsAreSound }
+    ensures faults { FaultsAreSound }
+{}
+
+/// The end of an association, a stop, and a docket that is dropped leave a sound state sound.
+pub fn ends_are_sound()
+    ensures breaks { BreaksAreSound }
+    ensures stops { StopsAreSound }
+    ensures drops { DropsAreSound }
+{}
+
+/// Every run of links that are new where they arrive leaves a sound state sound.
+pub fn runs_are_sound()
+    ensures { RunsAreSound }
+{}
+
+/// A stop and a break change nothing that a store keeps.
+pub fn ends_keep_tables()
+    ensures stops { StopsKeep }
+    ensures breaks { BreaksKeep }
+{}
+
+/// What a stop leaves is a state that an incarnation begins with, with the same tables.
+pub fn stops_begin()
+    ensures { StopsBegin }
+{}
