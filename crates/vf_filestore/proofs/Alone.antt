@@ -33,7 +33,7 @@ all_in_order P held (other ∷ later) all = by (stands_before other.holder held.
     by true rest all = let parts = rest all.1 in (parts.0, (all.0, parts.1))
     by false rest all = (all.0, all.1)
 
-all_folded : (P : Held → Type 0) (helds ordered : List Held) → AllByRecursion P (fold (λ ordered held. in_order held ordered) ordered helds) → AllByRecursion P ordered × AllByRecursion P helds
+pub all_folded : (P : Held → Type 0) (helds ordered : List Held) → AllByRecursion P (fold (λ ordered held. in_order held ordered) ordered helds) → AllByRecursion P ordered × AllByRecursion P helds
 all_folded P [] ordered all = (all, tt)
 all_folded P (held ∷ helds) ordered all =
     let rest = all_folded P helds (in_order held ordered) all in
@@ -42,7 +42,7 @@ all_folded P (held ∷ helds) ordered all =
 
 -- ---- nobody else
 
-none_mapped : {A B : Type 0} (f : A → B) (one : Option A) → option_map f one ≡ None → one ≡ None
+pub none_mapped : {A B : Type 0} (f : A → B) (one : Option A) → option_map f one ≡ None → one ≡ None
 none_mapped f None is = refl
 none_mapped f (Some x) is = absurd cc
 
@@ -64,7 +64,7 @@ own_holders state link file action alone =
     none_found (λ (held : Held). not (is_same held.holder (Party link))) (holders state file)
     (none_mapped (λ (held : Held). held.holder) (find (λ (held : Held). not (is_same held.holder (Party link))) (holders state file)) first)
 
-other_party : (one link : ℕ) → nat_eq one link ≡ false → not (is_same (Party one) (Party link)) ≡ true
+pub other_party : (one link : ℕ) → nat_eq one link ≡ false → not (is_same (Party one) (Party link)) ≡ true
 other_party one link off = by (nat_lt one link)
   where
     by : (b : Bool) → not (is_eq (cond b Less (cond (nat_eq one link) Equal Greater))) ≡ true

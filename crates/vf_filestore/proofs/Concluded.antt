@@ -15,9 +15,10 @@ use Rattle.vf_filestore.specs.Decision.{Grants, request_decision}
 use Rattle.vf_filestore.specs.Dockets.{broken}
 use Rattle.vf_filestore.specs.Effects.{files_after}
 use Rattle.vf_filestore.specs.History.{Entry, Given, Nothing, History, Selection, selection}
-use Rattle.vf_filestore.specs.Sound.{AreNumbered, HasItems, IsSound, IsSoundDocket, IsSoundIn, IsSoundParty, Standing, link_of, name_of, standing_of_docket, standing_of_party}
+use Rattle.vf_filestore.specs.Sound.{AreNumbered, HasItems, IsSound, IsSoundDocket, IsSoundIn, IsSoundParty, Standing, Use, do_clash, link_of, name_of, standing_of_docket, standing_of_party, use_of_docket, use_of_party}
 use Rattle.vf_filestore.specs.Stage.{pending, regime_stage}
 use Rattle.vf_filestore.specs.State.{Docket, State, StandingParty, identity_of, is_docket_of, name_in, party_of, with_party}
+use Rattle.vf_filestore.proofs.Agreed.{IsAmong, request_agreed, uses_after, uses_around}
 use Rattle.vf_filestore.proofs.Alone.{IsNotOn}
 use Rattle.vf_filestore.proofs.Broken.{broken_sound}
 use Rattle.vf_filestore.proofs.Effected.{Effect, KeepsOthers, effect_of, keeps, kept_all, parts}
@@ -38,6 +39,7 @@ pub record IsGranting (state : State) (party : StandingParty) (setting : Setting
   pub own : IsSoundIn (files_after state party setting.moment given message) (concluding_entry state party setting message given ∷ taken_up state party message)
   pub effect : Effect state party (files_after state party setting.moment given message)
   pub numbered : (before after : List StandingParty) → state.parties ≡ before ++ party ∷ after → AreNumbered (state.concluded + 1) (around_after state party setting message given before after)
+  pub agreed : (before after : List StandingParty) → IsAmong state party before after → IsDistinct do_clash (uses_after state party setting message given before after)
   pub dockets : AllByRecursion (IsSoundDocket state.files) (dockets_after party message state.dockets)
 
 -- the regimes of a state, with those of one party apart
@@ -46,6 +48,13 @@ pub parted : (state : State) (party : StandingParty) (before after : List Standi
 parted state party before after sound is =
     subst (λ (all : List Standing). AreNumbered state.concluded (flat_map standing_of_docket state.dockets ++ all)) (flat_map-append standing_of_party before (party ∷ after))
     (subst (λ (all : List StandingParty). AreNumbered state.concluded (flat_map standing_of_docket state.dockets ++ flat_map standing_of_party all)) is sound.numbered)
+
+-- the uses of files, with those of one party apart
+pub uses_parted : (state : State) (party : StandingParty) (before after : List StandingParty) → IsSound state → IsAmong state party before after
+    → IsDistinct do_clash (uses_around state before after (use_of_party party))
+uses_parted state party before after sound among =
+    subst (λ (all : List Use). IsDistinct do_clash (flat_map use_of_docket state.dockets ++ all)) (flat_map-append use_of_party before (party ∷ after))
+    (subst (λ (all : List StandingParty). IsDistinct do_clash (flat_map use_of_docket state.dockets ++ flat_map use_of_party all)) among.is sound.agreed)
 
 dockets_kept : (files : List File) (party : StandingParty) (request : Pdu) (dockets : List Docket) → AllByRecursion (IsSoundDocket files) dockets
     → AllByRecursion (IsSoundDocket files) (dockets_after party (messages.Pdu request) dockets)
@@ -59,6 +68,7 @@ granting_request state party setting request given sound own is taken asks = rec
   own = own_request state party setting request given is taken asks sound.filed sound.dockets own.sound;
   effect = effect_of state party setting request given is sound.filed;
   numbered = λ before after among. request_numbered state party setting request given before after is taken among own.sound.nested sound.dockets (parted state party before after sound among);
+  agreed = λ before after among. request_agreed state party setting request given before after is taken among sound.dockets sound.parties (uses_parted state party before after sound among);
   dockets = dockets_kept state.files party request state.dockets sound.dockets;
 }
 
@@ -76,6 +86,7 @@ granting_other state party setting (messages.Element element) is sound own taken
           (λ named. named_message state party setting party.history message Nothing (due_later state party setting message Nothing) (due_later_plain state party setting message Nothing) refl asks named) own.sound;
       effect = keeps (kept_all state.files sound.filed);
       numbered = λ before after among. numbered_more state.concluded (state.concluded + 1) (around state before after (standing_of_party party)) (omega arith) (parted state party before after sound among);
+      agreed = λ before after among. uses_parted state party before after sound among;
       dockets = sound.dockets;
     }
 granting_other state party setting messages.Check is sound own taken asks =
@@ -84,6 +95,7 @@ granting_other state party setting messages.Check is sound own taken asks =
           (λ named. named_message state party setting party.history message Nothing (due_later state party setting message Nothing) (due_later_plain state party setting message Nothing) refl asks named) own.sound;
       effect = keeps (kept_all state.files sound.filed);
       numbered = λ before after among. numbered_more state.concluded (state.concluded + 1) (around state before after (standing_of_party party)) (omega arith) (parted state party before after sound among);
+      agreed = λ before after among. uses_parted state party before after sound among;
       dockets = sound.dockets;
     }
 granting_other state party setting (messages.Acknowledge point) is sound own taken asks =
@@ -92,6 +104,7 @@ granting_other state party setting (messages.Acknowledge point) is sound own tak
           (λ named. named_message state party setting party.history message Nothing (due_later state party setting message Nothing) (due_later_plain state party setting message Nothing) refl asks named) own.sound;
       effect = keeps (kept_all state.files sound.filed);
       numbered = λ before after among. numbered_more state.concluded (state.concluded + 1) (around state before after (standing_of_party party)) (omega arith) (parted state party before after sound among);
+      agreed = λ before after among. uses_parted state party before after sound among;
       dockets = sound.dockets;
     }
 granting_other state party setting (messages.Restart point) is sound own taken asks =
@@ -100,6 +113,7 @@ granting_other state party setting (messages.Restart point) is sound own taken a
           (λ named. named_message state party setting party.history message Nothing (due_later state party setting message Nothing) (due_later_plain state party setting message Nothing) refl asks named) own.sound;
       effect = keeps (kept_all state.files sound.filed);
       numbered = λ before after among. numbered_more state.concluded (state.concluded + 1) (around state before after (standing_of_party party)) (omega arith) (parted state party before after sound among);
+      agreed = λ before after among. uses_parted state party before after sound among;
       dockets = sound.dockets;
     }
 granting_other state party setting messages.Break is sound own taken asks =
@@ -108,6 +122,7 @@ granting_other state party setting messages.Break is sound own taken asks =
           (λ named. named_message state party setting party.history message Nothing (due_later state party setting message Nothing) (due_later_plain state party setting message Nothing) refl asks named) own.sound;
       effect = keeps (kept_all state.files sound.filed);
       numbered = λ before after among. numbered_more state.concluded (state.concluded + 1) (around state before after (standing_of_party party)) (omega arith) (parted state party before after sound among);
+      agreed = λ before after among. uses_parted state party before after sound among;
       dockets = sound.dockets;
     }
 
@@ -204,6 +219,9 @@ after_sound state party setting message given trace before after sound is absent
       numbered =
           subst (λ (all : List Standing). AreNumbered (state.concluded + 1) (flat_map standing_of_docket (dockets_after party message state.dockets) ++ all)) (sym (flat_map-append standing_of_party before (next ∷ after)))
           (granting.numbered before after is);
+      agreed =
+          subst (λ (all : List Use). IsDistinct do_clash (flat_map use_of_docket (dockets_after party message state.dockets) ++ all)) (sym (flat_map-append use_of_party before (next ∷ after)))
+          (granting.agreed before after (record { is = is; absent = absent; off = off }));
       parties =
           all_append (IsSoundParty files) before (next ∷ after)
           (goes_where state.files files party.link before absent goes_before (all_left (IsSoundParty state.files) before (party ∷ after) parties))

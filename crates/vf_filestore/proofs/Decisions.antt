@@ -1,6 +1,6 @@
 -- States stay sound with each message that a party takes, whatever comes of it.
 use Rattle.std.proofs.Common.{◌≡◌, ℕ, Bool, true, false, cond, ◌&&◌, not, unwrap_or, List, [], ◌∷◌, ◌++◌, length, map, nat_eq, is_some, Option, None, Some, refl, ap, sym, subst, ◌∙◌}
-use Rattle.std.specs.Prelude.{IfSome, IsSome, flat_map, nat_le}
+use Rattle.std.specs.Prelude.{IfSome, flat_map, nat_le, count_by}
 use Rattle.std.specs.List.{AllByRecursion, IsDistinct}
 use Rattle.std.specs.Option.{option_or}
 use Rattle.std.proofs.lemmas.Bool.{not-false}
@@ -29,16 +29,16 @@ use Rattle.vf_filestore.specs.History.{Selection, guest, position, regime, selec
 use Rattle.vf_filestore.specs.Opening.{erase_rows, locate_rows, open_rows, placed}
 use Rattle.vf_filestore.specs.Recovering.{is_read_in, recover_rows, resumed}
 use Rattle.vf_filestore.specs.Selecting.{change_attrib_rows, create_rows, delete_rows, initialize_rows, read_attrib_rows, rows_on, select_rows}
-use Rattle.vf_filestore.specs.State.{Docket, docket_of, mode_in, selected_file}
+use Rattle.vf_filestore.specs.State.{Docket, docket_of, mode_in, selected_file, is_of_link}
 use Rattle.vf_filestore.specs.Units.{enhanced_management, file_access, limited_management, recovery_unit}
 use Rattle.vf_filestore.specs.Decision.{decided, erase_decision, granted_unless, locate_decision, made_unless, open_decision, opened_by, units_for, unless_without_token, wanted_by}
 use Rattle.vf_filestore.specs.Decision.{Decision, Aborts, Refuses, Grants, Waits, Groups, Ends, Leaves, decision, decision_in, grouped_decision, grouped_request, item_decision, message_decision, request_decision, trial_decision, unless_aborted}
 use Rattle.vf_filestore.specs.Diagnostics.{plain, wrong_regime, wrong_state}
 use Rattle.vf_filestore.specs.Dockets.{broken, docket_by, docket_left_by}
-use Rattle.vf_filestore.specs.Groups.{Trial, Tried, after_item, bad, good, group_answer, groups, is_good, trial, trial_by, trial_step}
+use Rattle.vf_filestore.specs.Groups.{Trial, groups, is_good, trial, trial_by, trial_step, between, said_in_vain, said_of}
 use Rattle.vf_filestore.specs.History.{Given, Nothing, History}
 use Rattle.vf_filestore.specs.Limits.{most_items}
-use Rattle.vf_filestore.specs.Sound.{AreNumbered, HasItems, IsItem, IsSound, IsSoundParty, Standing, link_of, standing_of_docket, standing_of_party}
+use Rattle.vf_filestore.specs.Sound.{AreNumbered, HasItems, IsItem, IsSound, IsSoundParty, Standing, link_of, standing_of_docket, standing_of_party, Use, do_clash, use_of_docket, use_of_party}
 use Rattle.vf_filestore.specs.Stage.{Group, grouping, pending, regime_stage, stage}
 use Rattle.vf_filestore.specs.State.{State, StandingParty, activity_of, identity_of, party_of, units_of, with_party}
 use Rattle.vf_filestore.specs.Transition.{answered, associates, leaves, met, refuses}
@@ -53,7 +53,7 @@ use Rattle.vf_filestore.proofs.Same.{with_parties, with_trace}
 -- ---- the party that is found
 
 pub party_sound : (state : State) (link : ℕ) (party : StandingParty) → IsSound state → party_of link state.parties ≡ Some party → IsSoundParty state.files party
-party_sound state link party sound found = found_all (IsSoundParty state.files) (Rattle.vf_filestore.specs.State.is_of_link link) state.parties party found sound.parties
+party_sound state link party sound found = found_all (IsSoundParty state.files) (is_of_link link) state.parties party found sound.parties
 
 put_again : (link : ℕ) (parties : List StandingParty) (party : StandingParty) → party_of link parties ≡ Some party → parties ≡ with_party party parties
 put_again link parties party found =
@@ -103,14 +103,14 @@ trial_sound link setting (item ∷ items) state are sound =
     by keeps (Some party) is = step_sound (trial link setting items) keeps state link party setting item are.0 sound is (trial_decision state party setting item) refl
 
 groups_sound : (state : State) (party : StandingParty) (setting : Setting) (group : Group) → HasItems group → IsSound state → IsSound (groups state party setting group).state
-groups_sound state party setting group items sound = by (nat_le group.threshold (Rattle.std.specs.Prelude.count_by is_good (trial party.link setting group.items state).tried))
+groups_sound state party setting group items sound = by (nat_le group.threshold (count_by is_good (trial party.link setting group.items state).tried))
   where
     done : IsSound (trial party.link setting group.items state).state
     done = trial_sound party.link setting group.items state items sound
 
     by : (b : Bool) → IsSound (cond {A = Answered} b
-        (record { said = Rattle.vf_filestore.specs.Groups.between (flat_map Rattle.vf_filestore.specs.Groups.said_of (trial party.link setting group.items state).tried); state = (trial party.link setting group.items state).state })
-        (record { said = Rattle.vf_filestore.specs.Groups.between (flat_map Rattle.vf_filestore.specs.Groups.said_in_vain (trial party.link setting group.items state).tried); state = state })).state
+        (record { said = between (flat_map said_of (trial party.link setting group.items state).tried); state = (trial party.link setting group.items state).state })
+        (record { said = between (flat_map said_in_vain (trial party.link setting group.items state).tried); state = state })).state
     by true = done
     by false = sound
 
@@ -155,6 +155,10 @@ heard_sound state link party trace sound found grouped =
       numbered =
           subst (λ (all : List Standing). AreNumbered state.concluded (flat_map standing_of_docket state.dockets ++ all)) (sym (flat_map-append standing_of_party at.before (next ∷ at.after)))
           (parted state party at.before at.after sound at.is);
+      agreed =
+          subst (λ (all : List Use). IsDistinct do_clash (flat_map use_of_docket state.dockets ++ all)) (sym (flat_map-append use_of_party at.before (next ∷ at.after)))
+          (subst (λ (all : List Use). IsDistinct do_clash (flat_map use_of_docket state.dockets ++ all)) (flat_map-append use_of_party at.before (party ∷ at.after))
+          (subst (λ (all : List StandingParty). IsDistinct do_clash (flat_map use_of_docket state.dockets ++ flat_map use_of_party all)) at.is sound.agreed));
       parties = all_append (IsSoundParty state.files) at.before (next ∷ at.after) (all_left (IsSoundParty state.files) at.before (party ∷ at.after) parties)
           (heard, (all_right (IsSoundParty state.files) at.before (party ∷ at.after) parties).1);
       dockets = sound.dockets;

@@ -1,10 +1,10 @@
 -- What a granted request does to the files: each goes on under its name, but for one of which nobody else has a
 -- selection.
 use Rattle.std.proofs.Common.{◌≡◌, ℕ, Bool, true, false, cond, ◌&&◌, not, unwrap_or, List, [], ◌∷◌, map, is_none, Option, None, Some, inl, inr, refl, ap, sym, subst, ◌∙◌, arith, Result, Ok, Err}
-use Rattle.std.specs.Prelude.{IfSome, if◌then◌else◌}
+use Rattle.std.specs.Prelude.{IfSome, nat_eq}
 use Rattle.std.specs.List.{IsDistinct}
-use Rattle.std.specs.Option.{option_map}
 use Rattle.std.specs.Str.{bytes_eq}
+use Rattle.vf_attr.specs.Access.{has}
 use Rattle.vf_attr.specs.Change.{after_change}
 use Rattle.vf_attr.specs.declared.changes.AttributeChange.{AttributeChange}
 use Rattle.vf_attr.specs.declared.file.File.{File}
@@ -21,6 +21,7 @@ use Rattle.vf_files.specs.Files.{file_named}
 use Rattle.vf_files.specs.Rows.{made, unit_row}
 use Rattle.vf_files.specs.declared.creation.NewFile.{NewFile}
 use Rattle.vf_files.proofs.Deltas.{found_name}
+use Rattle.vf_filestore.specs.Opening.{act_of}
 use Rattle.vf_pdu.specs.declared.pdu.Pdu.{Pdu}
 use Rattle.vf_pdu.specs.declared.pdu.Pdu.TheVariants.{CreateRequest, DeleteRequest, ChangeAttribRequest, EraseRequest, TransferEndRequest, CancelRequest}
 use Rattle.vf_pdu_fields.specs.declared.operation.WriteOperation.{WriteOperation}
@@ -30,9 +31,9 @@ use Rattle.vf_tree.specs.FileTree.{DataUnit, FileTree}
 use Rattle.vf_tree.specs.TreeRefusal.{TreeRefusal}
 use Rattle.vf_filestore.specs.Aborts.{Setting}
 use Rattle.vf_filestore.specs.Decision.{Grants, made_unless, request_decision, wanted_by}
-use Rattle.vf_filestore.specs.Diagnostics.{Row, first_row, row, attribute_unsupported, contents_mismatch, name_exists, not_permitted, store_full}
+use Rattle.vf_filestore.specs.Diagnostics.{Row, first_row, row, attribute_unsupported, name_exists, not_permitted, cancelled, plain}
 use Rattle.vf_filestore.specs.Effects.{changed, created, created_where, erased, files_by, in_place, put_where}
-use Rattle.vf_filestore.specs.Ending.{Ending, after_act, after_read, cancel_ending, cancel_in, cancel_of, cancelled_write, ending_in, ending_of, ending_unless, file_after, in_silence, performed_by, read_ending, stamp_of, transfer_ending, unchanged, was_given_up, write_ending, write_of, written, written_in}
+use Rattle.vf_filestore.specs.Ending.{Ending, after_act, cancel_ending, cancel_in, cancel_of, ending_in, ending_of, ending_unless, file_after, in_silence, performed_by, read_ending, stamp_of, transfer_ending, unchanged, was_given_up, write_of, written, written_in, units_or_none}
 use Rattle.vf_filestore.specs.History.{Given, Nothing, position, selection}
 use Rattle.vf_filestore.specs.Holders.{alone_row}
 use Rattle.vf_filestore.specs.Selecting.{Wanted, create_by, create_rows, delete_rows, is_taken, rename_row, typed_rows}
@@ -72,7 +73,7 @@ performed_next found None after outcome next = next
 written_next : (files : List File) (stamp : Stamp) (file : File) (at : ℕ) (operation : WriteOperation) (fadu : FaduId) (made : Result (List DataUnit) DocError)
     → EndsIn (Some file) (written files stamp file at operation fadu made)
 written_next files stamp file at operation fadu made =
-    performed_next (Some file) _ _ _ (file_after_next stamp file (does file.tree at (Rattle.vf_filestore.specs.Opening.act_of operation fadu (Rattle.vf_filestore.specs.Ending.units_or_none made))))
+    performed_next (Some file) _ _ _ (file_after_next stamp file (does file.tree at (act_of operation fadu (units_or_none made))))
 
 typed_next : (files : List File) (stamp : Stamp) (file : File) (at : ℕ) (operation : WriteOperation) (fadu : FaduId) (values : List Element) (doc : Option DocType)
     → EndsIn (Some file) (written_in files stamp file at operation fadu values doc)
@@ -96,7 +97,7 @@ pub transfer_next : (state : State) (party : StandingParty) (moment : ℕ) → E
 transfer_next state party moment = by (under_way party.history)
   where
     written_by : (b : Bool) (operation : WriteOperation) (fadu : FaduId)
-        → EndsIn (selected_file state party.history) (cond b (unchanged (Some (Rattle.vf_filestore.specs.Diagnostics.plain Rattle.vf_filestore.specs.Diagnostics.cancelled)))
+        → EndsIn (selected_file state party.history) (cond b (unchanged (Some (plain cancelled)))
         (write_of state.files (stamp_of party moment) (selected_file state party.history) (position party.history) operation fadu (survivors party.history)))
     written_by true operation fadu = tt
     written_by false operation fadu = write_next state.files (stamp_of party moment) (selected_file state party.history) (position party.history) operation fadu (survivors party.history)
@@ -120,7 +121,7 @@ cancel_next state party moment = by (under_way party.history)
 
     of : (movement : Movement) → EndsIn (selected_file state party.history) (cancel_of state party (stamp_of party moment) movement)
     of (Reads fadu context) = read_next (stamp_of party moment) (selected_file state party.history)
-    of (Writes operation fadu) = written_by (Rattle.std.specs.Prelude.nat_eq (point party.history) 0) operation fadu
+    of (Writes operation fadu) = written_by (nat_eq (point party.history) 0) operation fadu
 
     by : (one : Option Transfer) → EndsIn (selected_file state party.history) (cancel_in state party (stamp_of party moment) one)
     by None = tt
@@ -241,7 +242,7 @@ effect_of state party setting (CreateRequest over name contents permitted terms 
 effect_of state party setting DeleteRequest given is filed =
     let name = name_in party.history in
     let one = unit_row (units_of party) limited_management in
-    let permitted = row (not (Rattle.vf_attr.specs.Access.has (requested_in (selection party.history)) actions.Delete)) not_permitted in
+    let permitted = row (not (has (requested_in (selection party.history)) actions.Delete)) not_permitted in
     let rows = delete_rows state party.link (selection party.history) in
     let passed = rows_passed (one ∷ rows) Nothing given is in
     let last = later_passed permitted (alone_row state party.link name actions.Delete ∷ []) (later_passed one rows passed.passed) in
@@ -250,8 +251,8 @@ effect_of state party setting DeleteRequest given is filed =
 effect_of state party setting (ChangeAttribRequest name permitted terms number) given is filed =
     let old = name_in party.history in
     let one = unit_row (units_of party) enhanced_management in
-    let first = row (not (Rattle.vf_attr.specs.Access.has (requested_in (selection party.history)) actions.ChangeAttribute)) not_permitted in
-    let second = row (not (Rattle.std.specs.Prelude.nat_eq number 0)) attribute_unsupported in
+    let first = row (not (has (requested_in (selection party.history)) actions.ChangeAttribute)) not_permitted in
+    let second = row (not (nat_eq number 0)) attribute_unsupported in
     let third = row (is_taken state old name) name_exists in
     let fourth = rename_row state party.link old name in
     let passed = rows_passed (one ∷ first ∷ second ∷ third ∷ fourth ∷ []) Nothing given is in

@@ -1,18 +1,19 @@
 -- A stop and a break change nothing that a store keeps.
 use Rattle.std.proofs.Common.{◌≡◌, ℕ, ◌≤◌, Bool, true, false, cond, List, [], ◌∷◌, ◌++◌, nat_eq, Option, None, Some, refl, ap, sym, subst, ◌∙◌, arith}
-use Rattle.std.specs.Prelude.{IfSome, IsSome, flat_map, nat_le}
+use Rattle.std.specs.Prelude.{IsSome, flat_map, nat_le, is_some}
 use Rattle.std.specs.List.{AllByRecursion, IsDistinct, fold}
 use Rattle.std.proofs.lemmas.Bool.{eqb-false, le-leb, leb-false, leb-true, lt-leb}
 use Rattle.std.proofs.lemmas.List.{append_assoc, append-nil}
+use Rattle.vf_attr.specs.declared.file.File.{File}
 use Rattle.vf_filestore.specs.Dockets.{broken, docket_by, docket_left_by, dockets_left, retained, stopped}
 use Rattle.vf_filestore.specs.History.{Regime, regime}
 use Rattle.vf_filestore.specs.Laws.{BreaksKeep, StopsBegin, StopsKeep}
-use Rattle.vf_filestore.specs.Sound.{Begins, IsSound, IsSoundParty, Standing, is_same_number, standing_by, standing_of_docket, standing_of_party, standing_regimes}
+use Rattle.vf_filestore.specs.Sound.{IsSound, IsSoundParty, Standing, is_same_number, standing_by, standing_of_docket, standing_of_party, IsNested}
 use Rattle.vf_filestore.specs.State as states
 use Rattle.vf_filestore.specs.State.{State, StandingParty, activity_in, activity_of, identity_of, party_of, without_party}
 use Rattle.vf_filestore.specs.Tables.{all_dockets, in_order, number_in, number_of_open, row_of, tables_of}
 use Rattle.vf_filestore.proofs.Broken.{broken_is, none_kept, stopped_sound}
-use Rattle.vf_filestore.proofs.Lists.{all-from_flat_map, all_both, all_left, all_right, distinct_less, flat_map-append}
+use Rattle.vf_filestore.proofs.Lists.{all_left, all_right, distinct_less, flat_map-append, all_append}
 use Rattle.vf_filestore.proofs.Parties.{located}
 use Rattle.vf_filestore.proofs.Soundness.{retains}
 
@@ -112,11 +113,11 @@ distinct_middle e [] y ys distinct = tt
 distinct_middle e (x ∷ xs) y ys distinct = ((all_right (λ z. e x z ≡ false) xs (y ∷ ys) distinct.0).0, distinct_middle e xs y ys distinct.1)
 
 -- the docket that a party leaves has the number of its open
-left_number : (party : StandingParty) (activity : ℕ) → Rattle.vf_filestore.specs.Sound.IsNested party.history
+left_number : (party : StandingParty) (activity : ℕ) → IsNested party.history
     → number_in (regime (retained party.history)) ≡ number_in (regime party.history)
 left_number party activity nested = ap number_in (retains party.history nested).opens
 
-left_other : (files : List Rattle.vf_attr.specs.declared.file.File.File) (docket : states.Docket) (one : Standing) (party : StandingParty) → one.number ≡ number_of_open docket → IsSoundParty files party
+left_other : (files : List File) (docket : states.Docket) (one : Standing) (party : StandingParty) → one.number ≡ number_of_open docket → IsSoundParty files party
     → AllByRecursion (λ (other : Standing). is_same_number other one ≡ false) (standing_of_party party) → AllByRecursion (IsOtherNumber docket) (docket_left_by party)
 left_other files docket one party is sound off = by (activity_of party) refl
   where
@@ -129,15 +130,15 @@ left_other files docket one party is sound off = by (activity_of party) refl
     by None e = tt
     by (Some activity) e = (
       ap (λ n. nat_eq n (number_of_open docket)) (ap number_in (retains party.history sound.sound.nested).opens)
-          ∙ number (regime party.history) refl (ap Rattle.std.specs.Prelude.is_some e) off,
+          ∙ number (regime party.history) refl (ap is_some e) off,
       tt,
     )
 
-all_left_other : (files : List Rattle.vf_attr.specs.declared.file.File.File) (docket : states.Docket) (one : Standing) (parties : List StandingParty) → one.number ≡ number_of_open docket → AllByRecursion (IsSoundParty files) parties
+all_left_other : (files : List File) (docket : states.Docket) (one : Standing) (parties : List StandingParty) → one.number ≡ number_of_open docket → AllByRecursion (IsSoundParty files) parties
     → AllByRecursion (λ (other : Standing). is_same_number other one ≡ false) (flat_map standing_of_party parties) → AllByRecursion (IsOtherNumber docket) (flat_map docket_left_by parties)
 all_left_other files docket one [] is sound off = tt
 all_left_other files docket one (party ∷ parties) is sound off =
-    Rattle.vf_filestore.proofs.Lists.all_append (IsOtherNumber docket) (docket_left_by party) (flat_map docket_left_by parties)
+    all_append (IsOtherNumber docket) (docket_left_by party) (flat_map docket_left_by parties)
     (left_other files docket one party is sound.0 (all_left (λ (other : Standing). is_same_number other one ≡ false) (standing_of_party party) (flat_map standing_of_party parties) off))
     (all_left_other files docket one parties is sound.1 (all_right (λ (other : Standing). is_same_number other one ≡ false) (standing_of_party party) (flat_map standing_of_party parties) off))
 

@@ -1,6 +1,8 @@
+pub mod Agreed
 pub mod Alike
 pub mod Alone
 pub mod Broken
+pub mod Clashes
 pub mod Concluded
 pub mod Decided
 pub mod Decisions
@@ -8,6 +10,7 @@ pub mod Effected
 pub mod Filed
 pub mod Kept
 pub mod Lists
+pub mod Moving
 pub mod Named
 pub mod Nested
 pub mod Owned

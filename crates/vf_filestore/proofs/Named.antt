@@ -1,24 +1,28 @@
 -- Acknowledgements and restarts stay of checks that stood, with each message that is granted and with what is said.
 use Rattle.std.proofs.Common.{◌≡◌, ℕ, ◌+◌, Bool, true, false, cond, List, [], ◌∷◌, ◌++◌, Option, None, Some, sym, subst, arith, length-append}
-use Rattle.std.specs.Prelude.{nat_le}
+use Rattle.std.specs.Prelude.{nat_le, drop}
 use Rattle.std.specs.List.{AllByRecursion}
 use Rattle.std.proofs.lemmas.Bool.{and_parts, leb-true}
+use Rattle.vf_base.specs.declared.access.Context.{Context}
+use Rattle.vf_base.specs.declared.access.FaduId.{FaduId}
 use Rattle.vf_base.specs.declared.diagnostic.Diagnostic.{Diagnostic}
 use Rattle.vf_base.specs.declared.element.Element.{Element}
 use Rattle.vf_elements.specs.declared.message.Message.{Message}
 use Rattle.vf_elements.specs.declared.message.Message.TheVariants as messages
 use Rattle.vf_elements.specs.declared.message.Said.{Said}
 use Rattle.vf_elements.specs.declared.message.Said.TheVariants as answers
+use Rattle.vf_filestore.specs.Diagnostics.{numbers_spent, plain}
 use Rattle.vf_pdu.specs.declared.pdu.Pdu.{Pdu}
 use Rattle.vf_pdu.specs.declared.pdu.Pdu.TheVariants.{RecoverRequest, ReadRequest, WriteRequest, RestartRequest}
+use Rattle.vf_pdu_fields.specs.declared.operation.WriteOperation.{WriteOperation}
 use Rattle.vf_transfer.specs.Transfer as transfer
 use Rattle.vf_transfer.specs.Transfer.{IsKnown, NamesKnownChecks, standing}
 use Rattle.vf_filestore.specs.Aborts.{Setting, is_known, passes_serials}
-use Rattle.vf_filestore.specs.Due.{Progress, due, due_after, due_in, due_of, due_unless_full, goes_on, is_check_due, is_full, next_serial, offer, offered, with_check, with_element}
+use Rattle.vf_filestore.specs.Due.{Progress, due, due_after, due_in, due_of, due_unless_full, goes_on, is_check_due, is_full, offer, offered, with_check, with_element, check_window, progress_of}
 use Rattle.vf_filestore.specs.History.{Given, Nothing, Made, Refused, Showed, Placed, Resumed, History, association}
 use Rattle.vf_filestore.specs.Replies.{replies}
 use Rattle.vf_filestore.specs.State.{State, StandingParty}
-use Rattle.vf_filestore.specs.Transfers.{Movement, Reads, Writes, Transfer, happened, last_check, start, under_way, was_shown, with_heard, with_said}
+use Rattle.vf_filestore.specs.Transfers.{Movement, Reads, Writes, Transfer, happened, last_check, start, was_shown, with_heard, with_said, resumed}
 
 -- ---- what is said of its own
 
@@ -36,7 +40,7 @@ plain_append (one ∷ first) later a b = (a.0, plain_append first later a.1 b)
 offer_plain : (progress : Progress) → ArePlain (offer progress)
 offer_plain progress = by (passes_serials progress.serial)
   where
-    by : (b : Bool) → ArePlain (cond b (answers.Abort Rattle.vf_filestore.specs.Diagnostics.numbers_spent 0 ∷ []) (answers.Check (progress.check + 1) ∷ []))
+    by : (b : Bool) → ArePlain (cond b (answers.Abort numbers_spent 0 ∷ []) (answers.Check (progress.check + 1) ∷ []))
     by true = (tt, tt)
     by false = (tt, tt)
 
@@ -67,13 +71,13 @@ due_plain window diagnostic (element ∷ later) progress =
 unless_full_plain : (window : Option ℕ) (diagnostic : Option Diagnostic) (progress : Progress) (elements : List Element) → ArePlain (due_unless_full window diagnostic progress elements)
 unless_full_plain window diagnostic progress elements = by (is_full window progress)
   where
-    by : (b : Bool) → ArePlain (cond b [] (due window diagnostic progress (Rattle.std.specs.Prelude.drop progress.elements elements)))
+    by : (b : Bool) → ArePlain (cond b [] (due window diagnostic progress (drop progress.elements elements)))
     by true = tt
-    by false = due_plain window diagnostic (Rattle.std.specs.Prelude.drop progress.elements elements) progress
+    by false = due_plain window diagnostic (drop progress.elements elements) progress
 
 due_of_plain : (given : Given) (window : Option ℕ) (progress : Progress) → ArePlain (due_of given window progress)
 due_of_plain (Showed version elements position) window progress = unless_full_plain window None progress elements
-due_of_plain (Refused version number) window progress = unless_full_plain window (Some (Rattle.vf_filestore.specs.Diagnostics.plain number)) progress []
+due_of_plain (Refused version number) window progress = unless_full_plain window (Some (plain number)) progress []
 due_of_plain Nothing window progress = tt
 due_of_plain Made window progress = tt
 due_of_plain (Placed position) window progress = tt
@@ -83,9 +87,9 @@ due_in_plain : (history : History) (serial : ℕ) (movement : Movement) (given :
 due_in_plain history serial (Writes operation fadu) given = tt
 due_in_plain history serial (Reads fadu context) given = by (was_shown history)
   where
-    by : (b : Bool) → ArePlain (cond b [] (due_of given (Rattle.vf_filestore.specs.Due.check_window (association history)) (Rattle.vf_filestore.specs.Due.progress_of history serial)))
+    by : (b : Bool) → ArePlain (cond b [] (due_of given (check_window (association history)) (progress_of history serial)))
     by true = tt
-    by false = due_of_plain given (Rattle.vf_filestore.specs.Due.check_window (association history)) (Rattle.vf_filestore.specs.Due.progress_of history serial)
+    by false = due_of_plain given (check_window (association history)) (progress_of history serial)
 
 pub due_after_plain : (history : History) (serial : ℕ) (one : Option Transfer) → ArePlain (due_after history serial one)
 due_after_plain history serial None = tt
@@ -128,7 +132,7 @@ check_known : (entries : List transfer.Entry) → IsKnown 0 (transfer.Check ∷ 
 check_known entries = (omega arith, omega (arith, length-append (standing 0 entries).closed ((standing 0 entries).after ∷ [])))
 
 recovered_named : (given : Given) (history : History) → RecoversKnown given history → NamesKnownChecks 0 (happened history)
-    → NamesKnownChecks 0 (Rattle.vf_filestore.specs.Transfers.resumed given (happened history))
+    → NamesKnownChecks 0 (resumed given (happened history))
 recovered_named (Resumed true point) history is named = (is, named)
 recovered_named (Resumed false point) history is named = named
 recovered_named Nothing history is named = named
@@ -162,10 +166,10 @@ named_message state party setting history (messages.Restart point) given later p
 named_message state party setting history messages.Break given later plain same asks named = named_plain later (happened history) plain named
 
 -- a transfer begins with nothing named
-pub named_read : (state : State) (party : StandingParty) (setting : Setting) (fadu : Rattle.vf_base.specs.declared.access.FaduId.FaduId) (context : Rattle.vf_base.specs.declared.access.Context.Context) (given : Given) (earlier : List transfer.Entry) (later : List Said) → ArePlain later
+pub named_read : (state : State) (party : StandingParty) (setting : Setting) (fadu : FaduId) (context : Context) (given : Given) (earlier : List transfer.Entry) (later : List Said) → ArePlain later
     → NamesKnownChecks 0 (with_said (replies state party setting given (messages.Pdu (ReadRequest fadu context)) ++ later) (with_heard (messages.Pdu (ReadRequest fadu context)) given earlier))
 named_read state party setting fadu context given earlier later plain = named_plain later [] plain tt
 
-pub named_write : (state : State) (party : StandingParty) (setting : Setting) (operation : Rattle.vf_pdu_fields.specs.declared.operation.WriteOperation.WriteOperation) (fadu : Rattle.vf_base.specs.declared.access.FaduId.FaduId) (given : Given) (earlier : List transfer.Entry) (later : List Said) → ArePlain later
+pub named_write : (state : State) (party : StandingParty) (setting : Setting) (operation : WriteOperation) (fadu : FaduId) (given : Given) (earlier : List transfer.Entry) (later : List Said) → ArePlain later
     → NamesKnownChecks 0 (with_said (replies state party setting given (messages.Pdu (WriteRequest operation fadu)) ++ later) (with_heard (messages.Pdu (WriteRequest operation fadu)) given earlier))
 named_write state party setting operation fadu given earlier later plain = named_plain later [] plain tt

@@ -2,11 +2,12 @@
 use Rattle.std.proofs.Common.{◌≡◌, true, [], ◌∷◌, is_some, Option, None, Some, refl, ap, sym, ◌∙◌}
 use Rattle.std.specs.Prelude.{IsSome}
 use Rattle.std.specs.Option.{option_map}
+use Rattle.vf_elements.specs.Stages.{takes}
 use Rattle.vf_elements.specs.declared.message.Message.{Message}
 use Rattle.vf_elements.specs.declared.message.Message.TheVariants as messages
 use Rattle.vf_pdu.specs.declared.pdu.Pdu.TheVariants.{DeselectRequest, DeleteRequest, OpenRequest, CloseRequest, ReadRequest, WriteRequest}
 use Rattle.vf_filestore.specs.History.{Entry, History, Regime, Selection, opening, regime, renamed, selecting, selection}
-use Rattle.vf_filestore.specs.Sound.{IsNested, IsPlaced}
+use Rattle.vf_filestore.specs.Sound.{IsNested, IsPlaced, stage_within}
 use Rattle.vf_filestore.specs.Transfers.{Transfer, data_end, transferring, under_way, was_shown}
 use Rattle.vf_filestore.proofs.Views.{View, Place, initializes, selects, creates, changes, deselects, deletes, opens, closes, reads, writes, ends, cancels, others, in_regime_only, in_selection_only, place, view}
 
@@ -30,7 +31,7 @@ pub some_some : {A : Type 0} (one : Option A) (x : A) → one ≡ Some x → IsS
 some_some one x is = ap is_some is
 
 -- a place within an association, where there is no other way
-pub placed : (message : Message) (history : History) → Rattle.vf_elements.specs.Stages.takes (Rattle.vf_filestore.specs.Sound.stage_within history) message ≡ true
+pub placed : (message : Message) (history : History) → takes (stage_within history) message ≡ true
     → Place message (selection history) (regime history) (under_way history)
 placed message history taken = place message (selection history) (regime history) (under_way history) (is_some (data_end history)) (was_shown history) taken
 

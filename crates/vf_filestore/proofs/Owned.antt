@@ -1,8 +1,7 @@
 -- The history of a party stays sound with each request that is granted to it.
 use Rattle.std.proofs.Common.{◌≡◌, ℕ, Bool, true, false, cond, ◌&&◌, not, unwrap_or, List, [], ◌∷◌, ◌++◌, is_some, Option, None, Some, inl, inr, refl, ap, sym, subst, ◌∙◌, arith, Result, Ok, Err}
-use Rattle.std.specs.Prelude.{◌⊎◌, IfSome, IsSome, min}
-use Rattle.std.specs.List.{AllByRecursion, IsDistinct}
-use Rattle.std.specs.Option.{option_map}
+use Rattle.std.specs.Prelude.{◌⊎◌, IfSome, IsSome, min, find}
+use Rattle.std.specs.List.{AllByRecursion}
 use Rattle.std.specs.Str.{bytes_eq}
 use Rattle.vf_attr.specs.Change.{after_change}
 use Rattle.vf_attr.specs.declared.changes.AttributeChange.{AttributeChange}
@@ -25,6 +24,7 @@ use Rattle.vf_files.specs.declared.creation.NewFile.{NewFile}
 use Rattle.vf_files.proofs.Deltas.{found_name}
 use Rattle.vf_pdu.specs.declared.pdu.Pdu.{Pdu}
 use Rattle.vf_pdu.specs.declared.pdu.Pdu.TheVariants.{InitializeRequest, RecoverRequest}
+use Rattle.vf_pdu_fields.proofs.Plain.{some_is}
 use Rattle.vf_transfer.specs.Transfer.{IsKnown, NamesKnownChecks}
 use Rattle.vf_transfer.proofs.Recovered.{point_stands}
 use Rattle.vf_tree.specs.Acts.{shows}
@@ -48,11 +48,11 @@ use Rattle.vf_filestore.specs.Units.{read_unit, recovery_unit}
 use Rattle.vf_filestore.proofs.Alike.{AreAlike}
 use Rattle.vf_filestore.proofs.Decided.{first_passed, later_passed, rows_passed}
 use Rattle.vf_filestore.proofs.Effected.{KeepsAll, not_taken}
-use Rattle.vf_filestore.proofs.Filed.{IsFree, found_here, named_added, same_name}
+use Rattle.vf_filestore.proofs.Filed.{IsFree, found_here, named_added, same_name, Continues}
 use Rattle.vf_filestore.proofs.Named.{ArePlain, RecoversKnown, RequestAsksKnown, due_after_plain}
 use Rattle.vf_filestore.proofs.Nested.{placed}
 use Rattle.vf_filestore.proofs.Soundness.{moving_happens}
-use Rattle.vf_filestore.proofs.Views.{AtAssociation, AtRegime, AtSelection, in_association_only, in_regime_only, in_selection_only}
+use Rattle.vf_filestore.proofs.Views.{in_association_only, Place}
 
 -- ---- the stage of a party
 
@@ -82,7 +82,7 @@ no_initialize : (history : History) (units : ℕ) (identity password : Option (L
 no_initialize history units identity password window taken =
     by (placed (messages.Pdu (InitializeRequest units identity password window)) history taken)
   where
-    by : Rattle.vf_filestore.proofs.Views.Place (messages.Pdu (InitializeRequest units identity password window)) (selection history) (regime history) (under_way history) → selection history ≡ None
+    by : Place (messages.Pdu (InitializeRequest units identity password window)) (selection history) (regime history) (under_way history) → selection history ≡ None
     by at = (in_association_only (messages.Pdu (InitializeRequest units identity password window)) (record { reading = refl; shown = refl; writing = refl; written = refl }) refl refl at).no_selection
 
 idle_request : (history : History) (request : Pdu) → selection history ≡ None → takes stages.Idle (messages.Pdu request) ≡ true → IsPlacedRequest history request
@@ -182,12 +182,12 @@ read_faithful (Some file) units mode at fadu context = by (first_row (unit_row u
 
 -- ---- recoveries
 
-pub found_all : {A : Type 0} (P : A → Type 0) (test : A → Bool) (xs : List A) (x : A) → Rattle.std.specs.Prelude.find test xs ≡ Some x → AllByRecursion P xs → P x
+pub found_all : {A : Type 0} (P : A → Type 0) (test : A → Bool) (xs : List A) (x : A) → find test xs ≡ Some x → AllByRecursion P xs → P x
 found_all P test [] x found all = absurd cc
 found_all {A} P test (first ∷ xs) x found all = by (test first) found (λ found. found_all P test xs x found all.1)
   where
-    by : (b : Bool) → cond b (Some first) (Rattle.std.specs.Prelude.find test xs) ≡ Some x → (Rattle.std.specs.Prelude.find test xs ≡ Some x → P x) → P x
-    by true found rest = subst P (Rattle.vf_pdu_fields.proofs.Plain.some_is first x found) all.0
+    by : (b : Bool) → cond b (Some first) (find test xs) ≡ Some x → (find test xs ≡ Some x → P x) → P x
+    by true found rest = subst P (some_is first x found) all.0
     by false found rest = rest found
 
 token_granted : (setting : Setting) (docket : Option Docket) (one : Decision) (given : Given) → unless_without_token setting docket one ≡ Grants given → one ≡ Grants given
@@ -253,6 +253,6 @@ due_later_plain state party setting message given =
 abbrev pub AsksCheck : Pdu → History → Type 0
 AsksCheck request history = RequestAsksKnown request Nothing history
 
-pub goes_for : (files later : List File) (one : Option Selection) → KeepsAll files later → IfSome one (λ one. Rattle.vf_filestore.proofs.Filed.Continues files later one.file)
+pub goes_for : (files later : List File) (one : Option Selection) → KeepsAll files later → IfSome one (λ one. Continues files later one.file)
 goes_for files later None keeps = tt
 goes_for files later (Some selection) keeps = keeps.goes selection.file

@@ -4,7 +4,6 @@ use Rattle.std.specs.Prelude.{IsSome, count_by, flat_map, nat_le}
 use Rattle.std.specs.List.{AllByRecursion, list_any}
 use Rattle.std.specs.Str.{bytes_eq}
 use Rattle.std.proofs.lemmas.Bool.{and_parts, and_right, leb-false, or_parts}
-use Rattle.std.proofs.lemmas.List.{append_assoc}
 use Rattle.std.proofs.lemmas.List.Sums.{sum_by-append, sum_by-cons}
 use Rattle.vf_attr.specs.declared.file.File.{File}
 use Rattle.vf_base.specs.declared.action.Actions.{Actions}
@@ -15,6 +14,7 @@ use Rattle.vf_elements.specs.declared.message.Message.TheVariants as messages
 use Rattle.vf_files.specs.Rows.{includes, modes, unit_row}
 use Rattle.vf_pdu.specs.declared.pdu.Pdu.{Pdu}
 use Rattle.vf_pdu.specs.declared.pdu.Pdu.TheVariants.{InitializeRequest, OpenRequest, CloseRequest, RecoverRequest}
+use Rattle.vf_pdu_fields.proofs.Plain.{some_is}
 use Rattle.vf_pdu_fields.specs.declared.controls.ContentControls.{ContentControls}
 use Rattle.vf_filestore.specs.Aborts.{Setting}
 use Rattle.vf_filestore.specs.Conclusion.{concluding_entry, dockets_after, history_of, taken_up}
@@ -29,10 +29,11 @@ use Rattle.vf_filestore.specs.Selecting.{rows_on}
 use Rattle.vf_filestore.specs.Sound.{AreNumbered, IsNested, IsSoundDocket, Standing, is_recoverable, is_same_activity, standing_by, standing_of_docket, standing_of_party}
 use Rattle.vf_filestore.specs.Stage.{regime_stage}
 use Rattle.vf_filestore.specs.State.{Docket, State, StandingParty, activity_in, activity_of, docket_of, identity_in, identity_of, is_docket_of, selected_file, units_of, without_docket}
-use Rattle.vf_filestore.proofs.Broken.{dropped_numbered, numbered_gone}
+use Rattle.vf_filestore.proofs.Broken.{numbered_stays, standings}
 use Rattle.vf_filestore.proofs.Decided.{first_passed, later_passed, row_passed, rows_passed}
 use Rattle.vf_filestore.proofs.Filed.{names_flip, same_name}
-use Rattle.vf_filestore.proofs.Lists.{all-flat_map, all_append, all_both, all_left, all_right, all_weaker, flat_map-append, to_front, to_middle}
+use Rattle.vf_filestore.proofs.Lists.{all-flat_map, all_append, all_both, all_left, all_right, all_weaker, flat_map-append, to_middle}
+use Rattle.vf_filestore.proofs.Moving.{gone, recovered}
 use Rattle.vf_filestore.proofs.Nested.{nests, placed}
 use Rattle.vf_filestore.proofs.Owned.{found_all, placed_request, recovers, within_stage}
 use Rattle.vf_filestore.proofs.Parties.{nat_eq_flips}
@@ -243,36 +244,8 @@ found_test test [] x found = absurd cc
 found_test {A} test (first ∷ xs) x found = by (test first) refl found (found_test test xs x)
   where
     by : (b : Bool) → test first ≡ b → cond b (Some first) (find test xs) ≡ Some x → (find test xs ≡ Some x → test x ≡ true) → test x ≡ true
-    by true is found rest = ap test (sym (Rattle.vf_pdu_fields.proofs.Plain.some_is first x found)) ∙ is
+    by true is found rest = ap test (sym (some_is first x found)) ∙ is
     by false is found rest = rest found
-
-recovered_numbered : (next : ℕ) (identity : List ℕ) (activity : ℕ) (dockets : List Docket) (docket : Docket) (pre post : List Standing) → docket_of identity activity dockets ≡ Some docket
-    → AreNumbered next (pre ++ (flat_map standing_of_docket dockets ++ post))
-    → AreNumbered next (standing_of_docket docket ++ (pre ++ (flat_map standing_of_docket (without_docket identity activity dockets) ++ post)))
-recovered_numbered next identity activity [] docket pre post found numbered = absurd cc
-recovered_numbered next identity activity (first ∷ dockets) docket pre post found numbered =
-    by (is_docket_of identity activity first) found (recovered_numbered next identity activity dockets docket (pre ++ standing_of_docket first) post)
-  where
-    parted : (r : List Standing) → pre ++ ((standing_of_docket first ++ r) ++ post) ≡ (pre ++ standing_of_docket first) ++ (r ++ post)
-    parted r = ap (λ (list : List Standing). pre ++ list) (append_assoc (standing_of_docket first) r post) ∙ sym (append_assoc pre (standing_of_docket first) (r ++ post))
-
-    by : (b : Bool) → cond b (Some first) (docket_of identity activity dockets) ≡ Some docket
-        → (docket_of identity activity dockets ≡ Some docket → AreNumbered next ((pre ++ standing_of_docket first) ++ (flat_map standing_of_docket dockets ++ post))
-        → AreNumbered next (standing_of_docket docket ++ ((pre ++ standing_of_docket first) ++ (flat_map standing_of_docket (without_docket identity activity dockets) ++ post))))
-        → AreNumbered next (standing_of_docket docket ++ (pre ++ (flat_map standing_of_docket (cond (not b) (first ∷ without_docket identity activity dockets) (without_docket identity activity dockets)) ++ post)))
-    by true found rest =
-        let own = standing_of_docket first in
-        let all = flat_map standing_of_docket dockets in
-        let left = flat_map standing_of_docket (without_docket identity activity dockets) in
-        let flat : AreNumbered next (pre ++ (own ++ (all ++ post))) = subst (λ (list : List Standing). AreNumbered next (pre ++ list)) (append_assoc own all post) numbered in
-        let fronted : AreNumbered next ((own ++ pre) ++ (all ++ post))
-        = subst (λ (list : List Standing). AreNumbered next list) (sym (append_assoc own pre (all ++ post))) (numbered_permutation next (pre ++ (own ++ (all ++ post))) (own ++ (pre ++ (all ++ post))) (to_front pre [] own (all ++ post)) flat) in
-        let dropped : AreNumbered next (own ++ (pre ++ (left ++ post)))
-        = subst (λ (list : List Standing). AreNumbered next list) (append_assoc own pre (left ++ post)) (dropped_numbered next identity activity dockets (own ++ pre) post fronted) in
-        subst (λ (one : Docket). AreNumbered next (standing_of_docket one ++ (pre ++ (flat_map standing_of_docket (without_docket identity activity dockets) ++ post)))) (Rattle.vf_pdu_fields.proofs.Plain.some_is first docket found) dropped
-    by false found rest =
-        let later = rest found (subst (λ (list : List Standing). AreNumbered next list) (parted (flat_map standing_of_docket dockets)) numbered) in
-        subst (λ (list : List Standing). AreNumbered next (standing_of_docket docket ++ list)) (sym (parted (flat_map standing_of_docket (without_docket identity activity dockets)))) later
 
 -- ---- requests
 
@@ -299,8 +272,8 @@ request_numbered state party setting (InitializeRequest units identity password 
     (subst (λ (one : Option Regime). AreNumbered state.concluded (around state before after (standing_by (identity_of party) one))) none numbered))
   where
     no_regime : (one : Option Regime) → (IsSome one → IsSome (selection party.history)) → selection party.history ≡ None → one ≡ None
-    no_regime None nests none = refl
-    no_regime (Some regime) nests none = let some : is_some (selection party.history) ≡ true = nests refl in let gone = ap is_some none in absurd cc
+    no_regime None within none = refl
+    no_regime (Some opened) within none = let some : is_some (selection party.history) ≡ true = within refl in let gone = ap is_some none in absurd cc
 request_numbered state party setting (OpenRequest mode contents controls activity) given before after is taken among nested dockets numbered =
     let request = OpenRequest mode contents controls activity in
     let there = in_selection_only (messages.Pdu request) (record { reading = refl; shown = refl; writing = refl; written = refl }) refl refl (placed (messages.Pdu request) party.history (placed_request party.history request taken)) in
@@ -309,7 +282,7 @@ request_numbered state party setting (OpenRequest mode contents controls activit
     (subst (λ (one : Option Regime). AreNumbered state.concluded (around state before after (standing_by (identity_of party) one))) there.no_regime numbered)
 request_numbered state party setting CloseRequest given before after is taken among nested dockets numbered =
     numbered_more state.concluded (state.concluded + 1) (around state before after []) (omega arith)
-    (numbered_gone state.concluded (flat_map standing_of_docket state.dockets) (flat_map standing_of_party before) (standing_of_party party) (flat_map standing_of_party after) numbered)
+    (gone (AreNumbered state.concluded) (numbered_stays state.concluded) (flat_map standing_of_docket state.dockets) (flat_map standing_of_party before) (standing_of_party party) (flat_map standing_of_party after) numbered)
 request_numbered state party setting (RecoverRequest activity number point) given before after is taken among nested dockets numbered =
     let message = messages.Pdu (RecoverRequest activity number point) in
     let facts = recovers state party setting number point (docket_of (identity_of party) activity state.dockets) given is in
@@ -330,8 +303,7 @@ request_numbered state party setting (RecoverRequest activity number point) give
     let b = flat_map standing_of_party before in
     let a = flat_map standing_of_party after in
     let alone = subst (λ (one : Option Regime). AreNumbered state.concluded (around state before after (standing_by (identity_of party) one))) there.no_regime numbered in
-    let first = recovered_numbered state.concluded (identity_of party) activity state.dockets facts.found [] (b ++ a) facts.is alone in
-    let moved = numbered_permutation state.concluded (standing_of_docket facts.found ++ (d ++ (b ++ a))) (d ++ (b ++ (standing_of_docket facts.found ++ a))) (to_middle d b (standing_of_docket facts.found) a) first in
+    let moved = recovered (AreNumbered state.concluded) (numbered_stays state.concluded) standings (identity_of party) activity state.dockets facts.found b a facts.is alone in
     numbered_more state.concluded (state.concluded + 1) _ (omega arith)
     (subst (λ (one : List Standing). AreNumbered state.concluded (d ++ (b ++ (one ++ a)))) (sym same) moved)
 request_numbered state party setting request given before after is taken among nested dockets numbered =

@@ -32,7 +32,7 @@ use Rattle.vf_filestore.specs.Transfers.{happened}
 use Rattle.vf_filestore.specs.Units.{enhanced_management, limited_management}
 use Rattle.vf_filestore.proofs.Decided.{first_passed, later_passed, row_passed, rows_passed}
 use Rattle.vf_filestore.proofs.Effected.{KeepsAll, cancel_next, erased_next, put_keeps, transfer_next}
-use Rattle.vf_filestore.proofs.Named.{named_read, named_request, named_write}
+use Rattle.vf_filestore.proofs.Named.{named_read, named_request, named_write, RecoversKnown}
 use Rattle.vf_filestore.proofs.Nested.{placed}
 use Rattle.vf_filestore.proofs.Owned.{AsksCheck, change_there, create_there, due_later, due_later_plain, ended_sound, found_all, goes_for, moving_named, placed_request, read_faithful, recovers, resumed_known, select_there, still_sound, within_stage}
 use Rattle.vf_filestore.proofs.Soundness.{alike_resumed, nested_resumed, sound_alike, sound_continues}
@@ -160,7 +160,7 @@ own_request state party setting (RecoverRequest activity number point) given is 
     let knows = resumed_known facts.found party.history point given facts.resumes alike (moving_named state.files own docket.sound) in
     let same : own ++ party.history ≡ history_of (docket_of (identity_of party) activity state.dockets) ++ party.history = sym (ap (λ (one : Option Docket). history_of one ++ party.history) facts.is) in
     let before : IsSoundIn state.files (history_of (docket_of (identity_of party) activity state.dockets) ++ party.history) = subst (λ (one : History). IsSoundIn state.files one) same resumed_sound in
-    let known_now = subst (λ (one : History). Rattle.vf_filestore.proofs.Named.RecoversKnown given one) same knows in
+    let known_now = subst (λ (one : History). RecoversKnown given one) same knows in
     still_sound state.files (history_of (docket_of (identity_of party) activity state.dockets) ++ party.history) (concluding_entry state party setting message given) refl refl tt
     (λ named. named_request state party setting (history_of (docket_of (identity_of party) activity state.dockets) ++ party.history) (RecoverRequest activity number point) given
     (due_later state party setting message given) (due_later_plain state party setting message given) known_now named) before

@@ -4,15 +4,15 @@ use Rattle.vf_attr.specs.declared.stamp.Stamp.{Stamp}
 use Rattle.vf_elements.specs.declared.message.Message.{Message}
 use Rattle.vf_elements.specs.declared.message.Message.TheVariants as messages
 use Rattle.vf_pdu.specs.declared.pdu.Pdu.{Pdu}
-use Rattle.vf_pdu.specs.declared.pdu.Pdu.TheVariants.{CreateRequest, DeleteRequest, ChangeAttribRequest, EraseRequest, RecoverRequest, TransferEndRequest, CancelRequest}
+use Rattle.vf_pdu.specs.declared.pdu.Pdu.TheVariants.{TransferEndRequest, CancelRequest, TransferEndResponse}
 use Rattle.vf_filestore.specs.Aborts.{Setting}
 use Rattle.vf_filestore.specs.Conclusion.{concluding_entry, taken_up}
 use Rattle.vf_filestore.specs.Due.{with_due}
-use Rattle.vf_filestore.specs.Effects.{files_after, files_by}
+use Rattle.vf_filestore.specs.Effects.{files_after, files_by, put_where}
 use Rattle.vf_filestore.specs.Ending.{Ending, cancel_ending, cancel_in, cancel_of, ending_in, ending_of, ending_unless, in_silence, stamp_of, transfer_ending}
 use Rattle.vf_filestore.specs.History.{Given}
-use Rattle.vf_filestore.specs.Replies.{replies, request_replies}
-use Rattle.vf_filestore.specs.State.{State, StandingParty}
+use Rattle.vf_filestore.specs.Replies.{replies, request_replies, reply}
+use Rattle.vf_filestore.specs.State.{State, StandingParty, name_in}
 use Rattle.vf_filestore.specs.Transfers.{Movement, Reads, Writes, Transfer, refusal_of, under_way}
 
 -- the same state with other parties, and the same party with another trace
@@ -47,9 +47,9 @@ module _ (state : State) (party : StandingParty) (parties : List StandingParty) 
 
   files_by_same : (moment : ℕ) (given : Given) (request : Pdu) → files_by (with_parties state parties) (with_trace party trace) moment given request ≡ files_by state party moment given request
   files_by_same moment given TransferEndRequest =
-      ap (λ (ending : Ending). Rattle.vf_filestore.specs.Effects.put_where (Rattle.vf_filestore.specs.State.name_in party.history) ending.file state.files) (ending_same moment)
+      ap (λ (ending : Ending). put_where (name_in party.history) ending.file state.files) (ending_same moment)
   files_by_same moment given (CancelRequest diagnostic) =
-      ap (λ (ending : Ending). Rattle.vf_filestore.specs.Effects.put_where (Rattle.vf_filestore.specs.State.name_in party.history) ending.file state.files) (cancel_same moment)
+      ap (λ (ending : Ending). put_where (name_in party.history) ending.file state.files) (cancel_same moment)
   files_by_same moment given request = refl
 
   pub files_same : (moment : ℕ) (given : Given) (message : Message) → files_after (with_parties state parties) (with_trace party trace) moment given message ≡ files_after state party moment given message
@@ -58,7 +58,7 @@ module _ (state : State) (party : StandingParty) (parties : List StandingParty) 
 
   request_replies_same : (setting : Setting) (given : Given) (request : Pdu) → request_replies (with_parties state parties) (with_trace party trace) setting given request ≡ request_replies state party setting given request
   request_replies_same setting given TransferEndRequest =
-      ap (λ (ending : Ending). Rattle.vf_filestore.specs.Replies.reply (Rattle.vf_pdu.specs.declared.pdu.Pdu.TheVariants.TransferEndResponse ending.refused)) (ending_same setting.moment)
+      ap (λ (ending : Ending). reply (TransferEndResponse ending.refused)) (ending_same setting.moment)
   request_replies_same setting given request = refl
 
   pub replies_same : (setting : Setting) (given : Given) (message : Message) → replies (with_parties state parties) (with_trace party trace) setting given message ≡ replies state party setting given message

@@ -1,6 +1,6 @@
 -- Every transition, every break and every run leave a sound state sound.
 use Rattle.std.proofs.Common.{◌≡◌, ℕ, Bool, true, false, cond, ◌&&◌, not, List, [], ◌∷◌, ◌++◌, find, map, nat_eq, Option, None, Some, refl, ap, sym, subst, ◌∙◌, arith}
-use Rattle.std.specs.Prelude.{IfSome, flat_map}
+use Rattle.std.specs.Prelude.{flat_map, is_some}
 use Rattle.std.specs.List.{AllByRecursion, IsDistinct}
 use Rattle.std.specs.Str.{bytes_eq}
 use Rattle.std.proofs.lemmas.Bool.{and_right, eqb-true}
@@ -17,10 +17,10 @@ use Rattle.vf_filestore.specs.History.{Regime}
 use Rattle.vf_filestore.specs.Laws.{BeginsSound, BreaksAreSound, DropsAreSound, FaultsAreSound, IsNew, RunsAreSound, StopsAreSound, TransitionsAreSound}
 use Rattle.vf_filestore.specs.Opening.{has_activity, is_at}
 use Rattle.vf_filestore.specs.Runs.{Event, Arrives, Takes, Faults, Stops, after_event, arrives}
-use Rattle.vf_filestore.specs.Sound.{AreNumbered, IsSound, IsSoundParty, Standing, link_of, standing_of_docket, standing_of_party}
+use Rattle.vf_filestore.specs.Sound.{AreNumbered, IsSound, IsSoundParty, Standing, link_of, standing_of_docket, standing_of_party, Use, do_clash, use_of_docket, use_of_party}
 use Rattle.vf_filestore.specs.Stage.{Group, pending, regime_stage, stage}
 use Rattle.vf_filestore.specs.State.{State, StandingParty, activity_in, arrived, identity_of, party_of, without_party}
-use Rattle.vf_filestore.specs.Transition.{Turn, answered, superseded_by, taking_over, transition, transition_of}
+use Rattle.vf_filestore.specs.Transition.{superseded_by, taking_over, transition_of, fault_of}
 use Rattle.vf_filestore.proofs.Decisions.{answered_sound}
 use Rattle.vf_filestore.proofs.Broken.{broken_sound, dropped_sound, stopped_sound}
 use Rattle.vf_filestore.proofs.Lists.{all_append, distinct_push, flat_map-append}
@@ -57,7 +57,7 @@ no_open party activity number point identity taken = by (pending party.trace) ta
         let there = in_association_only message (record { reading = refl; shown = refl; writing = refl; written = refl }) refl refl (placed message party.history (within_stage party.history message refl taken)) in
         ap (λ (one : Option Regime). bytes_eq (identity_of party) identity && has_activity activity (activity_in one)) there.no_regime ∙ and_right (bytes_eq (identity_of party) identity) false refl
 
-    by : (one : Option Group) → takes (cond (Rattle.std.specs.Prelude.is_some one) stages.Grouping (regime_stage party.history)) (messages.Pdu (RecoverRequest activity number point)) ≡ true → is_at identity activity party ≡ false
+    by : (one : Option Group) → takes (cond (is_some one) stages.Grouping (regime_stage party.history)) (messages.Pdu (RecoverRequest activity number point)) ≡ true → is_at identity activity party ≡ false
     by None taken = none taken
     by (Some group) taken = absurd cc
 
@@ -124,7 +124,7 @@ transitions_sound state link setting message sound = by (party_of link state.par
 pub faults_sound : FaultsAreSound
 faults_sound state link number place sound = by (party_of link state.parties) refl
   where
-    by : (one : Option StandingParty) → party_of link state.parties ≡ one → IsSound (Rattle.vf_filestore.specs.Transition.fault_of state number place one).state
+    by : (one : Option StandingParty) → party_of link state.parties ≡ one → IsSound (fault_of state number place one).state
     by None is = sound
     by (Some party) is = broken_sound party.link state sound
 
@@ -159,6 +159,9 @@ arrives_sound state link none sound = record {
   numbered =
       subst (λ (all : List Standing). AreNumbered state.concluded (flat_map standing_of_docket state.dockets ++ all))
       (sym (flat_map-append standing_of_party state.parties (arrived link ∷ []) ∙ append-nil (flat_map standing_of_party state.parties))) sound.numbered;
+  agreed =
+      subst (λ (all : List Use). IsDistinct do_clash (flat_map use_of_docket state.dockets ++ all))
+      (sym (flat_map-append use_of_party state.parties (arrived link ∷ []) ∙ append-nil (flat_map use_of_party state.parties))) sound.agreed;
   parties = all_append (IsSoundParty state.files) state.parties (arrived link ∷ []) sound.parties (record { sound = record { nested = tt; there = tt; moving = tt }; grouped = tt }, tt);
   dockets = sound.dockets;
 }
@@ -179,6 +182,7 @@ begins_sound users files filed = record {
   linked = tt;
   filed = filed;
   numbered = record { before = tt; apart = tt; differing = tt; few = omega arith };
+  agreed = tt;
   parties = tt;
   dockets = tt;
 }

@@ -1,11 +1,14 @@
 -- What holds of every state that a run reaches (profile): each message was taken by the stage in which it came, what is
--- selected is there, what a read was shown is what its file shows, and open regimes are told apart by their numbers.
+-- selected is there, what a read was shown is what its file shows, open regimes are told apart by their numbers, and
+-- the controls of all who hold a file agree.
 use Rattle.std.specs.Prelude.{◌≡◌, ℕ, ◌<◌, ◌≤◌, Bool, true, false, ◌&&◌, List, [], ◌∷◌, ◌++◌, count_by, flat_map, map, Option, None, Some, IfSome, IsSome, Ok, is_some, nat_eq}
-use Rattle.std.specs.List.{AllByRecursion, IsDistinct}
+use Rattle.std.specs.List.{AllByRecursion, IsDistinct, list_any, zip}
 use Rattle.std.specs.Str.{bytes_eq}
 use Rattle.vf_attr.specs.declared.file.File.{File}
 use Rattle.vf_base.specs.declared.access.Context.{Context}
 use Rattle.vf_base.specs.declared.access.FaduId.{FaduId}
+use Rattle.vf_base.specs.declared.action.Control.{Control}
+use Rattle.vf_base.specs.declared.action.Controls.{Controls}
 use Rattle.vf_base.specs.declared.element.Element.{Element}
 use Rattle.vf_elements.specs.Stages.{takes}
 use Rattle.vf_elements.specs.declared.message.Message.{Message}
@@ -13,11 +16,13 @@ use Rattle.vf_elements.specs.declared.message.Message.TheVariants as messages
 use Rattle.vf_elements.specs.declared.stage.Stage.{Stage}
 use Rattle.vf_elements.specs.declared.stage.Stage.TheVariants as stages
 use Rattle.vf_files.specs.Files.{file_named}
+use Rattle.vf_locks.specs.Clash.{clash}
 use Rattle.vf_pdu.specs.declared.pdu.Pdu.{Pdu}
 use Rattle.vf_pdu.specs.declared.pdu.Pdu.TheVariants.{InitializeRequest, RecoverRequest}
 use Rattle.vf_transfer.specs.Transfer.{NamesKnownChecks}
 use Rattle.vf_tree.specs.Contexts.{shown}
 use Rattle.vf_filestore.specs.History.{Association, Given, Showed, History, Regime, Selection, association, guest, regime, selection}
+use Rattle.vf_filestore.specs.Holders.{controls_by}
 use Rattle.vf_filestore.specs.Limits.{most_dockets}
 use Rattle.vf_filestore.specs.Stage.{Group, pending, stage_by}
 use Rattle.vf_filestore.specs.State.{Docket, State, StandingParty, activity_in, identity_of}
@@ -134,6 +139,35 @@ is_recoverable one = is_some one.activity
 abbrev pub IsBefore : (next : ℕ) → Standing → Type 0
 IsBefore next one = one.number < next
 
+-- CONTROLS. What is held of a selected file: its name now, and the controls of the selection and of the open in it.
+pub record Use : Type 0 where
+  pub file : List ℕ
+  pub controls : Controls
+
+abbrev pub use_by : Option Regime → Option Selection → List Use
+use_by regime None = []
+use_by regime (Some selection) = record { file = selection.file; controls = controls_by selection regime } ∷ []
+
+abbrev pub use_in : History → List Use
+use_in history = use_by (regime history) (selection history)
+
+abbrev pub use_of_party : StandingParty → List Use
+use_of_party party = use_in party.history
+
+abbrev pub use_of_docket : Docket → List Use
+use_of_docket docket = use_in docket.history
+
+abbrev pub uses : State → List Use
+uses state = flat_map use_of_docket state.dockets ++ flat_map use_of_party state.parties
+
+-- one bars what the other may do
+abbrev pub are_clashing : Controls → Controls → Bool
+are_clashing one other = list_any (λ (pair : Control × Control). clash pair.0 pair.1) (zip one.each other.each)
+
+-- two uses of one file that can't stand together
+abbrev pub do_clash : Use → Use → Bool
+do_clash one other = bytes_eq one.file other.file && are_clashing one.controls other.controls
+
 -- STATES
 abbrev pub link_of : StandingParty → ℕ
 link_of party = party.link
@@ -152,6 +186,7 @@ pub record IsSound (state : State) : Type 0 where
   pub linked : IsDistinct nat_eq (map link_of state.parties)
   pub filed : IsDistinct bytes_eq (map name_of state.files)
   pub numbered : AreNumbered state.concluded (standing_regimes state)
+  pub agreed : IsDistinct do_clash (uses state)
   pub parties : AllByRecursion (IsSoundParty state.files) state.parties
   pub dockets : AllByRecursion (IsSoundDocket state.files) state.dockets
 
