@@ -6,13 +6,14 @@ use Rattle.std.proofs.lemmas.List.{append-nil}
 use Rattle.vf_attr.specs.declared.file.File.{File}
 use Rattle.vf_filestore.specs.Dockets.{broken, docket_by, docket_left_by, dockets_left, dropped, stopped}
 use Rattle.vf_filestore.specs.History.{regime}
-use Rattle.vf_filestore.specs.Sound.{AreNumbered, IsSound, IsSoundDocket, IsSoundParty, Standing, do_clash, link_of, standing_by, standing_of_docket, standing_of_party, use_of_docket, use_of_party}
+use Rattle.vf_filestore.specs.Sound.{AreNumbered, IsSound, IsSoundDocket, IsSoundParty, Standing, do_clash, link_of, standing_by, standing_of_docket, standing_of_party, use_of_docket, use_of_party, IsUsable, holding_of_docket, holding_of_party}
 use Rattle.vf_filestore.specs.State.{State, StandingParty, activity_in, activity_of, identity_of, is_docket_of, party_of, without_party}
 use Rattle.vf_filestore.proofs.Lists.{all-filter, all_append, all_left, all_right}
 use Rattle.vf_filestore.proofs.Clashes.{agreed_stays, held_uses, uses_left}
 use Rattle.vf_filestore.proofs.Moving.{Has, Leaves, Stays, all_dropped, all_left_by, all_stopped}
 use Rattle.vf_filestore.proofs.Parties.{Located, links_less, located, off_after, without_at, found_at}
 use Rattle.vf_filestore.proofs.Soundness.{retains, sound_left}
+use Rattle.vf_filestore.proofs.Holdings.{holdings_have, holdings_left, usable_stays}
 use Rattle.vf_filestore.proofs.Standing.{numbered_less, numbered_permutation}
 
 -- ---- an association is gone
@@ -54,8 +55,10 @@ broken_at state link party before after sound is =
     record {
       linked = links_less before after party (subst (λ (all : List StandingParty). IsDistinct nat_eq (map link_of all)) is sound.linked);
       filed = sound.filed;
+      limited = sound.limited;
       numbered = all_left_by (AreNumbered state.concluded) (numbered_stays state.concluded) standings standings_left state.files party state.dockets before after own.0 numbered;
       agreed = all_left_by (IsDistinct do_clash) agreed_stays held_uses uses_left state.files party state.dockets before after own.0 (subst (λ (all : List StandingParty). IsDistinct do_clash (flat_map use_of_docket state.dockets ++ flat_map use_of_party all)) is sound.agreed);
+      usable = all_left_by (AllByRecursion IsUsable) usable_stays holdings_have holdings_left state.files party state.dockets before after own.0 (subst (λ (all : List StandingParty). AllByRecursion IsUsable (flat_map holding_of_docket state.dockets ++ flat_map holding_of_party all)) is sound.usable);
       parties = all_append (IsSoundParty state.files) before after (all_left (IsSoundParty state.files) before (party ∷ after) parties) own.1;
       dockets = all_append (IsSoundDocket state.files) state.dockets (docket_left_by party) sound.dockets (left_sound state.files party own.0);
     }
@@ -94,8 +97,10 @@ unfolding IsDistinct
 stopped_sound state sound = record {
   linked = tt;
   filed = sound.filed;
+  limited = sound.limited;
   numbered = all_stopped (AreNumbered state.concluded) (numbered_stays state.concluded) standings standings_left state.files state.dockets state.parties sound.parties sound.numbered;
   agreed = all_stopped (IsDistinct do_clash) agreed_stays held_uses uses_left state.files state.dockets state.parties sound.parties sound.agreed;
+  usable = all_stopped (AllByRecursion IsUsable) usable_stays holdings_have holdings_left state.files state.dockets state.parties sound.parties sound.usable;
   parties = tt;
   dockets = all_append (IsSoundDocket state.files) state.dockets (flat_map docket_left_by state.parties) sound.dockets (stopped_dockets state.files state.parties sound.parties);
 }
@@ -106,8 +111,10 @@ pub dropped_sound : (identity : List ℕ) (activity : ℕ) (state : State) → I
 dropped_sound identity activity state sound = record {
   linked = sound.linked;
   filed = sound.filed;
+  limited = sound.limited;
   numbered = all_dropped (AreNumbered state.concluded) (numbered_stays state.concluded) standings identity activity state.dockets state.parties sound.numbered;
   agreed = all_dropped (IsDistinct do_clash) agreed_stays held_uses identity activity state.dockets state.parties sound.agreed;
+  usable = all_dropped (AllByRecursion IsUsable) usable_stays holdings_have identity activity state.dockets state.parties sound.usable;
   parties = sound.parties;
   dockets = all-filter (IsSoundDocket state.files) (λ docket. not (is_docket_of identity activity docket)) state.dockets sound.dockets;
 }

@@ -15,7 +15,7 @@ use Rattle.vf_filestore.specs.Decision.{Grants, request_decision}
 use Rattle.vf_filestore.specs.Dockets.{broken}
 use Rattle.vf_filestore.specs.Effects.{files_after}
 use Rattle.vf_filestore.specs.History.{Entry, Given, Nothing, History, Selection, selection}
-use Rattle.vf_filestore.specs.Sound.{AreNumbered, HasItems, IsSound, IsSoundDocket, IsSoundIn, IsSoundParty, Standing, Use, do_clash, link_of, name_of, standing_of_docket, standing_of_party, use_of_docket, use_of_party}
+use Rattle.vf_filestore.specs.Sound.{AreLimited, AreNumbered, HasItems, IsSound, IsSoundDocket, IsSoundIn, IsSoundParty, Standing, Use, do_clash, link_of, name_of, standing_of_docket, standing_of_party, use_of_docket, use_of_party, Holding, IsUsable, holding_of_docket, holding_of_party}
 use Rattle.vf_filestore.specs.Stage.{pending, regime_stage}
 use Rattle.vf_filestore.specs.State.{Docket, State, StandingParty, identity_of, is_docket_of, name_in, party_of, with_party}
 use Rattle.vf_filestore.proofs.Agreed.{IsAmong, request_agreed, uses_after, uses_around}
@@ -23,7 +23,8 @@ use Rattle.vf_filestore.proofs.Alone.{IsNotOn}
 use Rattle.vf_filestore.proofs.Broken.{broken_sound}
 use Rattle.vf_filestore.proofs.Effected.{Effect, KeepsOthers, effect_of, keeps, kept_all, parts}
 use Rattle.vf_filestore.proofs.Filed.{Continues}
-use Rattle.vf_filestore.proofs.Lists.{all-filter, all_append, all_both, all_left, all_right, all_weaker, flat_map-append}
+use Rattle.vf_filestore.proofs.Limited.{request_limited}
+use Rattle.vf_filestore.proofs.Lists.{all-filter, all_append, all_both, all_left, all_right, all_weaker, flat_map-append, all-flat_map, all-from_flat_map}
 use Rattle.vf_filestore.proofs.Named.{AsksKnown, named_message}
 use Rattle.vf_filestore.proofs.Owned.{AsksCheck, due_later, due_later_plain, goes_for, still_sound, within_stage}
 use Rattle.vf_filestore.proofs.Parties.{IsOff, located, off_after, same_links, with_at}
@@ -31,6 +32,7 @@ use Rattle.vf_filestore.proofs.Regimes.{around, around_after, request_numbered}
 use Rattle.vf_filestore.proofs.Requests.{own_request}
 use Rattle.vf_filestore.proofs.Same.{entry_same, files_same, with_parties, with_trace}
 use Rattle.vf_filestore.proofs.Soundness.{sound_continues}
+use Rattle.vf_filestore.proofs.Usable.{holding_after, request_usable}
 use Rattle.vf_filestore.proofs.Standing.{numbered_more}
 
 -- ---- what a granted message rests on
@@ -38,8 +40,10 @@ use Rattle.vf_filestore.proofs.Standing.{numbered_more}
 pub record IsGranting (state : State) (party : StandingParty) (setting : Setting) (message : Message) (given : Given) : Type 0 where
   pub own : IsSoundIn (files_after state party setting.moment given message) (concluding_entry state party setting message given ∷ taken_up state party message)
   pub effect : Effect state party (files_after state party setting.moment given message)
+  pub limited : AreLimited (files_after state party setting.moment given message)
   pub numbered : (before after : List StandingParty) → state.parties ≡ before ++ party ∷ after → AreNumbered (state.concluded + 1) (around_after state party setting message given before after)
   pub agreed : (before after : List StandingParty) → IsAmong state party before after → IsDistinct do_clash (uses_after state party setting message given before after)
+  pub usable : AllByRecursion IsUsable (holding_of_party party) → AllByRecursion IsUsable (holding_after state party setting message given)
   pub dockets : AllByRecursion (IsSoundDocket state.files) (dockets_after party message state.dockets)
 
 -- the regimes of a state, with those of one party apart
@@ -67,8 +71,11 @@ pub granting_request : (state : State) (party : StandingParty) (setting : Settin
 granting_request state party setting request given sound own is taken asks = record {
   own = own_request state party setting request given is taken asks sound.filed sound.dockets own.sound;
   effect = effect_of state party setting request given is sound.filed;
+  limited = request_limited state party setting request given is sound.limited;
   numbered = λ before after among. request_numbered state party setting request given before after is taken among own.sound.nested sound.dockets (parted state party before after sound among);
   agreed = λ before after among. request_agreed state party setting request given before after is taken among sound.dockets sound.parties (uses_parted state party before after sound among);
+  usable = request_usable state party setting request given is taken
+      (all-from_flat_map holding_of_docket IsUsable state.dockets (all_left IsUsable (flat_map holding_of_docket state.dockets) (flat_map holding_of_party state.parties) sound.usable));
   dockets = dockets_kept state.files party request state.dockets sound.dockets;
 }
 
@@ -85,8 +92,10 @@ granting_other state party setting (messages.Element element) is sound own taken
       own = still_sound state.files party.history (concluding_entry state party setting message Nothing) refl refl (within_stage party.history message refl taken)
           (λ named. named_message state party setting party.history message Nothing (due_later state party setting message Nothing) (due_later_plain state party setting message Nothing) refl asks named) own.sound;
       effect = keeps (kept_all state.files sound.filed);
+      limited = sound.limited;
       numbered = λ before after among. numbered_more state.concluded (state.concluded + 1) (around state before after (standing_of_party party)) (omega arith) (parted state party before after sound among);
       agreed = λ before after among. uses_parted state party before after sound among;
+      usable = λ usable. usable;
       dockets = sound.dockets;
     }
 granting_other state party setting messages.Check is sound own taken asks =
@@ -94,8 +103,10 @@ granting_other state party setting messages.Check is sound own taken asks =
       own = still_sound state.files party.history (concluding_entry state party setting message Nothing) refl refl (within_stage party.history message refl taken)
           (λ named. named_message state party setting party.history message Nothing (due_later state party setting message Nothing) (due_later_plain state party setting message Nothing) refl asks named) own.sound;
       effect = keeps (kept_all state.files sound.filed);
+      limited = sound.limited;
       numbered = λ before after among. numbered_more state.concluded (state.concluded + 1) (around state before after (standing_of_party party)) (omega arith) (parted state party before after sound among);
       agreed = λ before after among. uses_parted state party before after sound among;
+      usable = λ usable. usable;
       dockets = sound.dockets;
     }
 granting_other state party setting (messages.Acknowledge point) is sound own taken asks =
@@ -103,8 +114,10 @@ granting_other state party setting (messages.Acknowledge point) is sound own tak
       own = still_sound state.files party.history (concluding_entry state party setting message Nothing) refl refl (within_stage party.history message refl taken)
           (λ named. named_message state party setting party.history message Nothing (due_later state party setting message Nothing) (due_later_plain state party setting message Nothing) refl asks named) own.sound;
       effect = keeps (kept_all state.files sound.filed);
+      limited = sound.limited;
       numbered = λ before after among. numbered_more state.concluded (state.concluded + 1) (around state before after (standing_of_party party)) (omega arith) (parted state party before after sound among);
       agreed = λ before after among. uses_parted state party before after sound among;
+      usable = λ usable. usable;
       dockets = sound.dockets;
     }
 granting_other state party setting (messages.Restart point) is sound own taken asks =
@@ -112,8 +125,10 @@ granting_other state party setting (messages.Restart point) is sound own taken a
       own = still_sound state.files party.history (concluding_entry state party setting message Nothing) refl refl (within_stage party.history message refl taken)
           (λ named. named_message state party setting party.history message Nothing (due_later state party setting message Nothing) (due_later_plain state party setting message Nothing) refl asks named) own.sound;
       effect = keeps (kept_all state.files sound.filed);
+      limited = sound.limited;
       numbered = λ before after among. numbered_more state.concluded (state.concluded + 1) (around state before after (standing_of_party party)) (omega arith) (parted state party before after sound among);
       agreed = λ before after among. uses_parted state party before after sound among;
+      usable = λ usable. usable;
       dockets = sound.dockets;
     }
 granting_other state party setting messages.Break is sound own taken asks =
@@ -121,8 +136,10 @@ granting_other state party setting messages.Break is sound own taken asks =
       own = still_sound state.files party.history (concluding_entry state party setting message Nothing) refl refl refl
           (λ named. named_message state party setting party.history message Nothing (due_later state party setting message Nothing) (due_later_plain state party setting message Nothing) refl asks named) own.sound;
       effect = keeps (kept_all state.files sound.filed);
+      limited = sound.limited;
       numbered = λ before after among. numbered_more state.concluded (state.concluded + 1) (around state before after (standing_of_party party)) (omega arith) (parted state party before after sound among);
       agreed = λ before after among. uses_parted state party before after sound among;
+      usable = λ usable. usable;
       dockets = sound.dockets;
     }
 
@@ -172,6 +189,15 @@ message_dockets_go : (files : List File) (later : List File) (party : StandingPa
 message_dockets_go files later party (messages.Pdu request) dockets goes = dockets_go files later party request dockets goes
 message_dockets_go files later party message dockets goes = goes
 
+-- what holds of all dockets holds of those after a message
+request_dockets : (P : Docket → Type 0) (party : StandingParty) (request : Pdu) (dockets : List Docket) → AllByRecursion P dockets → AllByRecursion P (dockets_after party (messages.Pdu request) dockets)
+request_dockets P party (RecoverRequest activity number point) dockets all = all-filter P (λ docket. not (is_docket_of (identity_of party) activity docket)) dockets all
+request_dockets P party request dockets all = all
+
+message_dockets : (P : Docket → Type 0) (party : StandingParty) (message : Message) (dockets : List Docket) → AllByRecursion P dockets → AllByRecursion P (dockets_after party message dockets)
+message_dockets P party (messages.Pdu request) dockets all = request_dockets P party request dockets all
+message_dockets P party message dockets all = all
+
 party_goes : (files later : List File) (party : StandingParty) → GoesOn files later party.history → IsSoundParty files party → IsSoundParty later party
 party_goes files later party goes sound = record { sound = sound_continues files later party.history goes sound.sound; grouped = sound.grouped }
 
@@ -213,15 +239,31 @@ after_sound state party setting message given trace before after sound is absent
     let goes_before = all_left (λ (one : StandingParty). IsOff party.link one → GoesOn state.files files one.history) before (party ∷ after) goes in
     let goes_after = all_right (λ (one : StandingParty). IsOff party.link one → GoesOn state.files files one.history) before (party ∷ after) goes in
     let own : IsSoundParty files next = record { sound = granting.own; grouped = grouped } in
+    let held : AllByRecursion IsUsable (flat_map holding_of_party before ++ (holding_of_party party ++ flat_map holding_of_party after))
+    = subst (λ (all : List Holding). AllByRecursion IsUsable all) (flat_map-append holding_of_party before (party ∷ after))
+    (subst (λ (all : List StandingParty). AllByRecursion IsUsable (flat_map holding_of_party all)) is
+    (all_right IsUsable (flat_map holding_of_docket state.dockets) (flat_map holding_of_party state.parties) sound.usable)) in
     record {
       linked = subst (λ links. IsDistinct nat_eq links) (sym (same_links before after party next refl)) linked;
       filed = filed state party files granting.effect;
+      limited = granting.limited;
       numbered =
           subst (λ (all : List Standing). AreNumbered (state.concluded + 1) (flat_map standing_of_docket (dockets_after party message state.dockets) ++ all)) (sym (flat_map-append standing_of_party before (next ∷ after)))
           (granting.numbered before after is);
       agreed =
           subst (λ (all : List Use). IsDistinct do_clash (flat_map use_of_docket (dockets_after party message state.dockets) ++ all)) (sym (flat_map-append use_of_party before (next ∷ after)))
           (granting.agreed before after (record { is = is; absent = absent; off = off }));
+      usable =
+          all_append IsUsable (flat_map holding_of_docket (dockets_after party message state.dockets)) (flat_map holding_of_party (before ++ next ∷ after))
+          (all-flat_map holding_of_docket IsUsable (dockets_after party message state.dockets)
+          (message_dockets (λ (docket : Docket). AllByRecursion IsUsable (holding_of_docket docket)) party message state.dockets
+          (all-from_flat_map holding_of_docket IsUsable state.dockets (all_left IsUsable (flat_map holding_of_docket state.dockets) (flat_map holding_of_party state.parties) sound.usable))))
+          (subst (λ (all : List Holding). AllByRecursion IsUsable all) (sym (flat_map-append holding_of_party before (next ∷ after)))
+          (all_append IsUsable (flat_map holding_of_party before) (holding_of_party next ++ flat_map holding_of_party after)
+          (all_left IsUsable (flat_map holding_of_party before) (holding_of_party party ++ flat_map holding_of_party after) held)
+          (all_append IsUsable (holding_of_party next) (flat_map holding_of_party after)
+          (granting.usable (all_left IsUsable (holding_of_party party) (flat_map holding_of_party after) (all_right IsUsable (flat_map holding_of_party before) (holding_of_party party ++ flat_map holding_of_party after) held)))
+          (all_right IsUsable (holding_of_party party) (flat_map holding_of_party after) (all_right IsUsable (flat_map holding_of_party before) (holding_of_party party ++ flat_map holding_of_party after) held)))));
       parties =
           all_append (IsSoundParty files) before (next ∷ after)
           (goes_where state.files files party.link before absent goes_before (all_left (IsSoundParty state.files) before (party ∷ after) parties))

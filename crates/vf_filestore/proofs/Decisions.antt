@@ -38,7 +38,7 @@ use Rattle.vf_filestore.specs.Dockets.{broken, docket_by, docket_left_by}
 use Rattle.vf_filestore.specs.Groups.{Trial, groups, is_good, trial, trial_by, trial_step, between, said_in_vain, said_of}
 use Rattle.vf_filestore.specs.History.{Given, Nothing, History}
 use Rattle.vf_filestore.specs.Limits.{most_items}
-use Rattle.vf_filestore.specs.Sound.{AreNumbered, HasItems, IsItem, IsSound, IsSoundParty, Standing, link_of, standing_of_docket, standing_of_party, Use, do_clash, use_of_docket, use_of_party}
+use Rattle.vf_filestore.specs.Sound.{AreNumbered, HasItems, IsItem, IsSound, IsSoundParty, Standing, link_of, standing_of_docket, standing_of_party, Use, do_clash, use_of_docket, use_of_party, Holding, IsUsable, holding_of_docket, holding_of_party}
 use Rattle.vf_filestore.specs.Stage.{Group, grouping, pending, regime_stage, stage}
 use Rattle.vf_filestore.specs.State.{State, StandingParty, activity_of, identity_of, party_of, units_of, with_party}
 use Rattle.vf_filestore.specs.Transition.{answered, associates, leaves, met, refuses}
@@ -152,6 +152,7 @@ heard_sound state link party trace sound found grouped =
     subst (λ (all : List StandingParty). IsSound (with_parties state all)) (sym now) (record {
       linked = subst (λ links. IsDistinct nat_eq links) (sym (same_links at.before at.after party next refl)) (subst (λ (all : List StandingParty). IsDistinct nat_eq (map link_of all)) at.is sound.linked);
       filed = sound.filed;
+      limited = sound.limited;
       numbered =
           subst (λ (all : List Standing). AreNumbered state.concluded (flat_map standing_of_docket state.dockets ++ all)) (sym (flat_map-append standing_of_party at.before (next ∷ at.after)))
           (parted state party at.before at.after sound at.is);
@@ -159,6 +160,10 @@ heard_sound state link party trace sound found grouped =
           subst (λ (all : List Use). IsDistinct do_clash (flat_map use_of_docket state.dockets ++ all)) (sym (flat_map-append use_of_party at.before (next ∷ at.after)))
           (subst (λ (all : List Use). IsDistinct do_clash (flat_map use_of_docket state.dockets ++ all)) (flat_map-append use_of_party at.before (party ∷ at.after))
           (subst (λ (all : List StandingParty). IsDistinct do_clash (flat_map use_of_docket state.dockets ++ flat_map use_of_party all)) at.is sound.agreed));
+      usable =
+          subst (λ (all : List Holding). AllByRecursion IsUsable (flat_map holding_of_docket state.dockets ++ all)) (sym (flat_map-append holding_of_party at.before (next ∷ at.after)))
+          (subst (λ (all : List Holding). AllByRecursion IsUsable (flat_map holding_of_docket state.dockets ++ all)) (flat_map-append holding_of_party at.before (party ∷ at.after))
+          (subst (λ (all : List StandingParty). AllByRecursion IsUsable (flat_map holding_of_docket state.dockets ++ flat_map holding_of_party all)) at.is sound.usable));
       parties = all_append (IsSoundParty state.files) at.before (next ∷ at.after) (all_left (IsSoundParty state.files) at.before (party ∷ at.after) parties)
           (heard, (all_right (IsSoundParty state.files) at.before (party ∷ at.after) parties).1);
       dockets = sound.dockets;

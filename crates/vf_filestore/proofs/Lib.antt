@@ -8,7 +8,9 @@ pub mod Decided
 pub mod Decisions
 pub mod Effected
 pub mod Filed
+pub mod Holdings
 pub mod Kept
+pub mod Limited
 pub mod Lists
 pub mod Moving
 pub mod Named
@@ -22,4 +24,5 @@ pub mod Same
 pub mod Soundness
 pub mod Standing
 pub mod Transitions
+pub mod Usable
 pub mod Views

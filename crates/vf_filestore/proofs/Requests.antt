@@ -39,7 +39,7 @@ use Rattle.vf_filestore.proofs.Soundness.{alike_resumed, nested_resumed, sound_a
 use Rattle.vf_filestore.proofs.Views.{in_association_only, in_selection_only}
 
 -- what a grant gives
-given_is : (would given : Given) → Grants would ≡ Grants given → would ≡ given
+pub given_is : (would given : Given) → Grants would ≡ Grants given → would ≡ given
 given_is would given is = cc
 
 renamed_there : (state : State) (party : StandingParty) (setting : Setting) (name : Option (List ℕ)) (change : AttributeChange) → change.name ≡ name → (one : Option Selection)

@@ -17,7 +17,7 @@ use Rattle.vf_filestore.specs.History.{Regime}
 use Rattle.vf_filestore.specs.Laws.{BeginsSound, BreaksAreSound, DropsAreSound, FaultsAreSound, IsNew, RunsAreSound, StopsAreSound, TransitionsAreSound}
 use Rattle.vf_filestore.specs.Opening.{has_activity, is_at}
 use Rattle.vf_filestore.specs.Runs.{Event, Arrives, Takes, Faults, Stops, after_event, arrives}
-use Rattle.vf_filestore.specs.Sound.{AreNumbered, IsSound, IsSoundParty, Standing, link_of, standing_of_docket, standing_of_party, Use, do_clash, use_of_docket, use_of_party}
+use Rattle.vf_filestore.specs.Sound.{AreNumbered, IsSound, IsSoundParty, Standing, link_of, standing_of_docket, standing_of_party, Use, do_clash, use_of_docket, use_of_party, Holding, IsUsable, holding_of_docket, holding_of_party}
 use Rattle.vf_filestore.specs.Stage.{Group, pending, regime_stage, stage}
 use Rattle.vf_filestore.specs.State.{State, StandingParty, activity_in, arrived, identity_of, party_of, without_party}
 use Rattle.vf_filestore.specs.Transition.{superseded_by, taking_over, transition_of, fault_of}
@@ -156,12 +156,16 @@ arrives_sound : (state : State) (link : ℕ) → party_of link state.parties ≡
 arrives_sound state link none sound = record {
   linked = subst (λ links. IsDistinct nat_eq links) (sym (links_pushed state.parties link)) (distinct_push nat_eq (map link_of state.parties) link (absent link state.parties none) sound.linked);
   filed = sound.filed;
+  limited = sound.limited;
   numbered =
       subst (λ (all : List Standing). AreNumbered state.concluded (flat_map standing_of_docket state.dockets ++ all))
       (sym (flat_map-append standing_of_party state.parties (arrived link ∷ []) ∙ append-nil (flat_map standing_of_party state.parties))) sound.numbered;
   agreed =
       subst (λ (all : List Use). IsDistinct do_clash (flat_map use_of_docket state.dockets ++ all))
       (sym (flat_map-append use_of_party state.parties (arrived link ∷ []) ∙ append-nil (flat_map use_of_party state.parties))) sound.agreed;
+  usable =
+      subst (λ (all : List Holding). AllByRecursion IsUsable (flat_map holding_of_docket state.dockets ++ all))
+      (sym (flat_map-append holding_of_party state.parties (arrived link ∷ []) ∙ append-nil (flat_map holding_of_party state.parties))) sound.usable;
   parties = all_append (IsSoundParty state.files) state.parties (arrived link ∷ []) sound.parties (record { sound = record { nested = tt; there = tt; moving = tt }; grouped = tt }, tt);
   dockets = sound.dockets;
 }
@@ -178,11 +182,13 @@ runs_sound (event ∷ events) state new sound = runs_sound events (after_event s
 
 pub begins_sound : BeginsSound
 unfolding IsDistinct
-begins_sound users files filed = record {
+begins_sound users files filed limited = record {
   linked = tt;
   filed = filed;
+  limited = limited;
   numbered = record { before = tt; apart = tt; differing = tt; few = omega arith };
   agreed = tt;
+  usable = tt;
   parties = tt;
   dockets = tt;
 }

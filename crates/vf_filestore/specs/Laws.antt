@@ -7,14 +7,14 @@ use Rattle.vf_elements.specs.declared.message.Message.{Message}
 use Rattle.vf_filestore.specs.Aborts.{Setting}
 use Rattle.vf_filestore.specs.Dockets.{broken, dropped, stopped}
 use Rattle.vf_filestore.specs.Runs.{Event, Arrives, after_event, beginning, run}
-use Rattle.vf_filestore.specs.Sound.{Begins, IsSound, name_of}
+use Rattle.vf_filestore.specs.Sound.{AreLimited, Begins, IsSound, name_of}
 use Rattle.vf_filestore.specs.State.{State, User, party_of}
 use Rattle.vf_filestore.specs.Tables.{tables_of}
 use Rattle.vf_filestore.specs.Transition.{fault, transition}
 
--- a filestore whose files have names of their own
+-- a filestore whose files have names of their own and are within their limits
 abbrev pub BeginsSound : Type 0
-BeginsSound = (users : List User) (files : List File) → IsDistinct bytes_eq (map name_of files) → IsSound (beginning users files)
+BeginsSound = (users : List User) (files : List File) → IsDistinct bytes_eq (map name_of files) → AreLimited files → IsSound (beginning users files)
 
 -- whatever message comes on whatever link
 abbrev pub TransitionsAreSound : Type 0

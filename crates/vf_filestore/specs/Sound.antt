@@ -1,12 +1,15 @@
 -- What holds of every state that a run reaches (profile): each message was taken by the stage in which it came, what is
--- selected is there, what a read was shown is what its file shows, open regimes are told apart by their numbers, and
--- the controls of all who hold a file agree.
-use Rattle.std.specs.Prelude.{◌≡◌, ℕ, ◌<◌, ◌≤◌, Bool, true, false, ◌&&◌, List, [], ◌∷◌, ◌++◌, count_by, flat_map, map, Option, None, Some, IfSome, IsSome, Ok, is_some, nat_eq}
+-- selected is there, what a read was shown is what its file shows, files are within their limits, open regimes are told
+-- apart by their numbers, and the controls of all who hold a file agree, and let each do what it has opened it for.
+use Rattle.std.specs.Prelude.{◌≡◌, ℕ, ◌<◌, ◌≤◌, Bool, true, false, ◌&&◌, List, [], ◌∷◌, ◌++◌, count_by, flat_map, length, map, option_map, Option, None, Some, IfSome, IsSome, Ok, is_some, nat_eq}
 use Rattle.std.specs.List.{AllByRecursion, IsDistinct, list_any, zip}
 use Rattle.std.specs.Str.{bytes_eq}
 use Rattle.vf_attr.specs.declared.file.File.{File}
+use Rattle.vf_attr.specs.Access.{has}
 use Rattle.vf_base.specs.declared.access.Context.{Context}
 use Rattle.vf_base.specs.declared.access.FaduId.{FaduId}
+use Rattle.vf_base.specs.declared.action.Action.TheVariants as actions
+use Rattle.vf_base.specs.declared.action.Actions.{Actions}
 use Rattle.vf_base.specs.declared.action.Control.{Control}
 use Rattle.vf_base.specs.declared.action.Controls.{Controls}
 use Rattle.vf_base.specs.declared.element.Element.{Element}
@@ -15,17 +18,24 @@ use Rattle.vf_elements.specs.declared.message.Message.{Message}
 use Rattle.vf_elements.specs.declared.message.Message.TheVariants as messages
 use Rattle.vf_elements.specs.declared.stage.Stage.{Stage}
 use Rattle.vf_elements.specs.declared.stage.Stage.TheVariants as stages
-use Rattle.vf_files.specs.Files.{file_named}
+use Rattle.vf_doctype.specs.DocumentTypes.{constraint_of, doc_type}
+use Rattle.vf_doctype.specs.declared.doc_type.DocType.{DocType}
+use Rattle.vf_files.specs.Files.{file_named, octets_of_files}
+use Rattle.vf_files.specs.Rows.{includes}
+use Rattle.vf_files.specs.declared.limits.TheConstants.{MOST_FILES, MOST_FILESTORE_OCTETS}
 use Rattle.vf_locks.specs.Clash.{clash}
 use Rattle.vf_pdu.specs.declared.pdu.Pdu.{Pdu}
 use Rattle.vf_pdu.specs.declared.pdu.Pdu.TheVariants.{InitializeRequest, RecoverRequest}
 use Rattle.vf_transfer.specs.Transfer.{NamesKnownChecks}
 use Rattle.vf_tree.specs.Contexts.{shown}
-use Rattle.vf_filestore.specs.History.{Association, Given, Showed, History, Regime, Selection, association, guest, regime, selection}
+use Rattle.vf_tree.specs.FileTree.{IsFile}
+use Rattle.vf_filestore.specs.Controls.{attributes_usable, contents_usable}
+use Rattle.vf_filestore.specs.History.{Association, Given, Nothing, Showed, History, Regime, Selection, association, guest, regime, selection}
 use Rattle.vf_filestore.specs.Holders.{controls_by}
-use Rattle.vf_filestore.specs.Limits.{most_dockets}
+use Rattle.vf_filestore.specs.Limits.{most_dockets, most_version}
+use Rattle.vf_filestore.specs.Opening.{action_of}
 use Rattle.vf_filestore.specs.Stage.{Group, pending, stage_by}
-use Rattle.vf_filestore.specs.State.{Docket, State, StandingParty, activity_in, identity_of}
+use Rattle.vf_filestore.specs.State.{Docket, State, StandingParty, activity_in, identity_of, mode_in}
 use Rattle.vf_filestore.specs.Tables.{Tables, tables_of}
 use Rattle.vf_filestore.specs.Transfers.{Movement, Reads, Writes, Transfer, data_end, happened, under_way, was_shown}
 
@@ -168,6 +178,58 @@ are_clashing one other = list_any (λ (pair : Control × Control). clash pair.0 
 abbrev pub do_clash : Use → Use → Bool
 do_clash one other = bytes_eq one.file other.file && are_clashing one.controls other.controls
 
+-- WHAT MAY BE DONE by the controls of a selection, of the open in it and of a transfer.
+pub record Holding : Type 0 where
+  pub selection : Selection
+  pub opened : Option Regime
+  pub moving : Option Transfer
+
+abbrev pub holding_by : Option Regime → Option Transfer → Option Selection → List Holding
+holding_by opened moving None = []
+holding_by opened moving (Some selection) = record { selection = selection; opened = opened; moving = moving } ∷ []
+
+abbrev pub holding_in : History → List Holding
+holding_in history = holding_by (regime history) (under_way history) (selection history)
+
+abbrev pub holding_of_party : StandingParty → List Holding
+holding_of_party party = holding_in party.history
+
+abbrev pub holding_of_docket : Docket → List Holding
+holding_of_docket docket = holding_in docket.history
+
+abbrev pub holdings : State → List Holding
+holdings state = flat_map holding_of_docket state.dockets ++ flat_map holding_of_party state.parties
+
+-- the mode is one of what was requested, and its controls let it be done
+pub record IsUsableOpen (selection : Selection) (regime : Regime) : Type 0 where
+  pub within : includes selection.requested.value regime.mode.value ≡ true
+  pub usable : contents_usable regime.mode regime.controls ≡ true
+
+-- a transfer that isn't refused is of the mode
+abbrev pub IsInMode : Actions → Movement → Given → Type 0
+IsInMode mode (Reads fadu context) (Showed version elements position) = has mode actions.Read ≡ true
+IsInMode mode (Writes operation fadu) Nothing = has mode (action_of operation) ≡ true
+IsInMode mode movement given = Unit {0}
+
+abbrev pub IsOfMode : Option Regime → Transfer → Type 0
+IsOfMode opened transfer = IsInMode (mode_in opened) transfer.movement transfer.given
+
+pub record IsUsable (holding : Holding) : Type 0 where
+  pub attributes : attributes_usable holding.selection.requested holding.selection.controls ≡ true
+  pub opened : IfSome holding.opened (IsUsableOpen holding.selection)
+  pub moving : IfSome holding.moving (IsOfMode holding.opened)
+
+-- FILES. A file is of its document type and within its limits, and so is its version.
+pub record IsLimited (file : File) : Type 0 where
+  pub typed : option_map (λ (doc : DocType). constraint_of doc.kind) (doc_type file.contents) ≡ Some file.tree.constraint
+  pub shaped : IsFile file.tree
+  pub counted : file.version ≤ most_version
+
+pub record AreLimited (files : List File) : Type 0 where
+  pub each : AllByRecursion IsLimited files
+  pub counted : length files ≤ MOST_FILES
+  pub roomy : octets_of_files files ≤ MOST_FILESTORE_OCTETS
+
 -- STATES
 abbrev pub link_of : StandingParty → ℕ
 link_of party = party.link
@@ -185,8 +247,10 @@ pub record AreNumbered (next : ℕ) (regimes : List Standing) : Type 0 where
 pub record IsSound (state : State) : Type 0 where
   pub linked : IsDistinct nat_eq (map link_of state.parties)
   pub filed : IsDistinct bytes_eq (map name_of state.files)
+  pub limited : AreLimited state.files
   pub numbered : AreNumbered state.concluded (standing_regimes state)
   pub agreed : IsDistinct do_clash (uses state)
+  pub usable : AllByRecursion IsUsable (holdings state)
   pub parties : AllByRecursion (IsSoundParty state.files) state.parties
   pub dockets : AllByRecursion (IsSoundDocket state.files) state.dockets
 

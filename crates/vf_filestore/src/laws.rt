@@ -1,7 +1,7 @@
 //! Laws of the definitions, each the contract of a function that does nothing.
 ghost use Rattle.vf_filestore.specs.Laws.{BeginsSound, BreaksAreSound, BreaksKeep, DropsAreSound, FaultsAreSound, RunsAreSound, StopsAreSound, StopsBegin, StopsKeep, TransitionsAreSound};
 
-/// A filestore whose files have names of their own begins in a sound state.
+/// A filestore whose files have names of their own and are within their limits begins in a sound state.
 pub fn begins_sound()
     ensures { BeginsSound }
 {}
