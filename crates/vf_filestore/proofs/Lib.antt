@@ -24,5 +24,6 @@ pub mod Same
 pub mod Soundness
 pub mod Standing
 pub mod Transitions
+pub mod Unchanged
 pub mod Usable
 pub mod Views

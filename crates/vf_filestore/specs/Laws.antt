@@ -5,11 +5,12 @@ use Rattle.std.specs.Str.{bytes_eq}
 use Rattle.vf_attr.specs.declared.file.File.{File}
 use Rattle.vf_elements.specs.declared.message.Message.{Message}
 use Rattle.vf_filestore.specs.Aborts.{Setting}
+use Rattle.vf_filestore.specs.Changes.{delta, is_same_open}
 use Rattle.vf_filestore.specs.Dockets.{broken, dropped, stopped}
 use Rattle.vf_filestore.specs.Runs.{Event, Arrives, after_event, beginning, run}
 use Rattle.vf_filestore.specs.Sound.{AreLimited, Begins, IsSound, name_of}
 use Rattle.vf_filestore.specs.State.{State, User, party_of}
-use Rattle.vf_filestore.specs.Tables.{tables_of}
+use Rattle.vf_filestore.specs.Tables.{Tables, tables_of}
 use Rattle.vf_filestore.specs.Transition.{fault, transition}
 
 -- a filestore whose files have names of their own and are within their limits
@@ -50,6 +51,10 @@ StopsKeep = (state : State) → tables_of (stopped state) ≡ tables_of state
 
 abbrev pub BreaksKeep : Type 0
 BreaksKeep = (state : State) (link : ℕ) → IsSound state → tables_of (broken link state) ≡ tables_of state
+
+-- where nothing that is kept changes there is no change
+abbrev pub MakesNoChange : Type 0
+MakesNoChange = (tables : Tables) → IsDistinct is_same_open tables.dockets → delta tables tables ≡ []
 
 -- what a stop leaves is a state that an incarnation begins with
 abbrev pub StopsBegin : Type 0

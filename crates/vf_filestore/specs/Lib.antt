@@ -1,4 +1,5 @@
 pub mod Aborts
+pub mod Changes
 pub mod Conclusion
 pub mod Controls
 pub mod Decision
@@ -17,6 +18,7 @@ pub mod Performed
 pub mod Recovering
 pub mod Replies
 pub mod RowsOfAttributes
+pub mod RowsOfChanges
 pub mod RowsOfControls
 pub mod RowsOfGroups
 pub mod RowsOfOpens

@@ -1,5 +1,5 @@
 //! Laws of the definitions, each the contract of a function that does nothing.
-ghost use Rattle.vf_filestore.specs.Laws.{BeginsSound, BreaksAreSound, BreaksKeep, DropsAreSound, FaultsAreSound, RunsAreSound, StopsAreSound, StopsBegin, StopsKeep, TransitionsAreSound};
+ghost use Rattle.vf_filestore.specs.Laws.{BeginsSound, BreaksAreSound, BreaksKeep, DropsAreSound, FaultsAreSound, MakesNoChange, RunsAreSound, StopsAreSound, StopsBegin, StopsKeep, TransitionsAreSound};
 
 /// A filestore whose files have names of their own and are within their limits begins in a sound state.
 pub fn begins_sound()
@@ -33,4 +33,9 @@ pub fn ends_keep_tables()
 /// What a stop leaves is a state that an incarnation begins with, with the same tables.
 pub fn stops_begin()
     ensures { StopsBegin }
+{}
+
+/// Where nothing that is kept changes there is no change.
+pub fn the_same_makes_no_change()
+    ensures { MakesNoChange }
 {}

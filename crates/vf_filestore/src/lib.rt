@@ -7,9 +7,9 @@ mod rows;
 
 pub use laws::{
     begins_sound, ends_are_sound, ends_keep_tables, runs_are_sound, stops_begin,
-    transitions_are_sound,
+    the_same_makes_no_change, transitions_are_sound,
 };
 pub use rows::{
-    attributes_compute, controls_compute, groups_compute, opens_compute, random_runs_compute,
-    reads_compute, recovery_computes, writes_compute,
+    attributes_compute, changes_compute, controls_compute, groups_compute, opens_compute,
+    random_runs_compute, reads_compute, recovery_computes, writes_compute,
 };

@@ -1,5 +1,6 @@
 //! Examples, each the contract of a function that does nothing.
 ghost use Rattle.vf_filestore.specs.RowsOfAttributes.{RowsOfAttributes};
+ghost use Rattle.vf_filestore.specs.RowsOfChanges.{RowsOfChanges};
 ghost use Rattle.vf_filestore.specs.RowsOfControls.{RowsOfControls};
 ghost use Rattle.vf_filestore.specs.RowsOfGroups.{RowsOfGroups};
 ghost use Rattle.vf_filestore.specs.RowsOfOpens.{RowsOfOpens};
@@ -11,6 +12,11 @@ ghost use Rattle.vf_filestore.specs.RowsOfWrites.{RowsOfWrites};
 /// What runs with users, access control, attributes and their changes come to.
 pub fn attributes_compute()
     ensures { RowsOfAttributes }
+{}
+
+/// Which changes messages make, and that they lead from what was kept to what is kept.
+pub fn changes_compute()
+    ensures { RowsOfChanges }
 {}
 
 /// What runs of several links come to whose controls clash.
