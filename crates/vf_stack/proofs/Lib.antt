@@ -3,3 +3,10 @@ pub mod OctetLemmas
 pub mod MutualLemmas
 pub mod SentLemmas
 pub mod ReceivedLemmas
+pub mod FoldLemmas
+pub mod UnitLemmas
+pub mod SpduLemmas
+pub mod FeedLemmas
+pub mod OnwardLemmas
+pub mod OutcomeLemmas
+pub mod ToldLemmas

@@ -13,6 +13,7 @@ use Rattle.vf_session.specs.Units.{parameters, user_data}
 use Rattle.vf_session.specs.declared.parameters.SayParameters.{SayParameters}
 use Rattle.vf_session.specs.declared.parameters.SayParameters.TheVariants as head
 use Rattle.vf_session.specs.declared.resync.PendingResync.{PendingResync}
+use Rattle.vf_session.specs.declared.state.SessionState.{SessionState}
 use Rattle.vf_session.specs.declared.units.ResyncKind.{ResyncKind}
 use Rattle.vf_session.specs.declared.units.ResyncKind.TheVariants as kinds
 use Rattle.vf_session.specs.declared.units.SessionSay.{SessionSay}
@@ -126,12 +127,13 @@ abbrev pub is_data : SayParameters → Bool
 is_data (head.Data pass) = true
 is_data unit = false
 
-abbrev pub values_told : Standing → SayParameters → List Carried → Told
-values_told s unit values = if is_data unit then items_told s.state.agreed values else one_told (single_told s.state.resync unit values)
+-- by where the session connection stands
+abbrev pub values_told : SessionState → SayParameters → List Carried → Told
+values_told state unit values = if is_data unit then items_told state.agreed values else one_told (single_told state.resync unit values)
 
-abbrev pub read_told : Standing → SayParameters → Result Primitive UpperError → Told
-read_told s unit (Ok primitive) = values_told s unit (values_of primitive)
-read_told s unit (Err fault) = one_told (Err (of_upper fault))
+abbrev pub read_told : SessionState → SayParameters → Result Primitive UpperError → Told
+read_told state unit (Ok primitive) = values_told state unit (values_of primitive)
+read_told state unit (Err fault) = one_told (Err (of_upper fault))
 
 -- the SPDU whose user data a unit has
 abbrev pub carrier : SayParameters → Option SpduKind
@@ -154,7 +156,7 @@ plain_told unit = nothing_told
 
 abbrev pub carried_told : Standing → SayParameters → List ℕ → Option SpduKind → Told
 carried_told s unit octets None = plain_told unit
-carried_told s unit octets (Some kind) = read_told s unit (reading kind (contexts_for s kind) octets)
+carried_told s unit octets (Some kind) = read_told s.state unit (reading kind (contexts_for s kind) octets)
 
 abbrev pub unit_told : Standing → SessionSay → Told
 unit_told s unit = carried_told s (parameters unit) (user_data unit) (carrier (parameters unit))

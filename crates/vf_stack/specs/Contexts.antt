@@ -78,12 +78,16 @@ pub record Standing : Type 0 where
 abbrev pub standing : TokenSide → Trace → Standing
 standing own trace = record { offers = proposals trace; accepted = accepted own trace; state = state own trace }
 
--- the contexts with which the user data of an SPDU are read; a CN has its own
+-- The contexts with which the user data of an SPDU are read, of those that were proposed and those that are accepted; a
+-- CN has its own.
+abbrev pub contexts_among : List Offer → List ContextEntry → SpduKind → List ContextEntry
+contexts_among offers accepted CN = []
+contexts_among offers accepted AC = entries offers
+contexts_among offers accepted RF = entries offers
+contexts_among offers accepted kind = accepted
+
 abbrev pub contexts_for : Standing → SpduKind → List ContextEntry
-contexts_for s CN = []
-contexts_for s AC = entries s.offers
-contexts_for s RF = entries s.offers
-contexts_for s kind = s.accepted
+contexts_for s kind = contexts_among s.offers s.accepted kind
 
 -- ---- by the user data as they are read
 

@@ -14,3 +14,11 @@ NamesValue (errors.Field place) told = told ≡ Some (of_value (Field place))
 NamesValue (errors.Range field) told = told ≡ Some (of_value (Range field))
 NamesValue (errors.Missing field) told = told ≡ Some (of_value (Missing field))
 NamesValue errors.NoMemory told = told ≡ None
+
+-- this fault is named, and memory isn't wanting
+abbrev pub IsFault : PduError → Option Fault → Type 0
+IsFault (errors.Unknown tag) told = told ≡ Some (of_value (Unknown (tag_of tag)))
+IsFault (errors.Field place) told = told ≡ Some (of_value (Field place))
+IsFault (errors.Range field) told = told ≡ Some (of_value (Range field))
+IsFault (errors.Missing field) told = told ≡ Some (of_value (Missing field))
+IsFault errors.NoMemory told = ⊥

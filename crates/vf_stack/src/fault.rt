@@ -1,11 +1,12 @@
 //! Faults of the layers.
-ghost use Rattle.std.specs.Prelude.{◌≡◌, Err};
+ghost use Rattle.std.specs.Prelude.{◌≡◌, ◌≢◌, Err, IfOk, OnErr};
 ghost use Rattle.vf_pdu_fields.specs.Results.{Fails};
 ghost use Rattle.vf_session_spdu.specs.Reading.{reading};
 ghost use Rattle.vf_stack.specs.Faults.{form_name as name_of_form, indication_of, misplaced as misplaced_fault, of_form, of_state, of_transport, of_upper, state_name as name_of_state};
 ghost use Rattle.vf_stack.specs.FaultNames.{NamesValue};
 
 use crate::{FaultName, Indication, Layer};
+use vf_base::NoMemory;
 use vf_pdu::PduError;
 use vf_session::{SessionError, SpduError, fault_place};
 use vf_tpkt::TpktError;
@@ -61,32 +62,37 @@ fn form_name(fault: SpduError) -> FaultName
     }
 }
 
-/// The fault that `read` found in a TSDU.
-pub(crate) fn form_fault(tsdu: &[u8], fault: SpduError) -> Fault
-    ensures { reading tsdu.now ≡ Err fault → result ≡ of_form tsdu.now fault }
+/// The fault that `read` found in a TSDU, where memory wasn't wanting.
+pub(crate) fn form_fault(tsdu: &[u8], fault: SpduError) -> Result<Fault, NoMemory>
+    ensures ok { IfOk result (λ told. (fault ≢ SpduError.NoMemory) × (reading tsdu.now ≡ Err fault → told ≡ of_form tsdu.now fault)) }
+    ensures err { OnErr result (fault ≡ SpduError.NoMemory) }
 {
-    Fault {
+    if let SpduError::NoMemory = fault {
+        return Err(NoMemory);
+    }
+    Ok(Fault {
         layer: Layer::Session,
         name: form_name(fault),
         at: u64::from(fault_place(tsdu, fault)),
-    }
+    })
 }
 
-/// The fault of an SPDU whose first octet has this place in its TSDU.
-pub(crate) fn state_fault(place: u32, fault: SessionError) -> Fault
-    ensures { result ≡ of_state place fault }
+/// The fault of an SPDU whose first octet has this place in its TSDU, where memory wasn't wanting.
+pub(crate) fn state_fault(place: u32, fault: SessionError) -> Result<Fault, NoMemory>
+    ensures ok { IfOk result (λ told. (fault ≢ SessionError.NoMemory) × (told ≡ of_state place fault)) }
+    ensures err { OnErr result (fault ≡ SessionError.NoMemory) }
 {
     let name = match fault {
         SessionError::State { .. } => FaultName::State,
         SessionError::Serial { .. } => FaultName::Serial,
         SessionError::Token => FaultName::Token,
-        SessionError::NoMemory => FaultName::State,
+        SessionError::NoMemory => return Err(NoMemory),
     };
-    Fault {
+    Ok(Fault {
         layer: Layer::Session,
         name,
         at: u64::from(place),
-    }
+    })
 }
 
 pub(crate) fn upper_fault(fault: UpperError) -> Fault

@@ -1,13 +1,13 @@
 ghost use Rattle.std.specs.Prelude.{◌≡◌, IfOk};
 
 use std::alloc::Global;
-use vf_base::{Duplicate, Element, NoMemory, copy_option};
-use vf_pdu::Pdu;
+use vf_base::{Element, NoMemory};
+use vf_pdu::{Boxed, Pdu};
 
-/// A PDU or a data element.
+/// A PDU, on the heap, or a data element.
 #[derive(Drop)]
 pub enum Item {
-    Pdu(Pdu),
+    Pdu(Boxed<Pdu>),
     Element(Element),
 }
 
@@ -50,30 +50,31 @@ pub enum FaultName {
     Range,
 }
 
-/// What the other end sent, or what is at fault in it. Serial numbers are 0 to 999,999.
+/// What the other end sent, or what is at fault in it. Serial numbers are 0 to 999,999. A PDU stands on the heap, so that
+/// an indication is small.
 #[derive(Drop)]
 pub enum Indication {
     /// F-INITIALIZE request; `sync` where minor synchronize and resynchronize are proposed.
     Associate {
         sync: bool,
-        pdu: Pdu,
+        pdu: Boxed<Pdu>,
     },
     /// F-INITIALIZE response that accepts; `sync` where they are agreed.
     Accepted {
         sync: bool,
-        pdu: Pdu,
+        pdu: Boxed<Pdu>,
     },
     /// F-INITIALIZE response that refuses, or a refusal by a lower layer without a PDU.
     Refused {
-        pdu: Option<Pdu>,
+        pdu: Option<Boxed<Pdu>>,
     },
     /// F-TERMINATE request.
     Release {
-        pdu: Pdu,
+        pdu: Boxed<Pdu>,
     },
     /// F-TERMINATE response.
     Released {
-        pdu: Pdu,
+        pdu: Boxed<Pdu>,
     },
     /// A PDU or a data element in P-DATA.
     Item(Item),
@@ -88,24 +89,24 @@ pub enum Indication {
     /// F-RESTART request in a resynchronization.
     Restart {
         serial: u32,
-        pdu: Pdu,
+        pdu: Boxed<Pdu>,
     },
     /// F-RESTART response in the answer to it.
     Restarted {
         serial: u32,
-        pdu: Pdu,
+        pdu: Boxed<Pdu>,
     },
     /// F-CANCEL request in a resynchronization.
     Cancel {
-        pdu: Pdu,
+        pdu: Boxed<Pdu>,
     },
     /// F-CANCEL response in the answer to it.
     Cancelled {
-        pdu: Pdu,
+        pdu: Boxed<Pdu>,
     },
     /// F-U-ABORT, F-P-ABORT, or an abort without a PDU.
     Abort {
-        pdu: Option<Pdu>,
+        pdu: Option<Boxed<Pdu>>,
     },
     /// Nothing is received after it.
     Fault {
@@ -121,8 +122,15 @@ impl Item {
         ensures { IfOk result (λ made. made ≡ self.now) }
     {
         match self {
-            Item::Pdu(pdu) => Ok(Item::Pdu(pdu.copy(alloc)?)),
-            Item::Element(element) => Ok(Item::Element(element.copy(alloc)?)),
+            Item::Pdu(pdu) => {
+                let copy = pdu.value().copy(alloc)?;
+                let copy = Boxed::new(alloc, copy)?;
+                Ok(Item::Pdu(copy))
+            }
+            Item::Element(element) => {
+                let copy = element.copy(alloc)?;
+                Ok(Item::Element(copy))
+            }
         }
     }
 }

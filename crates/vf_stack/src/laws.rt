@@ -6,7 +6,7 @@ ghost use Rattle.vf_stack.specs.declared.indication.Indication.{Indication};
 ghost use Rattle.vf_session.specs.declared.units.TokenSide.{TokenSide};
 ghost use Rattle.vf_stack.specs.Association.{Association, end_of};
 ghost use Rattle.vf_stack.specs.Pieces.{AreCut, TellOnce, TellsByOctets, TellsInPieces};
-ghost use Rattle.vf_stack.specs.Rows.{WorkedCarriage, WorkedRows};
+ghost use Rattle.vf_stack.specs.Examples.{CarriageExamples, ReceivedExamples};
 ghost use Rattle.vf_tpkt.specs.Stream.{reading as stream_read};
 ghost use Rattle.vf_tpkt.specs.Wanting.{TellsOnce};
 
@@ -28,9 +28,9 @@ pub fn octets_tell_once()
 {}
 
 /// Examples of what is received: the definitions compute what each comes to.
-pub fn worked_rows_compute()
-    ensures rows { WorkedRows }
-    ensures carriage { WorkedCarriage }
+pub fn examples_compute()
+    ensures received { ReceivedExamples }
+    ensures carriage { CarriageExamples }
 {}
 
 /// What one end may send the other receives, where both agree by session and nothing is on its way: a unit whose user data

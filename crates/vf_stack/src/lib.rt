@@ -5,12 +5,16 @@
 mod carriage;
 mod contexts;
 mod ending;
+mod exchange;
 mod fault;
 mod indication;
 mod laws;
+mod stack;
+mod told;
 
 pub use ending::Ending;
 pub use indication::{FaultName, Indication, Item, Layer};
 pub use laws::{
-    octets_tell_once, octets_tell_the_piece, pieces_tell_all, sent_is_received, worked_rows_compute,
+    examples_compute, octets_tell_once, octets_tell_the_piece, pieces_tell_all, sent_is_received,
 };
+pub use stack::Stack;

@@ -1,4 +1,4 @@
--- Worked rows of what is received: what is told, and how receiving goes on or ends.
+-- Examples of what is received: what is told, and how receiving goes on or ends.
 use Rattle.std.specs.Prelude.{◌≡◌, false, true, List, [], ◌∷◌, None, Some, Ok, Err}
 use Rattle.vf_elements.specs.declared.message.Message.TheVariants as messages
 use Rattle.vf_pdu.specs.declared.pdu.Pdu.TheVariants.{CancelRequest, DataEnd}
@@ -36,7 +36,7 @@ told indications ending = record { indications = indications; exchange = record 
 abbrev pub joined_by : List Indication → SessionSay → Received
 joined_by indications unit = record { indications = indications; exchange = record { trace = with_received Responder unit []; ending = Open } }
 
-pub record WorkedRows : Type 0 where
+pub record ReceivedExamples : Type 0 where
   pub connection : received_next Responder first transport.Connected ≡ told [] Open
   pub disconnection : each (received_next Responder) first (transport.Ended ∷ transport.Connected ∷ []) ≡ told [] Broken
   pub bad_packet : stopped_by first (Some (Length 15)) ≡ told (Fault Transport names.Length 15 ∷ []) Refused
@@ -46,7 +46,7 @@ pub record WorkedRows : Type 0 where
   pub token : unit_received Responder first (say.Token Responder) ≡ joined_by [] (say.Token Responder)
 
 -- What a value or a unit tells by its PDU.
-pub record WorkedCarriage : Type 0 where
+pub record CarriageExamples : Type 0 where
   pub data_end : item_told true (Ok (messages.Pdu (DataEnd None))) ≡ Ok (Item (items.Pdu (DataEnd None)))
   pub cancel_in_data : item_told false (Ok (messages.Pdu (CancelRequest None))) ≡ Ok (Item (items.Pdu (CancelRequest None)))
   pub cancel_in_data_with_sync : item_told true (Ok (messages.Pdu (CancelRequest None))) ≡ Err misplaced

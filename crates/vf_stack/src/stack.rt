@@ -1,0 +1,191 @@
+//! One end of an association: what it receives, and what may be fed to it.
+ghost use Rattle.std.specs.Prelude.{◌≡◌, ◌+◌, ◌++◌, ◌≤◌, [], IfOk, List, OnErr, OnOk, length, ℕ};
+ghost use Rattle.vf_stack.specs.Association.{Association, beginning, is_ended as is_over};
+ghost use Rattle.vf_stack.specs.Pieces.{TellOnce};
+ghost use Rattle.vf_stack.specs.Receiving.{octets_received, piece_received};
+ghost use Rattle.vf_stack.specs.Represents.{Feeds, Listens, Represents, offer_of, side_of};
+ghost use Rattle.vf_session.specs.Sending.{holds_token};
+ghost use Rattle.vf_session.specs.Trace.{next, state as state_of};
+ghost use Rattle.vf_session.specs.declared.units.TokenSide.TheVariants as sides;
+ghost use Rattle.vf_tpkt.specs.Receiving.{onward};
+ghost use Rattle.vf_tpkt.specs.Tpdu.{packet, request};
+ghost use Rattle.vf_tpkt.specs.Wanting.{lacking};
+ghost use Rattle.vf_tpkt.specs.declared.limits.TheConstants.{MOST_PACKET_OCTETS};
+
+use crate::exchange::KeptExchange;
+use crate::{Ending, Indication};
+use std::alloc::Global;
+use std::marker::Model;
+use vf_base::{MOST_VALUE_OCTETS, NoMemory};
+use vf_session::{Session, SessionState, TokenSide};
+use vf_tpkt::{Tpkt, TpktError, Unit};
+use vf_upper::{Contexts, Offers};
+
+/// One end of an association over its four lower layers.
+#[derive(Drop)]
+pub struct Stack {
+    transport: Tpkt,
+    exchange: KeptExchange,
+    alloc: Global,
+}
+
+impl Model for Stack {
+    ghost use Rattle.vf_stack.specs.Represents.{Kept};
+
+    ghost Value = { Kept };
+
+    ghost view = { λ s. record { transport = s.transport; exchange = s.exchange } };
+}
+
+/// What is kept before anything was received.
+fn begun(alloc: Global, session: Session) -> KeptExchange
+    ensures { result ≡ record { session = session; state = session.state; offers = []; accepted = []; ending = Ending.Open } }
+{
+    KeptExchange {
+        state: session.state(),
+        session,
+        offers: Offers::new(alloc),
+        accepted: Contexts::new(alloc),
+        ending: Ending::Open,
+    }
+}
+
+/// Whether sync is agreed where the connection stands, and this end has the token.
+fn has_token(state: &SessionState, own: TokenSide) -> bool
+    ensures { result ≡ holds_token own state.now }
+{
+    let names_own = match state.token {
+        TokenSide::Initiator => matches!(own, TokenSide::Initiator),
+        TokenSide::Responder => matches!(own, TokenSide::Responder),
+    };
+    state.agreed && names_own
+}
+
+impl Stack {
+    /// The calling end, which sends its CR, and is to propose sync or not. Without memory nothing is appended.
+    pub fn calling(alloc: Global, sync: bool, out: &mut Vec<u8>) -> Result<Stack, NoMemory>
+        ensures stack { IfOk result (λ stack. (side_of stack ≡ sides.Initiator) × Represents stack beginning) }
+        ensures offer { IfOk result (λ stack. offer_of stack ≡ sync) }
+        ensures ok { OnOk result (out.new.items ≡ out.old.items ++ packet request) }
+        ensures err { OnErr result (out.new.items ≡ out.old.items) }
+    {
+        let transport = Tpkt::calling(alloc, out)?;
+        Ok(Stack {
+            transport,
+            exchange: begun(alloc, Session::calling(sync)),
+            alloc,
+        })
+    }
+
+    /// The called end, which waits for a CR.
+    pub fn called(alloc: Global) -> Result<Stack, NoMemory>
+        ensures { IfOk result (λ stack. (side_of stack ≡ sides.Responder) × Represents stack beginning) }
+    {
+        let transport = Tpkt::called(alloc)?;
+        Ok(Stack {
+            transport,
+            exchange: begun(alloc, Session::called()),
+            alloc,
+        })
+    }
+
+    /// Receives the next octets of the stream, one by one, up to the one that ends receiving: appends what they tell, and
+    /// the octets that answer them. An end that is ended takes nothing. Without memory the stack is only to be dropped.
+    pub fn feed(
+        &mut self,
+        piece: &[u8],
+        out: &mut Vec<Indication>,
+        answers: &mut Vec<u8>,
+    ) -> Result<(), NoMemory>
+        // Of every association that the stack represents.
+        ensures received { (a : Association) → Represents self.old a → OnOk result (Feeds (octets_received (side_of self.old) a piece.now) out.old.items answers.old.items self.new out.new.items answers.new.items) }
+        ensures end { OnOk result (side_of self.new ≡ side_of self.old) }
+    {
+        let mut rest = piece;
+        while !rest.is_empty() {
+            let wanted = self.transport.wanted();
+            let (front, more) = rest.split_at(wanted.min(rest.len()));
+            self.feed_few(front, out, answers)?;
+            rest = more;
+        }
+        Ok(())
+    }
+
+    /// Receives so few octets that they tell one thing at most.
+    fn feed_few(
+        &mut self,
+        piece: &[u8],
+        out: &mut Vec<Indication>,
+        answers: &mut Vec<u8>,
+    ) -> Result<(), NoMemory>
+        ensures received { (a : Association) → Represents self.old a → OnOk result (Feeds (piece_received (side_of self.old) a piece.now) out.old.items answers.old.items self.new out.new.items answers.new.items) }
+        ensures end { OnOk result (side_of self.new ≡ side_of self.old) }
+    {
+        if self.ended() {
+            return Ok(());
+        }
+        let mut units = Vec::new(self.alloc);
+        let fault = self.listen(piece, &mut units, answers)?;
+        self.exchange.receive_all(self.alloc, units, out)?;
+        self.exchange.stop(fault, out)
+    }
+
+    /// Receives octets as transport does, to its fault if it comes to one.
+    fn listen(
+        &mut self,
+        piece: &[u8],
+        units: &mut Vec<Unit>,
+        answers: &mut Vec<u8>,
+    ) -> Result<Option<TpktError>, NoMemory>
+        ensures { IfOk result (λ fault. Listens self.old (onward self.old.transport piece.now) units.old.items answers.old.items self.new units.new.items answers.new.items fault) }
+    {
+        match self.transport.feed(piece, units, answers) {
+            Ok(()) => Ok(None),
+            Err(TpktError::NoMemory) => Err(NoMemory),
+            Err(fault) => Ok(Some(fault)),
+        }
+    }
+
+    /// How many octets may be fed before something may be told or answered: fed at most so many, `feed` tells one unit's
+    /// indications or one answer at most, by the last of them or by one after which it tells nothing. At least 1.
+    pub fn wanted(&self) -> usize
+        ensures some { 1 ≤ result }
+        ensures bound { result ≤ MOST_PACKET_OCTETS }
+        ensures exact { result ≡ lacking self.now.transport.packet }
+        ensures once { (a : Association) (first second : List ℕ) → Represents self.now a → length (first ++ second) ≤ result → TellOnce (side_of self.now) a first second }
+    {
+        self.transport.wanted()
+    }
+
+    /// Nothing more is received: after a fault, a DR or ER, an abort, a refusal or an answered release.
+    pub fn ended(&self) -> bool
+        ensures state { result ≡ is_over self.now.exchange.ending }
+        ensures association { (a : Association) → Represents self.now a → result ≡ is_over a.exchange.ending }
+    {
+        self.exchange.is_ended()
+    }
+
+    /// Whether sync is agreed and this end has the token.
+    pub fn token(&self) -> bool
+        ensures state { result ≡ holds_token (side_of self.now) self.now.exchange.state }
+        ensures association { (a : Association) → Represents self.now a → result ≡ holds_token (side_of self.now) (state_of (side_of self.now) a.exchange.trace) }
+    {
+        has_token(&self.exchange.state, self.exchange.session.side())
+    }
+
+    /// The number that the next check will have, 1 before any CN.
+    pub fn next_serial(&self) -> u32
+        ensures state { result ≡ self.now.exchange.state.next }
+        ensures association { (a : Association) → Represents self.now a → result ≡ next a.exchange.trace }
+    {
+        self.exchange.state.next
+    }
+
+    /// The octets held that are told in no indication.
+    pub fn held(&self) -> u64
+        ensures held { result ≡ length self.now.transport.packet + length self.now.transport.connection.tsdu }
+        ensures bound { result ≤ MOST_VALUE_OCTETS + MOST_PACKET_OCTETS }
+    {
+        self.transport.held()
+    }
+}
