@@ -7,5 +7,6 @@ pub mod Receiving
 pub mod Pieces
 pub mod Represents
 pub mod Examples
+pub mod Requests
 pub mod Sending
 pub mod Mutual

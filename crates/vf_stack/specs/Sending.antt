@@ -1,10 +1,101 @@
--- What a unit of session is sent as.
-use Rattle.std.specs.Prelude.{ℕ, List}
+-- What one end sends of a unit and of a request, when it may, and what joins the trace.
+use Rattle.std.specs.Prelude.{◌≤◌, ℕ, Bool, ◌||◌, nat_eq, IsTrue, List, length, Option, None, Some}
 use Rattle.std.specs.List.{flat_map}
-use Rattle.vf_session.specs.Sending.{spdus}
+use Rattle.vf_base.specs.declared.limits.TheConstants.{MOST_VALUE_OCTETS}
+use Rattle.vf_elements.specs.ElementValue.{IsWritable as IsElement}
+use Rattle.vf_pdu.specs.PduMeaning.{IsInRange}
+use Rattle.vf_pdu.specs.PduNumbers.{number_of}
+use Rattle.vf_pdu.specs.declared.pdu.Pdu.{Pdu}
+use Rattle.vf_session.specs.Sending.{may as session_may, spdus}
+use Rattle.vf_session.specs.Trace.{with_sent}
 use Rattle.vf_session.specs.declared.units.SessionSay.{SessionSay}
 use Rattle.vf_session.specs.declared.units.TokenSide.{TokenSide}
 use Rattle.vf_session_spdu.specs.Spelling.{spelling}
+use Rattle.vf_stack.specs.Association.{Association, end_of}
+use Rattle.vf_stack.specs.Carriage.{goes_in_data}
+use Rattle.vf_stack.specs.Contexts.{Standing, standing}
+use Rattle.vf_stack.specs.Receiving.{ending_by}
+use Rattle.vf_stack.specs.Requests.{contexts_of, primitive_of, unit_of}
+use Rattle.vf_stack.specs.declared.ending.Ending.{Ending}
+use Rattle.vf_stack.specs.declared.ending.Ending.TheVariants.{Open, Refused as RefusedEnding, Partly}
+use Rattle.vf_stack.specs.declared.indication.Item.{Item as ItemOf}
+use Rattle.vf_stack.specs.declared.indication.Item.TheVariants as items
+use Rattle.vf_stack.specs.declared.request.Request.{Request}
+use Rattle.vf_stack.specs.declared.request.Request.TheVariants.{Associate, Accept, Refuse, Release, Released, Item, Restart, Restarted, Cancel, Cancelled, Abort}
+use Rattle.vf_tpkt.specs.Sending.{most_of, sent as packets, stands}
+use Rattle.vf_tpkt.specs.Stream.{reading as stream_reading}
+use Rattle.vf_upper.specs.Written.{IsWritable}
+use Rattle.vf_upper.specs.declared.contexts.ContextEntry.{ContextEntry}
+use Rattle.vf_upper.specs.declared.primitive.Primitive.{Primitive}
 
 abbrev pub tsdu_of : TokenSide → SessionSay → List ℕ
 tsdu_of own unit = flat_map spelling (spdus own unit)
+
+-- ---- a request
+
+abbrev pub unit_sent : TokenSide → Association → Request → SessionSay
+unit_sent own a request = unit_of own (standing own a.exchange.trace) request
+
+-- its packets, of the size that transport agreed
+abbrev pub octets_sent : TokenSide → Association → Request → List ℕ
+octets_sent own a request = packets (most_of (stream_reading (end_of own) a.stream).kept.connection.phase) (tsdu_of own (unit_sent own a request))
+
+-- Its unit joins the trace, and ends receiving as one that is received.
+abbrev pub with_request : TokenSide → Association → Request → Association
+with_request own a request =
+    let unit = unit_sent own a request in
+    record { stream = a.stream; exchange = record { trace = with_sent own unit a.exchange.trace; ending = ending_by unit } }
+
+-- ---- when it may be sent
+
+-- The PDU is one that this request carries, and in range; an element can be written.
+abbrev pub IsDue : Bool → Pdu → Type 0
+IsDue is_due pdu = IsTrue is_due × IsInRange pdu
+
+abbrev pub IsItem : Bool → ItemOf → Type 0
+IsItem sync (items.Pdu pdu) = IsDue (goes_in_data sync (number_of pdu)) pdu
+IsItem sync (items.Element element) = IsElement element
+
+abbrev pub IsMaybe : (Pdu → Bool) → Option Pdu → Type 0
+IsMaybe is_due None = Unit {0}
+IsMaybe is_due (Some pdu) = IsDue (is_due pdu) pdu
+
+abbrev pub IsCarried : Standing → Request → Type 0
+IsCarried s (Associate sync pdu) = IsDue (nat_eq (number_of pdu) 0) pdu
+IsCarried s (Accept sync pdu) = IsDue (nat_eq (number_of pdu) 1) pdu
+IsCarried s (Refuse pdu) = IsMaybe (λ pdu. nat_eq (number_of pdu) 1) pdu
+IsCarried s (Release pdu) = IsDue (nat_eq (number_of pdu) 2) pdu
+IsCarried s (Released pdu) = IsDue (nat_eq (number_of pdu) 3) pdu
+IsCarried s (Item item) = IsItem s.state.agreed item
+IsCarried s (Restart serial pdu) = IsDue (nat_eq (number_of pdu) 39) pdu
+IsCarried s (Restarted serial pdu) = IsDue (nat_eq (number_of pdu) 40) pdu
+IsCarried s (Cancel pdu) = IsDue (nat_eq (number_of pdu) 37) pdu
+IsCarried s (Cancelled pdu) = IsDue (nat_eq (number_of pdu) 38) pdu
+IsCarried s (Abort pdu) = IsMaybe (λ pdu. nat_eq (number_of pdu) 4 || nat_eq (number_of pdu) 5) pdu
+IsCarried s request = Unit {0}
+
+-- its user data are within the limits, and in contexts that are accepted
+abbrev pub IsWritten : List ContextEntry → Option Primitive → Type 0
+IsWritten contexts None = Unit {0}
+IsWritten contexts (Some primitive) = IsWritable primitive contexts
+
+pub record IsSendable (own : TokenSide) (s : Standing) (request : Request) : Type 0 where
+  pub carried : IsCarried s request
+  pub is_written : IsWritten (contexts_of s request) (primitive_of s request)
+  pub fits : length (tsdu_of own (unit_of own s request)) ≤ MOST_VALUE_OCTETS
+
+abbrev pub IsAbort : Request → Type 0
+IsAbort (Abort pdu) = Unit {0}
+IsAbort request = ⊥
+
+-- After a fault of which nothing else was told an abort alone, whatever session would say; after the end nothing.
+abbrev pub Permits : TokenSide → Bool → Standing → Request → Ending → Type 0
+Permits own offer s request Open = IsTrue (session_may own offer s.state (unit_of own s request))
+Permits own offer s request Partly = IsTrue (session_may own offer s.state (unit_of own s request))
+Permits own offer s request RefusedEnding = IsAbort request
+Permits own offer s request ending = ⊥
+
+pub record May (own : TokenSide) (offer : Bool) (a : Association) (request : Request) : Type 0 where
+  pub connected : IsTrue (stands (stream_reading (end_of own) a.stream).kept)
+  pub permitted : Permits own offer (standing own a.exchange.trace) request a.exchange.ending
+  pub sendable : IsSendable own (standing own a.exchange.trace) request

@@ -9,6 +9,7 @@ mod exchange;
 mod fault;
 mod indication;
 mod laws;
+mod request;
 mod stack;
 mod told;
 
@@ -17,4 +18,5 @@ pub use indication::{FaultName, Indication, Item, Layer};
 pub use laws::{
     examples_compute, octets_tell_once, octets_tell_the_piece, pieces_tell_all, sent_is_received,
 };
+pub use request::Request;
 pub use stack::Stack;
