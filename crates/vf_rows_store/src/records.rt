@@ -1,6 +1,6 @@
 //! Octets as records of changes.
 use std::test::Fail;
-use vf_store_record::read;
+use vf_store_record::{read, write};
 use vf_tables::{Change, Changes};
 
 /// Octets, and how many changes they are a record of; none where they are no record.
@@ -31,6 +31,20 @@ fn octets_are_read_as_changes(rt: HostRuntime) -> Result<(), Fail> {
     for (octets, wanted) in TABLE {
         let found = read(rt.alloc(), octets)?;
         assert!(rt; count_of(&found) == wanted);
+    }
+    Ok(())
+}
+
+#[test]
+fn what_is_read_is_written_as_the_same_octets(rt: HostRuntime) -> Result<(), Fail> {
+    for (octets, wanted) in TABLE {
+        let Some(changes) = read(rt.alloc(), octets)? else {
+            assert!(rt; wanted.is_none());
+            continue;
+        };
+        let mut out = Vec::new(rt.alloc());
+        write(changes.as_slice(), &mut out)?;
+        assert!(rt; out.as_slice() == octets);
     }
     Ok(())
 }

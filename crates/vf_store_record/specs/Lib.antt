@@ -3,3 +3,4 @@ pub mod Fields
 pub mod Entries
 pub mod Records
 pub mod Reading
+pub mod Writing

@@ -15,7 +15,7 @@ use vf_base::{Constraint, Contents, DataUnit, Element, FaduId, Name, NoMemory, O
 use vf_tree::{MOST_FILE_OCTETS, MOST_FILE_PARTS, Tree, octets_of};
 
 /// The number of the document type.
-fn kind_number(contents: &Contents) -> u8
+pub(crate) fn kind_number(contents: &Contents) -> u8
     ensures { result ≡ number_meant contents.now.kind }
 {
     let arcs = contents.kind.arcs();

@@ -1,4 +1,4 @@
-//! The record of changes (profile): its octets are read.
+//! The record of changes (profile): its octets are read and written.
 #![tactic(auto)]
 
 mod changes;
@@ -9,6 +9,8 @@ mod fields;
 mod files;
 mod plans;
 mod regimes;
+mod writing;
 
 pub use changes::read;
 pub(crate) use error::ReadError;
+pub use writing::write;

@@ -1,0 +1,9 @@
+use Rattle.std.proofs.Common.{refl}
+use Rattle.vf_store_record.specs.Records.{change}
+use Rattle.vf_store_record.proofs.Again.{tagged}
+use Rattle.vf_tables.specs.declared.change.Change.TheVariants.{PutTask}
+use Rattle.vf_store_record.proofs.writing.changes.task_put.Goals as goal
+
+pub returns : goal.returns
+unfolding change
+returns c = tagged change 9 PutTask (λ q. tt) refl (λ q octets. refl) c.in_ok-put_octet.ensures (c.in_ok-put_plan.ensures)

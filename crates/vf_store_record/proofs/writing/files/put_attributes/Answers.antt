@@ -1,0 +1,8 @@
+use Rattle.std.proofs.Common.{Some, refl}
+use Rattle.vf_store_record.specs.Entries.{attributes, attributes_from, attributes_parts}
+use Rattle.vf_store_record.proofs.Again.{both_writes, made_writes}
+use Rattle.vf_store_record.proofs.writing.files.put_attributes.Goals as goal
+
+pub returns : goal.returns
+unfolding attributes
+returns c = made_writes (λ row. Some (attributes_from row)) attributes_parts c.args.attributes.now (λ q. (q, (tt, tt))) (λ q. refl) (both_writes c.in_ok-put_settings.ensures (both_writes c.in_ok-put_stamps.ensures c.in_ok-put_u32.ensures))
