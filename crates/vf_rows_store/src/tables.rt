@@ -1,8 +1,10 @@
 //! Entries of tables, copied.
 use std::alloc::Global;
 use std::test::Fail;
-use vf_base::{Actions, BaseError, Control, Controls, FaduId, Name, NoMemory, Octets, Sequence};
-use vf_tables::{Direction, Docket, Phase, Plan, Regime, Task, User, Way};
+use vf_base::{
+    Actions, BaseError, Control, Controls, Elements, FaduId, Name, NoMemory, Octets, Sequence,
+};
+use vf_tables::{Direction, Docket, Entries, Phase, Plan, Regime, Task, User, Way};
 
 fn user(alloc: Global) -> Result<User, BaseError> {
     let identity = Name::of(alloc, b"ann")?;
@@ -65,8 +67,8 @@ fn a_user_is_copied(rt: HostRuntime) -> Result<(), Fail> {
 }
 
 /// One empty piece.
-fn pieces(alloc: Global) -> Result<Sequence<vf_base::Elements>, NoMemory> {
-    let mut pieces = Sequence::new(alloc);
+fn pieces(alloc: Global) -> Result<Entries<Elements>, NoMemory> {
+    let mut pieces = Entries::new(alloc);
     pieces.push(Sequence::new(alloc))?;
     Ok(pieces)
 }

@@ -1,5 +1,5 @@
 -- The changes that make all of some tables (profile): users, files, dockets and their staged pieces, tasks and theirs.
-use Rattle.std.specs.Prelude.{ℕ, ◌+◌, Bool, ◌&&◌, List, [], ◌∷◌, ◌++◌, map}
+use Rattle.std.specs.Prelude.{ℕ, ◌+◌, ◌<◌, ◌^◌, Bool, ◌&&◌, List, [], ◌∷◌, ◌++◌, length, map, All}
 use Rattle.std.specs.List.{flat_map, list_all}
 use Rattle.vf_attr.specs.declared.file.File.{File}
 use Rattle.vf_base.specs.declared.element.Element.{Element}
@@ -41,6 +41,10 @@ snapshot tables =
     map (λ (user : User). PutUser user) tables.users ++ (map (λ (file : File). PutFile file) tables.files
     ++ (map (λ (docket : Docket). PutDocket docket.regime) tables.dockets ++ (flat_map stages_of tables.dockets
     ++ (map (λ (task : Task). PutTask task.plan) tables.tasks ++ flat_map task_stages_of tables.tasks))))
+
+-- no docket and no task has so many pieces that their numbers wouldn't be numbers of checkpoints
+abbrev pub HasFewPieces : Tables → Type 0
+HasFewPieces tables = All (λ (docket : Docket). length docket.staged < 2 ^ 32) tables.dockets × All (λ (task : Task). length task.staged < 2 ^ 32) tables.tasks
 
 -- Tables that records may make: they are valid, and each field is in its range.
 abbrev pub is_kept : Tables → Bool

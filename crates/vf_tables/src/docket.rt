@@ -1,9 +1,9 @@
 ghost use Rattle.std.specs.Prelude.{◌≡◌, IfOk};
 
+use crate::Entries;
 use std::alloc::Global;
 use vf_base::{
-    Actions, Context, Controls, Duplicate, Elements, FaduId, Name, NoMemory, Octets, Sequence,
-    copy_option,
+    Actions, Context, Controls, Duplicate, Elements, FaduId, Name, NoMemory, Octets, copy_option,
 };
 
 /// What a write does at the FADU that it names (ISO 8571-3, F-WRITE; the numbers are profile).
@@ -96,7 +96,7 @@ impl Regime {
 #[derive(Drop)]
 pub struct Docket {
     pub regime: Regime,
-    pub staged: Sequence<Elements>,
+    pub staged: Entries<Elements>,
 }
 
 impl Docket {

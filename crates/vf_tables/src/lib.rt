@@ -3,14 +3,22 @@
 #![tactic(auto)]
 
 mod change;
+mod changes;
 mod docket;
+mod entries;
+mod fitting;
 mod limits;
+mod making;
+mod places;
+mod snapshot;
 mod tables;
 mod task;
 mod user;
+mod validity;
 
 pub use change::{Change, Changes};
 pub use docket::{Direction, Docket, Operation, Regime};
+pub use entries::Entries;
 pub use limits::{
     MOST_ACTIVITY, MOST_DOCKETS, MOST_EVERY, MOST_FILES, MOST_FILESTORE_OCTETS,
     MOST_PASSWORD_OCTETS, MOST_POINT, MOST_SURVIVING_ELEMENTS, MOST_SURVIVING_OCTETS, MOST_TASKS,

@@ -1,18 +1,23 @@
-use crate::{Docket, Task, User};
+ghost use Rattle.std.specs.Prelude.{◌≡◌, IfOk, option_copied};
+ghost use Rattle.vf_tables.specs.Entries.{docket_of, file_of, no_tables, task_of, user_of};
+
+use crate::places::{docket_in, file_in, task_in, user_in};
+use crate::{Docket, Entries, Task, User};
+use std::alloc::Global;
 use vf_attr::File;
-use vf_base::Sequence;
+use vf_base::{Name, NoMemory};
 
 /// The users, in the order in which they were made.
-pub type Users = Sequence<User>;
+pub type Users = Entries<User>;
 
 /// The files, in the order in which they were made.
-pub type Files = Sequence<File>;
+pub type Files = Entries<File>;
 
 /// The dockets of recoverable regimes, those of the regimes that stand among them, in the order of their opens.
-pub type Dockets = Sequence<Docket>;
+pub type Dockets = Entries<Docket>;
 
 /// The tasks of the initiator, in the order in which they were made.
-pub type Tasks = Sequence<Task>;
+pub type Tasks = Entries<Task>;
 
 /// What a filestore keeps.
 #[derive(Drop)]
@@ -21,4 +26,74 @@ pub struct Tables {
     pub files: Files,
     pub dockets: Dockets,
     pub tasks: Tasks,
+}
+
+impl Tables {
+    /// The tables of a filestore that is just made.
+    pub fn new(alloc: Global) -> Tables
+        ensures { result ≡ no_tables }
+    {
+        Tables {
+            users: Entries::new(alloc),
+            files: Entries::new(alloc),
+            dockets: Entries::new(alloc),
+            tasks: Entries::new(alloc),
+        }
+    }
+
+    /// The user of this identity; `None` exactly where there is none.
+    pub fn user(&self, identity: &Name) -> Option<&User>
+        ensures { option_copied result ≡ user_of identity.now self.now }
+    {
+        user_in(self.users.as_slice(), identity)
+    }
+
+    /// The file of this name; `None` exactly where there is none.
+    pub fn file(&self, name: &Name) -> Option<&File>
+        ensures { option_copied result ≡ file_of name.now self.now }
+    {
+        file_in(self.files.as_slice(), name)
+    }
+
+    /// The docket of this identity and activity; `None` exactly where there is none.
+    pub fn docket(&self, identity: &Name, activity: u32) -> Option<&Docket>
+        ensures { option_copied result ≡ docket_of identity.now activity self.now }
+    {
+        docket_in(self.dockets.as_slice(), identity, activity)
+    }
+
+    /// The task of this activity; `None` exactly where there is none.
+    pub fn task(&self, activity: u32) -> Option<&Task>
+        ensures { option_copied result ≡ task_of activity self.now }
+    {
+        task_in(self.tasks.as_slice(), activity)
+    }
+
+    /// Equal tables; octets are shared.
+    pub fn copy(&self, alloc: Global) -> Result<Tables, NoMemory>
+        ensures { IfOk result (λ tables. tables ≡ self.now) }
+    {
+        let users = self.users.copy(alloc)?;
+        let files = copied(alloc, self.files.as_slice())?;
+        let dockets = self.dockets.copy(alloc)?;
+        let tasks = self.tasks.copy(alloc)?;
+        Ok(Tables {
+            users,
+            files,
+            dockets,
+            tasks,
+        })
+    }
+}
+
+/// Equal files, which share their units.
+fn copied(alloc: Global, files: &[File]) -> Result<Files, NoMemory>
+    ensures { IfOk result (λ made. made ≡ files.now) }
+{
+    let mut made = Entries::new(alloc);
+    for file in files {
+        let file = file.copy(alloc)?;
+        made.push(file)?;
+    }
+    Ok(made)
 }

@@ -1,7 +1,8 @@
 ghost use Rattle.std.specs.Prelude.{◌≡◌, IfOk};
 
+use crate::Entries;
 use std::alloc::Global;
-use vf_base::{Duplicate, Elements, Name, NoMemory, Sequence};
+use vf_base::{Duplicate, Elements, Name, NoMemory};
 
 /// Whether a task fetches a file or sends one.
 #[derive(Clone, Copy, Debug, PartialEq, Eq)]
@@ -71,7 +72,7 @@ impl Plan {
 #[derive(Drop)]
 pub struct Task {
     pub plan: Plan,
-    pub staged: Sequence<Elements>,
+    pub staged: Entries<Elements>,
 }
 
 impl Task {
