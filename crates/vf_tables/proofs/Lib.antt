@@ -1,2 +1,4 @@
 pub mod Placed
 pub mod Sizes
+mod Ranges
+mod Snapshots

@@ -5,3 +5,4 @@ pub mod Fitting
 pub mod Validity
 pub mod Making
 pub mod Snapshot
+pub mod Laws

@@ -7,6 +7,7 @@ mod changes;
 mod docket;
 mod entries;
 mod fitting;
+mod laws;
 mod limits;
 mod making;
 mod places;
@@ -19,6 +20,7 @@ mod validity;
 pub use change::{Change, Changes};
 pub use docket::{Direction, Docket, Operation, Regime};
 pub use entries::Entries;
+pub use laws::{kept_stay, snapshot_makes};
 pub use limits::{
     MOST_ACTIVITY, MOST_DOCKETS, MOST_EVERY, MOST_FILES, MOST_FILESTORE_OCTETS,
     MOST_PASSWORD_OCTETS, MOST_POINT, MOST_SURVIVING_ELEMENTS, MOST_SURVIVING_OCTETS, MOST_TASKS,
