@@ -1,0 +1,5 @@
+pub mod Making
+pub mod Runs
+pub mod Causes
+pub mod Kept
+pub mod Committing

@@ -1,0 +1,10 @@
+//! A store of tables on a disk: what a commit changes stands on the disk whole or not at all, whenever a crash comes.
+#![tactic(auto)]
+
+mod commit;
+mod reading;
+mod store;
+mod writing;
+
+pub use store::Store;
+pub use vf_journal::JournalError as StoreError;

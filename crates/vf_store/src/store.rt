@@ -1,0 +1,134 @@
+ghost use Rattle.std.specs.Prelude.{◌≡◌, ℕ, List, Some, IfOk, OnOk, is_err};
+ghost use Rattle.vf_disk.specs.Calls.{MakesChanges};
+ghost use Rattle.vf_disk.specs.Disk.{LeavesOnly, LeavesShown};
+ghost use Rattle.vf_disk.specs.Steps.{MakesSteps};
+ghost use Rattle.vf_journal.specs.Answers.{FaultAlone, OpenCauses, is_fault};
+ghost use Rattle.vf_journal.specs.Image.{records_of};
+ghost use Rattle.vf_journal.specs.Layout.{new_journal};
+ghost use Rattle.vf_journal.specs.Looking.{IsSyncedAndLookedAt};
+ghost use Rattle.vf_journal.specs.Writes.{Shows, create_steps};
+ghost use Rattle.vf_store.specs.Answers.{CommitAnswers, CommitSteps, OpenAnswers};
+ghost use Rattle.vf_store.specs.Commit.{AreFitting, commit_steps, placed};
+ghost use Rattle.vf_store.specs.Represented.{IsNoneOrNew, Represents, RepresentsEither, read_from};
+ghost use Rattle.vf_store.specs.StoreState.{IsRepresented, answer_of, disk_of};
+ghost use Rattle.vf_tables.specs.Changes.{after_all};
+ghost use Rattle.vf_tables.specs.Entries.{no_tables};
+ghost use Rattle.vf_tables.specs.declared.tables.Tables.{Tables as TablesMeant};
+
+use crate::StoreError;
+use crate::commit::commit_on;
+use crate::reading::read;
+use std::alloc::Global;
+use std::marker::Model;
+use vf_disk::Disk;
+use vf_journal::{Journal, new_holds_none};
+use vf_tables::{Changes, Tables};
+
+/// Tables on a disk. After `DiskFault` it is spent: the disk has to be opened again.
+#[derive(Drop)]
+pub struct Store<D: Disk> {
+    disk: D,
+    journal: Journal,
+    tables: Tables,
+}
+
+impl<D: Disk> Model for Store<D> {
+    ghost use Rattle.vf_journal.specs.JournalState.{IsWithin};
+    ghost use Rattle.vf_store.specs.StoreState.{StoreState};
+
+    ghost Value = { StoreState D };
+
+    ghost view = { λ store. record { disk = store.disk; journal = store.journal; tables = store.tables } };
+
+    ghost invariant = { λ store. IsWithin store.journal (D.size store.disk) };
+}
+
+impl<D: Disk> Store<D> {
+    /// Makes a store of empty tables on an empty disk, in six calls. A crash at any moment leaves no store, or that one.
+    pub fn create(disk: &mut D) -> Result<(), StoreError>
+        requires { D.size disk.old ≡ 0 }
+        ensures made { (octets : List ℕ) → D.shown disk.old ≡ Some octets → OnOk result (D.shown disk.new ≡ Some new_journal) }
+        ensures represents { Represents new_journal no_tables }
+        ensures seen { (octets : List ℕ) → D.shown disk.old ≡ Some octets → Shows (D.shown disk.new) IsNoneOrNew }
+        ensures synced { OnOk result (LeavesShown (D.shown disk.new) (D.may_leave disk.new)) }
+        ensures any_moment { (octets : List ℕ) → D.shown disk.old ≡ Some octets → LeavesShown (D.shown disk.old) (D.may_leave disk.old) → LeavesOnly D.moment D.left_since disk.old disk.new IsNoneOrNew }
+        ensures calls { MakesChanges 6 (D.plan disk.old) (D.plan disk.new) (is_err result) }
+        ensures steps { MakesSteps (create_steps) (D.plan disk.old) (D.plan disk.new) (D.state disk.old) (D.state disk.new) (is_err result) (D.lack_count disk.old) (D.lack_count disk.new) }
+        ensures causes { FaultAlone (D.fault_count disk.old) (D.fault_count disk.new) result }
+    {
+        new_holds_none();
+        Journal::create(disk)?;
+        Ok(())
+    }
+
+    /// Opens the store on a disk, whose records are to end within `limit` octets. The disk is synced, and otherwise only
+    /// looked at: while it is opened a crash leaves what one before might have left. Of records that aren't of the grammar
+    /// none counts, nor any after it.
+    ///
+    /// `NotAStore` comes where the first 16 octets differ from the header, at the first such place; where they agree and
+    /// the disk has fewer than 34 octets, at its length; and where the selected anchor is misplaced, at its place, 17 or
+    /// 25. With an error the disk is given back.
+    pub fn open(alloc: Global, disk: D, limit: u64) -> Result<Store<D>, (D, StoreError)>
+        ensures answers { (image : List ℕ) → D.shown disk ≡ Some image → OpenAnswers image (answer_of result) }
+        ensures tables { (image : List ℕ) → D.shown disk ≡ Some image → IfOk result (λ store. store.tables ≡ read_from (records_of image) no_tables) }
+        ensures represented { (image : List ℕ) (tables : TablesMeant) → D.shown disk ≡ Some image → Represents image tables
+            → IfOk result (λ store. (store.tables ≡ tables) × IsRepresented D.shown D.may_leave store) }
+        ensures any_moment { (tables : TablesMeant) → ((image : List ℕ) → D.may_leave disk image → Represents image tables)
+            → LeavesOnly D.moment D.left_since disk (disk_of result) (λ image. Represents image tables) }
+        ensures limit { IfOk result (λ store. store.journal.limit ≡ limit) }
+        ensures synced { IfOk result (λ store. LeavesShown (D.shown store.disk) (D.may_leave store.disk)) }
+        ensures looks { IsSyncedAndLookedAt D.shown D.size D.may_leave D.moment D.left_since D.plan D.state D.lack_count (is_fault (answer_of result)) disk (disk_of result) }
+        ensures causes { OpenCauses (D.fault_count disk) (D.fault_count (disk_of result)) (answer_of result) }
+    {
+        let mut disk = disk;
+        match read(alloc, &mut disk, limit) {
+            Ok((journal, tables)) => Ok(Store {
+                disk,
+                journal,
+                tables,
+            }),
+            Err(error) => Err((disk, error)),
+        }
+    }
+
+    /// The tables.
+    pub fn tables(&self) -> &Tables
+        ensures { result.now ≡ self.now.tables }
+    {
+        &self.tables
+    }
+
+    /// Makes all of the changes or none, in one record, after a switch to another area where one is due and possible. A
+    /// crash at any moment leaves an image that represents the tables before or after, and after `Ok` those after. This
+    /// holds of changes of which each fits the tables before it, where those after all are valid.
+    ///
+    /// `Full` comes where the record would end past the limit; then, and where memory is wanting, all is as before. A record
+    /// has at most 4,294,967,295 octets: for a longer one memory is wanting. After `DiskFault` the store is spent.
+    pub fn commit(&mut self, alloc: Global, changes: Changes) -> Result<(), StoreError>
+        ensures tables { OnOk result (self.new.tables ≡ after_all self.old.tables changes) }
+        ensures represented { AreFitting self.old.tables changes → IsRepresented D.shown D.may_leave self.old → OnOk result (IsRepresented D.shown D.may_leave self.new) }
+        ensures seen { AreFitting self.old.tables changes → IsRepresented D.shown D.may_leave self.old
+            → Shows (D.shown self.new.disk) (RepresentsEither self.old.tables (after_all self.old.tables changes)) }
+        ensures any_moment { AreFitting self.old.tables changes → IsRepresented D.shown D.may_leave self.old
+            → LeavesOnly D.moment D.left_since self.old.disk self.new.disk (RepresentsEither self.old.tables (after_all self.old.tables changes)) }
+        ensures answers { CommitAnswers self.old self.new (placed self.old.journal self.old.tables changes).end self.old.journal.limit (D.fault_count self.old.disk) (D.fault_count self.new.disk) result }
+        ensures steps { CommitSteps (commit_steps self.old.journal self.old.tables changes) (D.plan self.old.disk) (D.plan self.new.disk) (D.state self.old.disk) (D.state self.new.disk) (D.lack_count self.old.disk) (D.lack_count self.new.disk) result }
+        ensures limit { self.new.journal.limit ≡ self.old.journal.limit }
+    {
+        commit_on(
+            alloc,
+            &mut self.journal,
+            &mut self.disk,
+            &mut self.tables,
+            &changes,
+        )?;
+        Ok(())
+    }
+
+    /// The disk.
+    pub fn close(self) -> D
+        ensures { result ≡ self.disk }
+    {
+        self.disk
+    }
+}
