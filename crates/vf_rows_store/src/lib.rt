@@ -1,7 +1,9 @@
-//! Tests of public calls of the store's crates: records that are read, and tables that are copied.
+//! Tests of public calls of the store's crates: records that are read, tables that are copied, and stores that are stopped.
 #![tactic(auto)]
 
 #[cfg(test)]
 mod records;
+#[cfg(test)]
+mod store;
 #[cfg(test)]
 mod tables;
