@@ -2,3 +2,4 @@ pub mod Placed
 pub mod Sizes
 mod Ranges
 mod Snapshots
+mod Shown

@@ -1,5 +1,5 @@
 //! Whether tables are valid, which a filestore may keep.
-ghost use Rattle.std.specs.Prelude.{◌≡◌, ◌<◌, Bool, List, false, find, is_none, length, min, nat_le, not};
+ghost use Rattle.std.specs.Prelude.{◌≡◌, ◌&&◌, ◌<◌, Bool, List, false, find, is_none, length, min, nat_le, not};
 ghost use Rattle.std.specs.List.{list_all, zip};
 ghost use Rattle.std.specs.Option.{option_map_or};
 ghost use Rattle.vf_base.specs.declared.action.Control.{Control as ControlValue};
@@ -220,28 +220,28 @@ fn is_written(operation: Operation, fadu: FaduId) -> bool
     }
 }
 
-/// A position from which a read of this FADU comes to the one where it stands; past the last one, that one.
-fn came_from(fadu: FaduId, position: u32) -> u32
-    ensures { result ≡ min (came_meant fadu position) 4294967295 }
+/// Whether so many units have one at this position.
+fn has_unit(count: usize, position: u32) -> bool
+    ensures { result ≡ (nat_le 1 position && nat_le position count) }
 {
-    match fadu {
-        FaduId::Next => position.saturating_sub(1),
-        FaduId::Previous => position.saturating_add(1),
-        _ => position,
-    }
+    1 <= position && position as usize <= count
 }
 
-/// Whether a read of a sequential flat file shows the whole of it or the unit at the position.
+/// Whether a read of a sequential flat file shows the whole of it or the unit at the position. From wherever it comes,
+/// it does where that unit is there, and is the one that the identity means.
 fn is_shown_flat(tree: &Tree, position: u32, fadu: FaduId) -> bool
-    requires { tree.now.constraint ≡ Constraint.SequentialFlat }
     ensures { result ≡ comes_to position (reading_flat tree.now.units (standing (length tree.now.units) (came_meant fadu position)) fadu Context.FA) }
 {
-    if fadu == FaduId::End {
-        return false;
-    }
-    match tree.locate(came_from(fadu, position), fadu) {
-        Ok(found) => found == position,
-        Err(_) => false,
+    let count = tree.units().len();
+    match fadu {
+        FaduId::Begin => position == 0,
+        FaduId::End => false,
+        FaduId::First => has_unit(count, position) && position == 1,
+        FaduId::Last => has_unit(count, position) && position as usize == count,
+        FaduId::Current => has_unit(count, position),
+        FaduId::Next => has_unit(count, position),
+        FaduId::Previous => has_unit(count, position),
+        FaduId::Number(number) => has_unit(count, position) && position == number,
     }
 }
 
