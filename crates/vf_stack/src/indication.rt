@@ -116,6 +116,30 @@ pub enum Indication {
     },
 }
 
+/// The same PDU on the heap; its octets are shared.
+pub(crate) fn copy_pdu(alloc: Global, pdu: &Boxed<Pdu>) -> Result<Boxed<Pdu>, NoMemory>
+    ensures { IfOk result (λ made. made ≡ pdu.now) }
+{
+    let copy = pdu.value().copy(alloc)?;
+    let copy = Boxed::new(alloc, copy)?;
+    Ok(copy)
+}
+
+pub(crate) fn copy_maybe(
+    alloc: Global,
+    pdu: &Option<Boxed<Pdu>>,
+) -> Result<Option<Boxed<Pdu>>, NoMemory>
+    ensures { IfOk result (λ made. made ≡ pdu.now) }
+{
+    match pdu {
+        Some(pdu) => {
+            let copy = copy_pdu(alloc, pdu)?;
+            Ok(Some(copy))
+        }
+        None => Ok(None),
+    }
+}
+
 impl Item {
     /// The same item; its octets are shared.
     pub fn copy(&self, alloc: Global) -> Result<Item, NoMemory>
@@ -123,14 +147,80 @@ impl Item {
     {
         match self {
             Item::Pdu(pdu) => {
-                let copy = pdu.value().copy(alloc)?;
-                let copy = Boxed::new(alloc, copy)?;
+                let copy = copy_pdu(alloc, pdu)?;
                 Ok(Item::Pdu(copy))
             }
             Item::Element(element) => {
                 let copy = element.copy(alloc)?;
                 Ok(Item::Element(copy))
             }
+        }
+    }
+}
+
+impl Indication {
+    /// The same indication; its octets are shared.
+    pub fn copy(&self, alloc: Global) -> Result<Indication, NoMemory>
+        ensures { IfOk result (λ made. made ≡ self.now) }
+    {
+        match self {
+            Indication::Associate { sync, pdu } => {
+                let pdu = copy_pdu(alloc, pdu)?;
+                Ok(Indication::Associate { sync: *sync, pdu })
+            }
+            Indication::Accepted { sync, pdu } => {
+                let pdu = copy_pdu(alloc, pdu)?;
+                Ok(Indication::Accepted { sync: *sync, pdu })
+            }
+            Indication::Refused { pdu } => {
+                let pdu = copy_maybe(alloc, pdu)?;
+                Ok(Indication::Refused { pdu })
+            }
+            Indication::Release { pdu } => {
+                let pdu = copy_pdu(alloc, pdu)?;
+                Ok(Indication::Release { pdu })
+            }
+            Indication::Released { pdu } => {
+                let pdu = copy_pdu(alloc, pdu)?;
+                Ok(Indication::Released { pdu })
+            }
+            Indication::Item(item) => {
+                let item = item.copy(alloc)?;
+                Ok(Indication::Item(item))
+            }
+            Indication::Check { serial } => Ok(Indication::Check { serial: *serial }),
+            Indication::Acknowledged { serial } => Ok(Indication::Acknowledged { serial: *serial }),
+            Indication::Restart { serial, pdu } => {
+                let pdu = copy_pdu(alloc, pdu)?;
+                Ok(Indication::Restart {
+                    serial: *serial,
+                    pdu,
+                })
+            }
+            Indication::Restarted { serial, pdu } => {
+                let pdu = copy_pdu(alloc, pdu)?;
+                Ok(Indication::Restarted {
+                    serial: *serial,
+                    pdu,
+                })
+            }
+            Indication::Cancel { pdu } => {
+                let pdu = copy_pdu(alloc, pdu)?;
+                Ok(Indication::Cancel { pdu })
+            }
+            Indication::Cancelled { pdu } => {
+                let pdu = copy_pdu(alloc, pdu)?;
+                Ok(Indication::Cancelled { pdu })
+            }
+            Indication::Abort { pdu } => {
+                let pdu = copy_maybe(alloc, pdu)?;
+                Ok(Indication::Abort { pdu })
+            }
+            Indication::Fault { layer, name, at } => Ok(Indication::Fault {
+                layer: *layer,
+                name: *name,
+                at: *at,
+            }),
         }
     }
 }

@@ -1,4 +1,9 @@
+ghost use Rattle.std.specs.Prelude.{◌≡◌, IfOk};
+
 use crate::Item;
+use crate::indication::{copy_maybe, copy_pdu};
+use std::alloc::Global;
+use vf_base::NoMemory;
 use vf_pdu::{Boxed, Pdu};
 
 /// What this end sends. Serial numbers are 0 to 999,999.
@@ -32,4 +37,67 @@ pub enum Request {
     Abort { pdu: Option<Boxed<Pdu>> },
     /// The token passes to the other end, by a GT that fills a TSDU alone.
     Pass,
+}
+
+impl Request {
+    /// The same request; its octets are shared.
+    pub fn copy(&self, alloc: Global) -> Result<Request, NoMemory>
+        ensures { IfOk result (λ made. made ≡ self.now) }
+    {
+        match self {
+            Request::Associate { sync, pdu } => {
+                let pdu = copy_pdu(alloc, pdu)?;
+                Ok(Request::Associate { sync: *sync, pdu })
+            }
+            Request::Accept { sync, pdu } => {
+                let pdu = copy_pdu(alloc, pdu)?;
+                Ok(Request::Accept { sync: *sync, pdu })
+            }
+            Request::Refuse { pdu } => {
+                let pdu = copy_maybe(alloc, pdu)?;
+                Ok(Request::Refuse { pdu })
+            }
+            Request::Release { pdu } => {
+                let pdu = copy_pdu(alloc, pdu)?;
+                Ok(Request::Release { pdu })
+            }
+            Request::Released { pdu } => {
+                let pdu = copy_pdu(alloc, pdu)?;
+                Ok(Request::Released { pdu })
+            }
+            Request::Item(item) => {
+                let item = item.copy(alloc)?;
+                Ok(Request::Item(item))
+            }
+            Request::Check { serial } => Ok(Request::Check { serial: *serial }),
+            Request::Acknowledge { serial } => Ok(Request::Acknowledge { serial: *serial }),
+            Request::Restart { serial, pdu } => {
+                let pdu = copy_pdu(alloc, pdu)?;
+                Ok(Request::Restart {
+                    serial: *serial,
+                    pdu,
+                })
+            }
+            Request::Restarted { serial, pdu } => {
+                let pdu = copy_pdu(alloc, pdu)?;
+                Ok(Request::Restarted {
+                    serial: *serial,
+                    pdu,
+                })
+            }
+            Request::Cancel { pdu } => {
+                let pdu = copy_pdu(alloc, pdu)?;
+                Ok(Request::Cancel { pdu })
+            }
+            Request::Cancelled { pdu } => {
+                let pdu = copy_pdu(alloc, pdu)?;
+                Ok(Request::Cancelled { pdu })
+            }
+            Request::Abort { pdu } => {
+                let pdu = copy_maybe(alloc, pdu)?;
+                Ok(Request::Abort { pdu })
+            }
+            Request::Pass => Ok(Request::Pass),
+        }
+    }
 }
