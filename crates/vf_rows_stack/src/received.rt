@@ -38,13 +38,14 @@ fn shown(alloc: Global, indication: &Indication) -> Result<String, Fail> {
     })
 }
 
-/// Appends what is told.
+/// Appends what is told, as copies of the indications show it.
 fn show_told(alloc: Global, told: &[Indication], text: &mut String) -> Result<(), Fail> {
     for indication in told {
         if !text.is_empty() {
             text.push_str(", ")?;
         }
-        text.push_str(shown(alloc, indication)?.as_str())?;
+        let copied = indication.copy(alloc)?;
+        text.push_str(shown(alloc, &copied)?.as_str())?;
     }
     Ok(())
 }
