@@ -9,5 +9,5 @@ items (held.Few len octets) = take len octets
 items (held.Part start len kept) = take len (drop start (rc_slice_items kept))
 
 abbrev pub IsWithin : Held → Type 0
-IsWithin (held.Few len octets) = (len ≤ 15) × (length octets ≡ 15)
+IsWithin (held.Few len octets) = (len ≤ 22) × (length octets ≡ 22)
 IsWithin (held.Part start len kept) = (start + len ≤ length (rc_slice_items kept)) × (length (rc_slice_items kept) < 4294967296)

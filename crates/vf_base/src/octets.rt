@@ -9,7 +9,7 @@ use std::marker::Model;
 use std::rc::RcSlice;
 
 /// So many octets and fewer stand in place.
-const FEW: usize = 15;
+const FEW: usize = 22;
 
 /// Octets that never change. A few stand in place; more are all or some in turn of those that are kept, which they share: a
 /// copy takes no octets along. There are fewer than 2^32: for more, memory is wanting.
@@ -155,7 +155,7 @@ impl Octets {
 
 /// A few octets in place.
 fn few(octets: &[u8]) -> Octets
-    requires { length octets.now ≤ 15 }
+    requires { length octets.now ≤ 22 }
     ensures { result ≡ octets.now }
 {
     let mut held = [0; FEW];

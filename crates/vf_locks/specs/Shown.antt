@@ -7,9 +7,9 @@ use Rattle.vf_base.specs.declared.action.Control.TheVariants.{NotRequired, Share
 -- the numbers of one action have a control that clashes with this one
 abbrev pub row_shows : List ℕ → Control → Bool
 row_shows row NotRequired = false
-row_shows row Shared = nat_lt 0 (slice_index row 2) || nat_lt 0 (slice_index row 3)
-row_shows row Exclusive = nat_lt 0 (slice_index row 1) || nat_lt 0 (slice_index row 2) || nat_lt 0 (slice_index row 3)
-row_shows row NoAccess = nat_lt 0 (slice_index row 1) || nat_lt 0 (slice_index row 2)
+row_shows numbers Shared = nat_lt 0 (slice_index numbers 2) || nat_lt 0 (slice_index numbers 3)
+row_shows numbers Exclusive = nat_lt 0 (slice_index numbers 1) || nat_lt 0 (slice_index numbers 2) || nat_lt 0 (slice_index numbers 3)
+row_shows numbers NoAccess = nat_lt 0 (slice_index numbers 1) || nat_lt 0 (slice_index numbers 2)
 
 abbrev pub shows : List (List ℕ) → List Control → Bool
 shows numbers wanted = list_any (λ (pair : List ℕ × Control). row_shows pair.0 pair.1) (zip numbers wanted)

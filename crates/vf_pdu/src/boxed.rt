@@ -30,4 +30,11 @@ impl<T: Drop> Boxed<T> {
     {
         &*self.kept
     }
+
+    pub fn into_value(self) -> T
+        ensures { result ≡ self }
+    {
+        let Boxed { kept } = self;
+        Box::into_inner(kept)
+    }
 }
