@@ -32,7 +32,7 @@ pub(crate) fn read_access(alloc: Global, number: u16, parts: &[Value]) -> Result
 {
     match number {
         28 => read_locate_request(parts),
-        29 => read_locate_response(alloc, parts),
+        29 => return read_locate_response(alloc, parts),
         30 => read_erase_request(parts),
         31 => {
             let diagnostic = answer(alloc, parts)?;

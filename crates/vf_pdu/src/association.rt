@@ -11,7 +11,6 @@ ghost use Rattle.vf_pdu.specs.PduSlots.{slots_of};
 ghost use Rattle.vf_pdu.specs.PduValue.{parts_put};
 
 use crate::Pdu;
-use crate::read::bare;
 use std::alloc::Global;
 use vf_base::{NoMemory, copy_option};
 use vf_ber::{Value, Values};
@@ -29,10 +28,16 @@ pub(crate) fn read_association(alloc: Global, number: u16, parts: &[Value]) -> R
     ensures { Reads number (row_of number) (trees_in parts.now) result }
 {
     match number {
-        0 => read_initialize_request(alloc, parts),
-        1 => read_initialize_response(alloc, parts),
-        2 => bare(parts, Pdu::TerminateRequest),
-        3 => bare(parts, Pdu::TerminateResponse),
+        0 => return read_initialize_request(alloc, parts),
+        1 => return read_initialize_response(alloc, parts),
+        2 => {
+            end(parts, 0)?;
+            Ok(Pdu::TerminateRequest)
+        }
+        3 => {
+            end(parts, 0)?;
+            Ok(Pdu::TerminateResponse)
+        }
         4 => read_user_abort(parts),
         _ => read_provider_abort(parts),
     }

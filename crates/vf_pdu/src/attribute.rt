@@ -12,7 +12,7 @@ ghost use Rattle.vf_pdu.specs.PduRows.{row_of};
 ghost use Rattle.vf_pdu.specs.PduSlots.{slots_of};
 ghost use Rattle.vf_pdu.specs.PduValue.{parts_put};
 
-use crate::read::{answer, bare};
+use crate::read::answer;
 use crate::write::write_answer;
 use crate::{Boxed, Pdu};
 use std::alloc::Global;
@@ -38,15 +38,18 @@ pub(crate) fn read_attribute(alloc: Global, number: u16, parts: &[Value]) -> Res
 {
     match number {
         14 => read_read_attrib_request(parts),
-        15 => read_read_attrib_response(alloc, parts),
-        16 => read_change_attrib_request(alloc, parts),
+        15 => return read_read_attrib_response(alloc, parts),
+        16 => return read_change_attrib_request(alloc, parts),
         17 => {
             let diagnostic = answer(alloc, parts)?;
             Ok(Pdu::ChangeAttribResponse { diagnostic })
         }
-        18 => read_open_request(alloc, parts),
-        19 => read_open_response(alloc, parts),
-        20 => bare(parts, Pdu::CloseRequest),
+        18 => return read_open_request(alloc, parts),
+        19 => return read_open_response(alloc, parts),
+        20 => {
+            end(parts, 0)?;
+            Ok(Pdu::CloseRequest)
+        }
         _ => {
             let diagnostic = answer(alloc, parts)?;
             Ok(Pdu::CloseResponse { diagnostic })

@@ -15,7 +15,6 @@ ghost use Rattle.vf_pdu.specs.PduSlots.{slots_of};
 ghost use Rattle.vf_pdu.specs.PduValue.{parts_put};
 
 use crate::Pdu;
-use crate::read::bare;
 use std::alloc::Global;
 use vf_base::NoMemory;
 use vf_ber::{Value, Values};
@@ -35,11 +34,20 @@ pub(crate) fn read_group(alloc: Global, number: u16, parts: &[Value]) -> Result<
 {
     match number {
         22 => read_begin_group_request(parts),
-        23 => bare(parts, Pdu::BeginGroupResponse),
-        24 => bare(parts, Pdu::EndGroupRequest),
-        25 => bare(parts, Pdu::EndGroupResponse),
+        23 => {
+            end(parts, 0)?;
+            Ok(Pdu::BeginGroupResponse)
+        }
+        24 => {
+            end(parts, 0)?;
+            Ok(Pdu::EndGroupRequest)
+        }
+        25 => {
+            end(parts, 0)?;
+            Ok(Pdu::EndGroupResponse)
+        }
         26 => read_recover_request(parts),
-        _ => read_recover_response(alloc, parts),
+        _ => return read_recover_response(alloc, parts),
     }
 }
 

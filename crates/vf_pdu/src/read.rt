@@ -1,5 +1,5 @@
 //! Values as PDUs.
-ghost use Rattle.std.specs.Prelude.{◌≡◌, ◌≤◌, ◌<◌, ◌^◌, [], ◌∷◌, IfOk, IfErr, length};
+ghost use Rattle.std.specs.Prelude.{◌≤◌, ◌<◌, ◌^◌, [], ◌∷◌, IfOk, IfErr, length};
 ghost use Rattle.vf_ber.specs.Views.{tree_of, trees_in};
 ghost use Rattle.vf_pdu.specs.PduFaults.{fault};
 ghost use Rattle.vf_pdu.specs.PduMeaning.{IsInRange, Means};
@@ -7,11 +7,9 @@ ghost use Rattle.vf_pdu.specs.PduReading.{pdu_in};
 ghost use Rattle.vf_pdu_fields.specs.Reading.{reading};
 ghost use Rattle.vf_pdu_fields.specs.Results.{Gives, Names};
 ghost use Rattle.vf_pdu.specs.PduResults.{Reads};
-ghost use Rattle.vf_pdu.specs.PduEntry.{answer as answer_row, bare as bare_row};
+ghost use Rattle.vf_pdu.specs.PduEntry.{answer as answer_row};
 ghost use Rattle.vf_pdu.specs.PduRows.{row_of};
 ghost use Rattle.vf_pdu_parameters.specs.ParameterSlots.{maybe_diagnostic};
-ghost use Rattle.vf_pdu.specs.PduNumbers.{number_of};
-ghost use Rattle.vf_pdu.specs.PduSlots.{slots_of};
 
 use crate::Pdu;
 use crate::access::read_access;
@@ -52,28 +50,21 @@ fn read_fields(alloc: Global, number: u16, parts: &[Value]) -> Result<Pdu, PduEr
     ensures { Reads number (row_of number) (trees_in parts.now) result }
 {
     if number <= 5 {
-        read_association(alloc, number, parts)
-    } else if number <= 13 {
-        read_selection(alloc, number, parts)
-    } else if number <= 21 {
-        read_attribute(alloc, number, parts)
-    } else if number <= 27 {
-        read_group(alloc, number, parts)
-    } else if number <= 33 {
-        read_access(alloc, number, parts)
-    } else {
-        read_transfer(alloc, number, parts)
+        return read_association(alloc, number, parts);
     }
-}
-
-/// A PDU without fields.
-pub(crate) fn bare(parts: &[Value], pdu: Pdu) -> Result<Pdu, PduError>
-    requires few { length parts.now < 2 ^ 32 }
-    requires none { slots_of pdu ≡ [] }
-    ensures { Reads (number_of pdu) bare_row (trees_in parts.now) result }
-{
-    end(parts, 0)?;
-    Ok(pdu)
+    if number <= 13 {
+        return read_selection(alloc, number, parts);
+    }
+    if number <= 21 {
+        return read_attribute(alloc, number, parts);
+    }
+    if number <= 27 {
+        return read_group(alloc, number, parts);
+    }
+    if number <= 33 {
+        return read_access(alloc, number, parts);
+    }
+    read_transfer(alloc, number, parts)
 }
 
 /// A response that has a diagnostic alone.

@@ -18,7 +18,7 @@ ghost use Rattle.vf_pdu.specs.PduSlots.{slots_of};
 ghost use Rattle.vf_pdu.specs.PduValue.{parts_put};
 
 use crate::Pdu;
-use crate::read::{answer, bare};
+use crate::read::answer;
 use crate::write::write_answer;
 use std::alloc::Global;
 use vf_base::{Actions, Contents, Name, NoMemory, Octets, Terms, copy_option};
@@ -40,22 +40,28 @@ pub(crate) fn read_selection(alloc: Global, number: u16, parts: &[Value]) -> Res
     ensures { Reads number (row_of number) (trees_in parts.now) result }
 {
     match number {
-        6 => read_select_request(alloc, parts),
+        6 => return read_select_request(alloc, parts),
         7 => {
             let diagnostic = answer(alloc, parts)?;
             Ok(Pdu::SelectResponse { diagnostic })
         }
-        8 => bare(parts, Pdu::DeselectRequest),
+        8 => {
+            end(parts, 0)?;
+            Ok(Pdu::DeselectRequest)
+        }
         9 => {
             let diagnostic = answer(alloc, parts)?;
             Ok(Pdu::DeselectResponse { diagnostic })
         }
-        10 => read_create_request(alloc, parts),
+        10 => return read_create_request(alloc, parts),
         11 => {
             let diagnostic = answer(alloc, parts)?;
             Ok(Pdu::CreateResponse { diagnostic })
         }
-        12 => bare(parts, Pdu::DeleteRequest),
+        12 => {
+            end(parts, 0)?;
+            Ok(Pdu::DeleteRequest)
+        }
         _ => {
             let diagnostic = answer(alloc, parts)?;
             Ok(Pdu::DeleteResponse { diagnostic })

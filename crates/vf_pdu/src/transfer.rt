@@ -11,7 +11,7 @@ ghost use Rattle.vf_pdu.specs.PduSlots.{slots_of};
 ghost use Rattle.vf_pdu.specs.PduValue.{parts_put};
 
 use crate::Pdu;
-use crate::read::{answer, bare};
+use crate::read::answer;
 use crate::write::write_answer;
 use std::alloc::Global;
 use vf_base::NoMemory;
@@ -32,7 +32,10 @@ pub(crate) fn read_transfer(alloc: Global, number: u16, parts: &[Value]) -> Resu
             let diagnostic = answer(alloc, parts)?;
             Ok(Pdu::DataEnd { diagnostic })
         }
-        35 => bare(parts, Pdu::TransferEndRequest),
+        35 => {
+            end(parts, 0)?;
+            Ok(Pdu::TransferEndRequest)
+        }
         36 => {
             let diagnostic = answer(alloc, parts)?;
             Ok(Pdu::TransferEndResponse { diagnostic })
@@ -41,7 +44,10 @@ pub(crate) fn read_transfer(alloc: Global, number: u16, parts: &[Value]) -> Resu
             let diagnostic = answer(alloc, parts)?;
             Ok(Pdu::CancelRequest { diagnostic })
         }
-        38 => bare(parts, Pdu::CancelResponse),
+        38 => {
+            end(parts, 0)?;
+            Ok(Pdu::CancelResponse)
+        }
         39 => read_restart_request(parts),
         _ => read_restart_response(parts),
     }

@@ -127,7 +127,7 @@ pub(crate) fn answered<Old: Regime, New: Regime>(
         Err((state, error)) => {
             let party = state.into_party();
             match error {
-                StepError::Refused(diagnostic) => keep_party(
+                StepError::Refused(diagnostic) => return keep_party(
                     alloc,
                     party,
                     refusal(request, diagnostic),

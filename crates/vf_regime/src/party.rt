@@ -167,8 +167,8 @@ fn take_built(
     ensures { IsAccepted tables.now party setting.moment message result }
 {
     match message {
-        Message::Pdu(request) => take_request(party, alloc, request, setting, tables),
-        Message::Element(element) => take_element(party, alloc, element, setting, tables),
+        Message::Pdu(request) => return take_request(party, alloc, request, setting, tables),
+        Message::Element(element) => return take_element(party, alloc, element, setting, tables),
         Message::Break => Ok(outcomes::break_party(alloc, party)),
         Message::Check => unreachable!(),
         Message::Acknowledge { .. } => unreachable!(),
@@ -187,7 +187,7 @@ fn take_element(
     ensures { IsAccepted tables.now party setting.moment (messages.Element element) result }
 {
     match party {
-        Party::Moving(moving) => moves::element(moving, alloc, element, setting, tables),
+        Party::Moving(moving) => return moves::element(moving, alloc, element, setting, tables),
         Party::Idle(_) => unreachable!(),
         Party::Associated(_) => unreachable!(),
         Party::Selected(_) => unreachable!(),
@@ -211,15 +211,15 @@ fn take_request(
         return Ok(outcomes::break_party(alloc, party));
     }
     match party {
-        Party::Idle(idle) => regimes::take_idle(idle, alloc, request, setting, tables),
-        Party::Associated(associated) => regimes::take_associated(
+        Party::Idle(idle) => return regimes::take_idle(idle, alloc, request, setting, tables),
+        Party::Associated(associated) => return regimes::take_associated(
             associated, alloc, request, setting, tables,
         ),
-        Party::Selected(selected) => regimes::take_selected(
+        Party::Selected(selected) => return regimes::take_selected(
             selected, alloc, request, setting, tables,
         ),
-        Party::Open(opened) => regimes::take_open(opened, alloc, request, setting, tables),
-        Party::Moving(moving) => moves::take_moving(moving, alloc, request, setting, tables),
+        Party::Open(opened) => return regimes::take_open(opened, alloc, request, setting, tables),
+        Party::Moving(moving) => return moves::take_moving(moving, alloc, request, setting, tables),
     }
 }
 

@@ -41,7 +41,7 @@ pub(crate) fn take_idle(
         sync,
     } = setting;
     match request {
-        request @ Pdu::InitializeRequest { .. } => concluded(idle.initialize(
+        request @ Pdu::InitializeRequest { .. } => return concluded(idle.initialize(
             alloc, request, moment, serial, token, sync, tables,
         )),
         _ => unreachable!(),
@@ -68,17 +68,17 @@ pub(crate) fn take_associated(
         sync,
     } = setting;
     match request {
-        request @ Pdu::SelectRequest { .. } => answered(
+        request @ Pdu::SelectRequest { .. } => return answered(
             alloc,
             associated.select(alloc, request, moment, serial, token, sync, tables),
             Refusable::Select,
         ),
-        request @ Pdu::CreateRequest { .. } => answered(
+        request @ Pdu::CreateRequest { .. } => return answered(
             alloc,
             associated.create(alloc, request, moment, serial, token, sync, tables),
             Refusable::Create,
         ),
-        Pdu::TerminateRequest => terminate(alloc, associated),
+        Pdu::TerminateRequest => return terminate(alloc, associated),
         _ => unreachable!(),
     }
 }
@@ -114,10 +114,10 @@ pub(crate) fn take_selected(
         sync,
     } = setting;
     match request {
-        request @ Pdu::DeselectRequest => concluded(selected.deselect(
+        request @ Pdu::DeselectRequest => return concluded(selected.deselect(
             alloc, request, moment, serial, token, sync, tables,
         )),
-        request @ Pdu::OpenRequest { .. } => answered(
+        request @ Pdu::OpenRequest { .. } => return answered(
             alloc,
             selected.open(alloc, request, moment, serial, token, sync, tables),
             Refusable::Open,
@@ -149,13 +149,13 @@ pub(crate) fn take_open(
         return abort_party(alloc, Party::Open(opened), NUMBERS_SPENT);
     }
     match request {
-        request @ Pdu::CloseRequest => concluded(opened.close(
+        request @ Pdu::CloseRequest => return concluded(opened.close(
             alloc, request, moment, serial, token, sync, tables,
         )),
-        request @ Pdu::ReadRequest { .. } => concluded(opened.read(
+        request @ Pdu::ReadRequest { .. } => return concluded(opened.read(
             alloc, request, moment, serial, token, sync, tables,
         )),
-        request @ Pdu::WriteRequest { .. } => concluded(opened.write(
+        request @ Pdu::WriteRequest { .. } => return concluded(opened.write(
             alloc, request, moment, serial, token, sync, tables,
         )),
         _ => unreachable!(),
