@@ -65,14 +65,22 @@ pub(crate) fn append_reply(
         Said::Element(element) => append_element(alloc, element, replies),
         Said::Check { .. } => Ok(()),
         Said::Acknowledge { .. } => Ok(()),
-        Said::Abort { number, place } => {
-            let abort = Pdu::ProviderAbort {
-                number: *number,
-                place: *place,
-            };
-            append_pdu(alloc, &abort, replies)
-        }
+        Said::Abort { number, place } => append_provider_abort(alloc, *number, *place, replies),
     }
+}
+
+// Of its own, since the room for its PDU costs each reply where both are one function.
+fn append_provider_abort(
+    alloc: Global,
+    number: u16,
+    place: u64,
+    replies: &mut Replies,
+) -> Result<(), NoMemory>
+    requires { IsSayable (Said.Abort number place) }
+    ensures { OnOk result (replies.new.lines.items ≡ replies.old.lines.items ++ reply (Said.Abort number place)) }
+{
+    let abort = Pdu::ProviderAbort { number, place };
+    append_pdu(alloc, &abort, replies)
 }
 
 fn append_pdu(alloc: Global, pdu: &Pdu, replies: &mut Replies) -> Result<(), NoMemory>
