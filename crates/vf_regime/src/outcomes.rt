@@ -119,7 +119,7 @@ pub(crate) fn answered<Old: Regime, New: Regime>(
     ensures { IsOutcome Old.represents New.represents Old.party_of (refusing request) answer result }
 {
     match answer {
-        Ok(step) => Ok(Outcome {
+        Ok(step) => return Ok(Outcome {
             party: step.state.into_party(),
             said: step.said,
             changes: step.changes,
@@ -146,7 +146,7 @@ pub(crate) fn concluded<Old: TypedState, New: Regime>(
     ensures { (response : Reason → Response) → IsOutcome Old.represents New.represents Old.party_of response answer result }
 {
     match answer {
-        Ok(step) => Ok(Outcome {
+        Ok(step) => return Ok(Outcome {
             party: step.state.into_party(),
             said: step.said,
             changes: step.changes,
