@@ -1,38 +1,31 @@
 -- The changes by which a store goes from what it kept before a message to what it keeps after it (profile). Of the twelve
 -- kinds a message makes seven: it makes no user and no task, and none goes.
-use Rattle.std.specs.Prelude.{ℕ, ◌+◌, Bool, true, false, not, ◌&&◌, List, [], ◌∷◌, ◌++◌, drop, filter, find, flat_map, length, map, take, Option, None, Some, if◌then◌else◌, nat_eq, nat_lt}
+use Rattle.std.specs.Prelude.{ℕ, ◌+◌, Bool, true, false, not, ◌&&◌, List, [], ◌∷◌, ◌++◌, drop, find, flat_map, length, map, if◌then◌else◌, nat_eq, nat_lt}
 use Rattle.std.specs.Cmp.Lexicographic.{pointwise}
 use Rattle.std.specs.Str.{bytes_eq}
-use Rattle.vf_attr.specs.Attributes.{are_same_attributes, attributes_of, with_attributes}
-use Rattle.vf_attr.specs.declared.attributes.Attributes.{Attributes}
+use Rattle.vf_attr.specs.Attributes.{are_same_attributes, attributes_of}
 use Rattle.vf_attr.specs.declared.file.File.{File}
 use Rattle.vf_base.specs.declared.access.Context.{Context}
 use Rattle.vf_base.specs.declared.access.Context.TheVariants.{HA, FA, UA, US}
 use Rattle.vf_base.specs.declared.access.FaduId.{FaduId}
 use Rattle.vf_base.specs.declared.access.FaduId.TheVariants.{Begin, End, First, Last, Current, Next, Previous, Number}
 use Rattle.vf_base.specs.declared.action.Control.{Control}
+use Rattle.vf_base.specs.declared.action.Control.TheVariants.{NotRequired, Shared, Exclusive, NoAccess}
 use Rattle.vf_base.specs.declared.element.Element.{Element}
-use Rattle.vf_files.specs.Files.{with_file}
-use Rattle.vf_locks.specs.Counts.{control_number}
-use Rattle.vf_pdu_fields.specs.declared.operation.WriteOperation.{WriteOperation}
-use Rattle.vf_pdu_fields.specs.declared.operation.WriteOperation.TheVariants.{Insert, Replace, Extend}
+use Rattle.vf_tables.specs.Changes.{after, staged_in}
+use Rattle.vf_tables.specs.Entries.{is_docket}
+use Rattle.vf_tables.specs.Fitting.{stands_in}
+use Rattle.vf_tables.specs.Snapshot.{stages_after}
+use Rattle.vf_tables.specs.declared.change.Change.{Change}
+use Rattle.vf_tables.specs.declared.change.Change.TheVariants.{PutFile, PutAttributes, DropFile, PutDocket, CutStage, DropDocket}
+use Rattle.vf_tables.specs.declared.docket.Direction.{Direction}
+use Rattle.vf_tables.specs.declared.docket.Direction.TheVariants.{Idle, Read, Write}
+use Rattle.vf_tables.specs.declared.docket.Docket.{Docket}
+use Rattle.vf_tables.specs.declared.docket.Operation.{Operation}
+use Rattle.vf_tables.specs.declared.docket.Operation.TheVariants.{Insert, Replace, Extend}
+use Rattle.vf_tables.specs.declared.docket.Regime.{Regime}
+use Rattle.vf_tables.specs.declared.tables.Tables.{Tables}
 use Rattle.vf_tree.specs.Same.{are_same_units, is_same_name, is_same_unit}
-use Rattle.vf_filestore.specs.Effects.{without_file}
-use Rattle.vf_filestore.specs.Tables.{Docket, Moving, Idle, Reading, Writing, Tables}
-
-pub data Change : Type 0 where
-  -- the file stands in the place of the one of its name, or after all others
-  PutFile : File → Change
-  -- the file of the old name has this one, and these attributes; its contents stay
-  PutAttributes : (old name : List ℕ) → Attributes → Change
-  DropFile : (name : List ℕ) → Change
-  -- the docket has these fields, and its pieces stay; or it stands after all others, without pieces
-  PutDocket : Docket → Change
-  -- a docket has one more piece, after these points
-  Stage : (identity : List ℕ) (activity first : ℕ) → List Element → Change
-  -- its pieces after a point go
-  CutStage : (identity : List ℕ) (activity point : ℕ) → Change
-  DropDocket : (identity : List ℕ) (activity : ℕ) → Change
 
 -- FILES
 abbrev pub is_same_file : File → File → Bool
@@ -55,129 +48,96 @@ file_changes (before ∷ files) (after ∷ later) =
     else change_of before after ∷ file_changes files later
 
 -- DOCKETS, of opens that stand too. Whether two have the same fields:
-abbrev pub fadu_number : FaduId → ℕ
-fadu_number Begin = 0
-fadu_number End = 1
-fadu_number First = 2
-fadu_number Last = 3
-fadu_number Current = 4
-fadu_number Next = 5
-fadu_number Previous = 6
-fadu_number (Number number) = 7 + number
+abbrev pub is_same_fadu : FaduId → FaduId → Bool
+is_same_fadu Begin Begin = true
+is_same_fadu End End = true
+is_same_fadu First First = true
+is_same_fadu Last Last = true
+is_same_fadu Current Current = true
+is_same_fadu Next Next = true
+is_same_fadu Previous Previous = true
+is_same_fadu (Number number) (Number other) = nat_eq number other
+is_same_fadu _ _ = false
 
-abbrev pub context_number : Context → ℕ
-context_number HA = 0
-context_number FA = 1
-context_number UA = 2
-context_number US = 3
+abbrev pub is_same_context : Context → Context → Bool
+is_same_context HA HA = true
+is_same_context FA FA = true
+is_same_context UA UA = true
+is_same_context US US = true
+is_same_context _ _ = false
 
-abbrev pub operation_number : WriteOperation → ℕ
-operation_number Insert = 1
-operation_number Replace = 2
-operation_number Extend = 3
+abbrev pub is_same_operation : Operation → Operation → Bool
+is_same_operation Insert Insert = true
+is_same_operation Replace Replace = true
+is_same_operation Extend Extend = true
+is_same_operation _ _ = false
 
-abbrev pub is_same_moving : Moving → Moving → Bool
-is_same_moving Idle Idle = true
-is_same_moving (Reading fadu context refused point version) (Reading fadu_of_other context_of_other refused_of_other point_of_other version_of_other) =
-    nat_eq (fadu_number fadu) (fadu_number fadu_of_other) && nat_eq (context_number context) (context_number context_of_other)
-    && nat_eq refused refused_of_other && nat_eq point point_of_other && nat_eq version version_of_other
-is_same_moving (Writing fadu operation refused point pieces) (Writing fadu_of_other operation_of_other refused_of_other point_of_other pieces_of_other) =
-    nat_eq (fadu_number fadu) (fadu_number fadu_of_other) && nat_eq (operation_number operation) (operation_number operation_of_other)
-    && nat_eq refused refused_of_other && nat_eq point point_of_other
-is_same_moving _ _ = false
+abbrev pub is_same_direction : Direction → Direction → Bool
+is_same_direction Idle Idle = true
+is_same_direction (Read context) (Read other) = is_same_context context other
+is_same_direction (Write operation) (Write other) = is_same_operation operation other
+is_same_direction _ _ = false
 
 abbrev pub is_same_control : Control → Control → Bool
-is_same_control one other = nat_eq (control_number one) (control_number other)
+is_same_control NotRequired NotRequired = true
+is_same_control Shared Shared = true
+is_same_control Exclusive Exclusive = true
+is_same_control NoAccess NoAccess = true
+is_same_control _ _ = false
 
+-- of one open: its initiator and its activity
 abbrev pub is_same_open : Docket → Docket → Bool
-is_same_open one other = bytes_eq one.identity other.identity && nat_eq one.activity other.activity
+is_same_open one other = is_docket one.regime.identity one.regime.activity other
 
-abbrev pub is_same_row : Docket → Docket → Bool
-is_same_row one other =
-    is_same_open one other && bytes_eq one.file other.file && nat_eq one.requested.value other.requested.value
-    && pointwise is_same_control one.controls.each other.controls.each && nat_eq one.mode.value other.mode.value
-    && is_same_name one.password other.password && nat_eq one.position other.position && nat_eq one.number other.number
-    && nat_eq one.last other.last && is_same_moving one.moving other.moving
+-- the fields of the open, and those of the transfer in it
+abbrev pub is_same_setting : Regime → Regime → Bool
+is_same_setting one other =
+    bytes_eq one.identity other.identity && nat_eq one.activity other.activity && bytes_eq one.file other.file
+    && nat_eq one.requested.value other.requested.value && pointwise is_same_control one.controls.each other.controls.each
+    && nat_eq one.mode.value other.mode.value && is_same_name one.password other.password && nat_eq one.window other.window
+
+abbrev pub is_same_transfer : Regime → Regime → Bool
+is_same_transfer one other =
+    nat_eq one.position other.position && nat_eq one.number other.number && nat_eq one.last other.last
+    && is_same_direction one.direction other.direction && is_same_fadu one.fadu other.fadu
+    && nat_eq one.refused other.refused && nat_eq one.point other.point
+    && (if one.ended then other.ended else not other.ended) && nat_eq one.version other.version
+
+abbrev pub is_same_regime : Regime → Regime → Bool
+is_same_regime one other = is_same_setting one other && is_same_transfer one other
 
 -- A docket keeps its identity and its activity.
 abbrev pub docket_changes : List Docket → List Docket → List Change
-docket_changes [] later = map PutDocket later
-docket_changes (before ∷ dockets) [] = DropDocket before.identity before.activity ∷ docket_changes dockets []
+docket_changes [] later = map (λ (docket : Docket). PutDocket docket.regime) later
+docket_changes (before ∷ dockets) [] = DropDocket before.regime.identity before.regime.activity ∷ docket_changes dockets []
 docket_changes (before ∷ dockets) (after ∷ later) =
-    if is_same_row before after then docket_changes dockets later
-    else if is_same_open before after then PutDocket after ∷ docket_changes dockets later
-    else DropDocket before.identity before.activity ∷ docket_changes dockets (after ∷ later)
+    if is_same_regime before.regime after.regime then docket_changes dockets later
+    else if is_same_open before after then PutDocket after.regime ∷ docket_changes dockets later
+    else DropDocket before.regime.identity before.regime.activity ∷ docket_changes dockets (after ∷ later)
 
--- PIECES
-abbrev pub pieces_in : Moving → List (List Element)
-pieces_in (Writing fadu operation refused point pieces) = pieces
-pieces_in _ = []
-
-abbrev pub pieces_for : Option Docket → List (List Element)
-pieces_for None = []
-pieces_for (Some docket) = pieces_in docket.moving
-
--- how many pieces both begin with
+-- PIECES. How many both begin with:
 abbrev pub common : List (List Element) → List (List Element) → ℕ
 common [] others = 0
 common (piece ∷ pieces) [] = 0
 common (piece ∷ pieces) (other ∷ others) = if is_same_unit piece other then 1 + common pieces others else 0
 
-abbrev pub staged : (identity : List ℕ) (activity first : ℕ) → List (List Element) → List Change
-staged identity activity first [] = []
-staged identity activity first (piece ∷ pieces) = Stage identity activity first piece ∷ staged identity activity (first + 1) pieces
-
 -- a cut to the last common point where fewer stand, then the others
-abbrev pub piece_changes : Docket → (before after : List (List Element)) → List Change
-piece_changes docket before after =
+abbrev pub piece_changes : Regime → (before after : List (List Element)) → List Change
+piece_changes regime before after =
     let both = common before after in
-    (if nat_lt both (length before) then CutStage docket.identity docket.activity both ∷ [] else [])
-    ++ staged docket.identity docket.activity both (drop both after)
+    (if nat_lt both (length before) then CutStage regime.identity regime.activity both ∷ [] else [])
+    ++ stages_after regime.identity regime.activity both (drop both after)
 
 abbrev pub all_piece_changes : List Docket → List Docket → List Change
-all_piece_changes dockets later = flat_map (λ docket. piece_changes docket (pieces_for (find (is_same_open docket) dockets)) (pieces_in docket.moving)) later
+all_piece_changes dockets later =
+    flat_map (λ (docket : Docket). piece_changes docket.regime (staged_in (find (is_same_open docket) dockets)) docket.staged) later
 
 -- files, then dockets, then their pieces
 abbrev pub delta : Tables → Tables → List Change
 delta before after =
-    file_changes before.files after.files ++ docket_changes before.dockets after.dockets ++ all_piece_changes before.dockets after.dockets
+    file_changes before.files after.files ++ (docket_changes before.dockets after.dockets ++ all_piece_changes before.dockets after.dockets)
 
--- WHAT A CHANGE LEAVES
-abbrev pub with_new_attributes : (old name : List ℕ) → Attributes → List File → List File
-with_new_attributes old name attributes [] = []
-with_new_attributes old name attributes (file ∷ files) =
-    if bytes_eq file.name old then record (with_attributes attributes file) { name = name } ∷ files
-    else file ∷ with_new_attributes old name attributes files
-
-abbrev pub with_pieces : List (List Element) → Moving → Moving
-with_pieces pieces (Writing fadu operation refused point old) = Writing fadu operation refused point pieces
-with_pieces pieces moving = moving
-
-abbrev pub docket_with : List (List Element) → Docket → Docket
-docket_with pieces docket = record docket { moving = with_pieces pieces docket.moving }
-
--- in the place of the same open's, or after all others
-abbrev pub with_docket : Docket → List Docket → List Docket
-with_docket docket [] = docket_with [] docket ∷ []
-with_docket docket (other ∷ dockets) =
-    if is_same_open docket other then docket_with (pieces_in other.moving) docket ∷ dockets else other ∷ with_docket docket dockets
-
-abbrev pub where_open : (identity : List ℕ) (activity : ℕ) → (List (List Element) → List (List Element)) → List Docket → List Docket
-where_open identity activity change dockets =
-    map (λ (docket : Docket). if bytes_eq docket.identity identity && nat_eq docket.activity activity then docket_with (change (pieces_in docket.moving)) docket else docket) dockets
-
-abbrev pub after_change : Change → Tables → Tables
-after_change (PutFile file) tables = record tables { files = with_file file tables.files }
-after_change (PutAttributes old name attributes) tables = record tables { files = with_new_attributes old name attributes tables.files }
-after_change (DropFile name) tables = record tables { files = without_file name tables.files }
-after_change (PutDocket docket) tables = record tables { dockets = with_docket docket tables.dockets }
-after_change (Stage identity activity first piece) tables =
-    record tables { dockets = where_open identity activity (λ pieces. pieces ++ piece ∷ []) tables.dockets }
-after_change (CutStage identity activity point) tables = record tables { dockets = where_open identity activity (take point) tables.dockets }
-after_change (DropDocket identity activity) tables =
-    record tables { dockets = filter (λ (docket : Docket). not (bytes_eq docket.identity identity && nat_eq docket.activity activity)) tables.dockets }
-
--- after changes in their order
-abbrev pub after_changes : List Change → Tables → Tables
-after_changes [] tables = tables
-after_changes (change ∷ changes) tables = after_changes changes (after_change change tables)
+-- what each change names stands in the tables before it
+abbrev pub all_stand : Tables → List Change → Bool
+all_stand tables [] = true
+all_stand tables (change ∷ changes) = stands_in tables change && all_stand (after tables change) changes

@@ -4,13 +4,15 @@ use Rattle.std.specs.List.{IsDistinct}
 use Rattle.std.specs.Str.{bytes_eq}
 use Rattle.vf_attr.specs.declared.file.File.{File}
 use Rattle.vf_elements.specs.declared.message.Message.{Message}
+use Rattle.vf_tables.specs.declared.tables.Tables.{Tables}
+use Rattle.vf_tables.specs.declared.user.User.{User}
 use Rattle.vf_filestore.specs.Aborts.{Setting}
 use Rattle.vf_filestore.specs.Changes.{delta, is_same_open}
 use Rattle.vf_filestore.specs.Dockets.{broken, dropped, stopped}
 use Rattle.vf_filestore.specs.Runs.{Event, Arrives, after_event, beginning, run}
 use Rattle.vf_filestore.specs.Sound.{AreLimited, Begins, IsSound, name_of}
-use Rattle.vf_filestore.specs.State.{State, User, party_of}
-use Rattle.vf_filestore.specs.Tables.{Tables, tables_of}
+use Rattle.vf_filestore.specs.State.{State, party_of}
+use Rattle.vf_filestore.specs.Tables.{tables_of}
 use Rattle.vf_filestore.specs.Transition.{fault, transition}
 
 -- a filestore whose files have names of their own and are within their limits

@@ -6,10 +6,11 @@ use Rattle.vf_elements.specs.declared.message.Message.{Message}
 use Rattle.vf_elements.specs.declared.message.Message.TheVariants as messages
 use Rattle.vf_elements.specs.declared.message.Said.{Said}
 use Rattle.vf_pdu.specs.declared.pdu.Pdu.TheVariants.{InitializeRequest, InitializeResponse, SelectRequest, SelectResponse, DeleteRequest, DeleteResponse, ReadAttribRequest, ReadAttribResponse, ChangeAttribRequest, ChangeAttribResponse}
+use Rattle.vf_tables.specs.declared.user.User.{User}
 use Rattle.vf_filestore.specs.History.{guest}
 use Rattle.vf_filestore.specs.Runs.{beginning}
 use Rattle.vf_filestore.specs.Samples.{a, ann, b, binary_file, bob, changed, diagnostic, ftam_3, heard_on, initialize, left_by, on, replies, select, set}
-use Rattle.vf_filestore.specs.State.{State, User}
+use Rattle.vf_filestore.specs.State.{State}
 
 abbrev pub password : List ℕ
 password = 112 ∷ 119 ∷ []

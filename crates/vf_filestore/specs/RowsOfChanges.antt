@@ -1,22 +1,32 @@
--- Which changes messages make, by their kinds in a record (profile): PutFile 2, PutAttributes 3, DropFile 4, PutDocket 5,
--- Stage 6, CutStage 7, DropDocket 8. Made in what was kept before, they leave what is kept after.
-use Rattle.std.specs.Prelude.{◌≡◌, ℕ, List, [], ◌∷◌, ◌++◌, map, None, Some}
+-- Which changes messages make, by their kinds in a record (profile). Made in what was kept before, they leave what is kept
+-- after.
+use Rattle.std.specs.Prelude.{◌≡◌, ℕ, true, List, [], ◌∷◌, ◌++◌, map, None, Some}
 use Rattle.vf_elements.specs.declared.message.Message.TheVariants as messages
 use Rattle.vf_pdu.specs.declared.pdu.Pdu.TheVariants.{DeleteRequest, ChangeAttribRequest, CloseRequest, DataEnd, RestartRequest, TransferEndRequest}
-use Rattle.vf_filestore.specs.Changes.{Change, PutFile, PutAttributes, DropFile, PutDocket, Stage, CutStage, DropDocket, after_changes, delta}
+use Rattle.vf_tables.specs.Changes.{after_all}
+use Rattle.vf_tables.specs.Fitting.{all_fit}
+use Rattle.vf_tables.specs.declared.change.Change.{Change}
+use Rattle.vf_tables.specs.declared.change.Change.TheVariants.{PutUser, PutFile, PutAttributes, DropFile, PutDocket, Stage, CutStage, DropDocket, PutTask, StageTask, CutTask, DropTask}
+use Rattle.vf_tables.specs.declared.tables.Tables.{Tables}
+use Rattle.vf_filestore.specs.Changes.{delta}
 use Rattle.vf_filestore.specs.Runs.{Event, Stops, beginning, run}
 use Rattle.vf_filestore.specs.Samples.{a, b, binary_file, create, ftam_3, initialize, on, recoverable, replace, select, takes, then_on, value}
 use Rattle.vf_filestore.specs.State.{State}
-use Rattle.vf_filestore.specs.Tables.{Tables, tables_of}
+use Rattle.vf_filestore.specs.Tables.{tables_of}
 
 abbrev pub kind : Change → ℕ
+kind (PutUser user) = 1
 kind (PutFile file) = 2
 kind (PutAttributes old name attributes) = 3
 kind (DropFile name) = 4
-kind (PutDocket docket) = 5
-kind (Stage identity activity first piece) = 6
+kind (PutDocket regime) = 5
+kind (Stage identity activity first last elements) = 6
 kind (CutStage identity activity point) = 7
 kind (DropDocket identity activity) = 8
+kind (PutTask plan) = 9
+kind (StageTask activity point elements) = 10
+kind (CutTask activity point) = 11
+kind (DropTask activity) = 12
 
 abbrev pub with_a : State
 with_a = beginning [] (binary_file a 1 [] ∷ [])
@@ -28,10 +38,11 @@ kept_by events = tables_of (run events with_a).state
 abbrev pub changes_of : List Event → Event → List Change
 changes_of before event = delta (kept_by before) (kept_by (before ++ event ∷ []))
 
--- an event makes changes of these kinds, which lead on
+-- an event makes changes of these kinds, which fit what was kept before, and lead on
 pub record Makes (before : List Event) (event : Event) (kinds : List ℕ) : Type 0 where
   pub kinds_are : map kind (changes_of before event) ≡ kinds
-  pub leads : after_changes (changes_of before event) (kept_by before) ≡ kept_by (before ++ event ∷ [])
+  pub fits : all_fit (kept_by before) (changes_of before event) ≡ true
+  pub leads : after_all (kept_by before) (changes_of before event) ≡ kept_by (before ++ event ∷ [])
 
 abbrev pub selects : List Event
 selects = on 1 (initialize 255 ∷ select a 192 ∷ [])

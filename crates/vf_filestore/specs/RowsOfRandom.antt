@@ -26,14 +26,17 @@ use Rattle.vf_pdu_parameters.specs.declared.file_attributes.Attributes.{Attribut
 use Rattle.vf_pdu_parameters.specs.declared.file_attributes.Grant.{Grant}
 use Rattle.vf_pdu_parameters.specs.declared.file_attributes.Stamp as shown
 use Rattle.vf_tree.specs.FileTree.{DataUnit}
+use Rattle.vf_tables.specs.declared.docket.Docket.{Docket}
+use Rattle.vf_tables.specs.declared.docket.Regime.{Regime}
+use Rattle.vf_tables.specs.declared.user.User.{User}
 use Rattle.vf_filestore.specs.Aborts.{Setting}
 use Rattle.vf_filestore.specs.Diagnostics.{plain}
 use Rattle.vf_filestore.specs.Dockets.{stopped}
 use Rattle.vf_filestore.specs.History.{guest}
 use Rattle.vf_filestore.specs.Runs.{Event, Arrives, Takes, Faults, Stops, beginning, run}
-use Rattle.vf_filestore.specs.Samples.{a, b, ann, bob, binary_file, contents_type, octet, set, text_file}
-use Rattle.vf_filestore.specs.State.{State, User}
-use Rattle.vf_filestore.specs.Tables.{Docket, Moving, Idle, Reading, Writing, tables_of}
+use Rattle.vf_filestore.specs.Samples.{a, b, ann, bob, at_rest, binary_file, contents_type, in_read, in_write, octet, open_kept, set, text_file}
+use Rattle.vf_filestore.specs.State.{State}
+use Rattle.vf_filestore.specs.Tables.{tables_of}
 use Rattle.vf_filestore.specs.Transition.{Sent, Turn, sent_on}
 
 abbrev pub c : List ℕ
@@ -118,20 +121,9 @@ file_of name permitted contents terms created modified read changed version cons
   tree = record { constraint = constraint; units = units };
 }
 
-abbrev pub docket_of : (identity : List ℕ) (activity : ℕ) (file : List ℕ) (requested : Actions) → List Control → (mode : Actions) → Option (List ℕ) → (position number last : ℕ) → Moving → Docket
-docket_of identity activity file requested controls mode password position number last moving = record {
-  identity = identity;
-  activity = activity;
-  file = file;
-  requested = requested;
-  controls = record { each = controls };
-  mode = mode;
-  password = password;
-  position = position;
-  number = number;
-  last = last;
-  moving = moving;
-}
+abbrev pub docket_of : (identity : List ℕ) (activity : ℕ) (file : List ℕ) (requested : Actions) → List Control → (mode : Actions) → Option (List ℕ) → (position number last : ℕ) → (Regime → Docket) → Docket
+docket_of identity activity file requested controls mode password position number last kept =
+    kept (open_kept identity activity file requested controls mode password position number last)
 
 abbrev pub beginning_3415 : State
 beginning_3415 = beginning [] (binary_file a 1 (octet 0 ∷ octet 1 ∷ octet 2 ∷ octet 3 ∷ octet 4 ∷ octet 5 ∷ octet 6
@@ -163,7 +155,7 @@ run_3415 = run events_3415 beginning_3415
 
 abbrev pub kept_3415 : List Docket
 kept_3415 = docket_of guest 7 a (set 29) (Shared ∷ NotRequired ∷ NotRequired ∷ Shared ∷ NotRequired ∷ NotRequired
-    ∷ NotRequired ∷ NotRequired ∷ []) (set 9) None 0 3 32 Idle ∷ []
+    ∷ NotRequired ∷ NotRequired ∷ []) (set 9) None 0 3 32 at_rest ∷ []
 
 abbrev pub beginning_1939 : State
 beginning_1939 = beginning [] (binary_file a 1 (octet 0 ∷ octet 1 ∷ octet 2 ∷ octet 3 ∷ octet 4 ∷ octet 5 ∷ octet 6
@@ -195,9 +187,9 @@ run_1939 = run events_1939 beginning_1939
 
 abbrev pub kept_1939 : List Docket
 kept_1939 = docket_of bob 7 b (set 255) (Shared ∷ Shared ∷ NotRequired ∷ NotRequired ∷ Shared ∷ Shared ∷ Shared
-    ∷ Shared ∷ []) (set 19) (Some password) 0 1 0 (Reading Next US 20 0 1) ∷ docket_of guest 7 b (set 31) (Shared
+    ∷ Shared ∷ []) (set 19) (Some password) 0 1 0 (in_read Next US 20 0 1) ∷ docket_of guest 7 b (set 31) (Shared
     ∷ Shared ∷ NotRequired ∷ NotRequired ∷ NotRequired ∷ NotRequired ∷ NotRequired ∷ NotRequired
-    ∷ []) (set 3) None 0 1 0 Idle ∷ []
+    ∷ []) (set 3) None 0 1 0 at_rest ∷ []
 
 abbrev pub beginning_2627 : State
 beginning_2627 = beginning (user_of guest None ∷ user_of ann (Some password)
@@ -262,7 +254,7 @@ run_8 = run events_8 beginning_8
 
 abbrev pub kept_8 : List Docket
 kept_8 = docket_of guest 8 b (set 17) (Exclusive ∷ NoAccess ∷ NoAccess ∷ Shared ∷ Exclusive ∷ NotRequired
-    ∷ NotRequired ∷ NotRequired ∷ []) (set 1) None 0 2 19 Idle ∷ []
+    ∷ NotRequired ∷ NotRequired ∷ []) (set 1) None 0 2 19 at_rest ∷ []
 
 abbrev pub beginning_1392 : State
 beginning_1392 = beginning [] (file_of a (set 255) (contents_type 3) (term_of (Some ann) (set 255) (Some password)
@@ -291,8 +283,8 @@ run_1392 = run events_1392 beginning_1392
 
 abbrev pub kept_1392 : List Docket
 kept_1392 = docket_of guest 7 b (set 255) (Shared ∷ Shared ∷ NotRequired ∷ NotRequired ∷ Shared ∷ Shared ∷ Shared
-    ∷ Shared ∷ []) (set 19) None 0 1 0 (Writing End Insert 0 0 []) ∷ docket_of ann 7 b (set 255) (Shared ∷ Shared
-    ∷ NotRequired ∷ NotRequired ∷ NotRequired ∷ Shared ∷ Shared ∷ Shared ∷ []) (set 3) None 0 2 0 Idle ∷ []
+    ∷ Shared ∷ []) (set 19) None 0 1 0 (in_write End Insert 0 0 []) ∷ docket_of ann 7 b (set 255) (Shared ∷ Shared
+    ∷ NotRequired ∷ NotRequired ∷ NotRequired ∷ Shared ∷ Shared ∷ Shared ∷ []) (set 3) None 0 2 0 at_rest ∷ []
 
 abbrev pub beginning_168 : State
 beginning_168 = beginning (user_of guest None ∷ user_of ann (Some password) ∷ []) (binary_file a 1 (octet 0 ∷ octet 1
@@ -322,7 +314,7 @@ run_168 = run events_168 beginning_168
 
 abbrev pub kept_168 : List Docket
 kept_168 = docket_of guest 7 a (set 255) (Shared ∷ NotRequired ∷ Shared ∷ Shared ∷ Shared ∷ Shared ∷ Shared ∷ Shared
-    ∷ []) (set 29) None 0 4 20 (Writing Begin Replace 0 0 []) ∷ []
+    ∷ []) (set 29) None 0 4 20 (in_write Begin Replace 0 0 []) ∷ []
 
 abbrev pub beginning_1150 : State
 beginning_1150 = beginning [] (file_of a (set 255) (contents_type 3) (term_of (Some ann) (set 255) (Some password)
@@ -360,7 +352,7 @@ run_1150 = run events_1150 beginning_1150
 
 abbrev pub kept_1150 : List Docket
 kept_1150 = docket_of ann 7 b (set 255) (Shared ∷ Shared ∷ NotRequired ∷ NotRequired ∷ Shared ∷ Shared ∷ Shared
-    ∷ Shared ∷ []) (set 19) None 0 1 0 (Writing End Insert 0 2 ((Descriptor None true ∷ Text 25 (71 ∷ [])
+    ∷ Shared ∷ []) (set 19) None 0 1 0 (in_write End Insert 0 2 ((Descriptor None true ∷ Text 25 (71 ∷ [])
     ∷ Descriptor None true ∷ []) ∷ [] ∷ [])) ∷ []
 
 abbrev pub beginning_3037 : State
@@ -397,7 +389,7 @@ run_3037 = run events_3037 beginning_3037
 
 abbrev pub kept_3037 : List Docket
 kept_3037 = docket_of guest 7 a (set 31) (NotRequired ∷ NotRequired ∷ Shared ∷ NotRequired ∷ NotRequired ∷ NotRequired
-    ∷ NotRequired ∷ NotRequired ∷ []) (set 4) None 0 3 13 (Writing Begin Extend 13 0 []) ∷ []
+    ∷ NotRequired ∷ NotRequired ∷ []) (set 4) None 0 3 13 (in_write Begin Extend 13 0 []) ∷ []
 
 abbrev pub beginning_901 : State
 beginning_901 = beginning [] (binary_file a 1 [] ∷ text_file b ((Text 25 (65 ∷ []) ∷ []) ∷ (Text 25 (66 ∷ []) ∷ [])
@@ -430,7 +422,7 @@ run_901 = run events_901 beginning_901
 
 abbrev pub kept_901 : List Docket
 kept_901 = docket_of guest 7 a (set 19) (NotRequired ∷ NotRequired ∷ NotRequired ∷ NotRequired ∷ NotRequired
-    ∷ NotRequired ∷ NotRequired ∷ NotRequired ∷ []) (set 0) None 0 1 0 (Writing Begin Replace 13 1 ([] ∷ [])) ∷ []
+    ∷ NotRequired ∷ NotRequired ∷ NotRequired ∷ []) (set 0) None 0 1 0 (in_write Begin Replace 13 1 ([] ∷ [])) ∷ []
 
 abbrev pub beginning_1204 : State
 beginning_1204 = beginning [] (file_of a (set 255) (contents_type 3) (term_of (Some ann) (set 255) (Some password)
@@ -465,9 +457,9 @@ run_1204 = run events_1204 beginning_1204
 
 abbrev pub kept_1204 : List Docket
 kept_1204 = docket_of guest 7 a (set 1) (Shared ∷ NotRequired ∷ NotRequired ∷ NotRequired ∷ NotRequired ∷ NotRequired
-    ∷ NotRequired ∷ NotRequired ∷ []) (set 1) (Some password) 0 1 0 (Reading Begin UA 0 0 1)
+    ∷ NotRequired ∷ NotRequired ∷ []) (set 1) (Some password) 0 1 0 (in_read Begin UA 0 0 1)
     ∷ docket_of bob 7 b (set 255) (Shared ∷ Shared ∷ NotRequired ∷ NotRequired ∷ Shared ∷ Shared ∷ Shared ∷ Shared
-    ∷ []) (set 19) None 0 1 0 (Writing End Insert 0 3 ([] ∷ (Descriptor None true ∷ []) ∷ [] ∷ [])) ∷ []
+    ∷ []) (set 19) None 0 1 0 (in_write End Insert 0 3 ([] ∷ (Descriptor None true ∷ []) ∷ [] ∷ [])) ∷ []
 
 abbrev pub beginning_1368 : State
 beginning_1368 = beginning [] (binary_file a 1 (octet 0 ∷ []) ∷ text_file b [] ∷ [])
@@ -497,7 +489,7 @@ run_1368 = run events_1368 beginning_1368
 
 abbrev pub kept_1368 : List Docket
 kept_1368 = docket_of guest 7 b (set 255) (Shared ∷ Shared ∷ NotRequired ∷ NotRequired ∷ Shared ∷ Shared ∷ Shared
-    ∷ Shared ∷ []) (set 19) None 0 4 0 (Writing End Insert 0 0 []) ∷ []
+    ∷ Shared ∷ []) (set 19) None 0 4 0 (in_write End Insert 0 0 []) ∷ []
 
 abbrev pub beginning_2747 : State
 beginning_2747 = beginning [] (binary_file a 1 (octet 0 ∷ octet 1 ∷ octet 2 ∷ octet 3 ∷ octet 4 ∷ octet 5 ∷ octet 6
@@ -529,10 +521,10 @@ run_2747 = run events_2747 beginning_2747
 
 abbrev pub kept_2747 : List Docket
 kept_2747 = docket_of guest 8 b (set 255) (Shared ∷ Shared ∷ NotRequired ∷ NotRequired ∷ Shared ∷ Shared ∷ Shared
-    ∷ Shared ∷ []) (set 19) None 3 4 0 (Writing End Insert 0 0 []) ∷ docket_of guest 7 a (set 255) (Shared
+    ∷ Shared ∷ []) (set 19) None 3 4 0 (in_write End Insert 0 0 []) ∷ docket_of guest 7 a (set 255) (Shared
     ∷ NotRequired ∷ Shared ∷ NotRequired ∷ NotRequired ∷ Shared ∷ Shared ∷ Shared
-    ∷ []) (set 5) None 0 1 0 (Writing Begin Extend 13 0 []) ∷ docket_of bob 7 b (set 255) (NotRequired ∷ Shared
-    ∷ NotRequired ∷ NotRequired ∷ NotRequired ∷ Shared ∷ Shared ∷ Shared ∷ []) (set 2) None 3 2 0 Idle ∷ []
+    ∷ []) (set 5) None 0 1 0 (in_write Begin Extend 13 0 []) ∷ docket_of bob 7 b (set 255) (NotRequired ∷ Shared
+    ∷ NotRequired ∷ NotRequired ∷ NotRequired ∷ Shared ∷ Shared ∷ Shared ∷ []) (set 2) None 3 2 0 at_rest ∷ []
 
 pub record RowsOfRandom : Type 0 where
   pub sent_3415 : run_3415.sent ≡ replies 1 (InitializeResponse None 15 16)

@@ -8,12 +8,13 @@ use Rattle.vf_elements.specs.declared.message.Said.{Said}
 use Rattle.vf_elements.specs.declared.message.Said.TheVariants as answers
 use Rattle.vf_pdu.specs.declared.pdu.Pdu.TheVariants.{InitializeResponse, RecoverResponse, DataEnd, TransferEndRequest, TransferEndResponse, CloseRequest, CloseResponse}
 use Rattle.vf_pdu_fields.specs.declared.operation.WriteOperation.TheVariants.{Replace}
+use Rattle.vf_tables.specs.declared.docket.Docket.{Docket}
 use Rattle.vf_filestore.specs.Dockets.{broken, stopped}
 use Rattle.vf_filestore.specs.History.{guest}
 use Rattle.vf_filestore.specs.Runs.{Event, Stops, beginning, run}
-use Rattle.vf_filestore.specs.Samples.{a, ann, binary_file, diagnostic, heard_on, initialize, initialize_as, left_by, modified, octet, on, open_for, read_whole, recover, recoverable, replace, select, set, then_on, value}
+use Rattle.vf_filestore.specs.Samples.{a, ann, binary_file, diagnostic, heard_on, in_write, initialize, initialize_as, left_by, modified, octet, on, open_for, open_kept, read_whole, recover, recoverable, replace, select, set, then_on, value}
 use Rattle.vf_filestore.specs.State.{State}
-use Rattle.vf_filestore.specs.Tables.{Docket, Writing, tables_of}
+use Rattle.vf_filestore.specs.Tables.{tables_of}
 
 abbrev pub with_a : State
 with_a = beginning [] (binary_file a 1 [] ∷ [])
@@ -46,21 +47,9 @@ outdated =
 
 -- what a store keeps of the write
 abbrev pub kept_write : List Docket
-kept_write = record {
-  identity = guest;
-  activity = 7;
-  file = a;
-  requested = set 4;
-  controls = record {
-    each = NotRequired ∷ NotRequired ∷ Shared ∷ NotRequired ∷ NotRequired ∷ NotRequired ∷ NotRequired ∷ NotRequired ∷ [];
-  };
-  mode = set 4;
-  password = None;
-  position = 0;
-  number = 1;
-  last = 0;
-  moving = Writing Begin Replace 0 1 ((octet 1 ∷ []) ∷ []);
-} ∷ []
+kept_write =
+    in_write Begin Replace 0 1 ((octet 1 ∷ []) ∷ [])
+    (open_kept guest 7 a (set 4) (NotRequired ∷ NotRequired ∷ Shared ∷ NotRequired ∷ NotRequired ∷ NotRequired ∷ NotRequired ∷ NotRequired ∷ []) (set 4) None 0 1 0) ∷ []
 
 abbrev pub written_state : State
 written_state = (run writing with_a).state

@@ -2,9 +2,10 @@
 use Rattle.std.specs.Prelude.{ℕ, List, [], ◌∷◌, ◌++◌}
 use Rattle.vf_attr.specs.declared.file.File.{File}
 use Rattle.vf_elements.specs.declared.message.Message.{Message}
+use Rattle.vf_tables.specs.declared.user.User.{User}
 use Rattle.vf_filestore.specs.Aborts.{Setting}
 use Rattle.vf_filestore.specs.Dockets.{stopped}
-use Rattle.vf_filestore.specs.State.{State, User, arrived}
+use Rattle.vf_filestore.specs.State.{State, arrived}
 use Rattle.vf_filestore.specs.Transition.{Sent, Turn, fault, transition}
 
 pub data Event : Type 0 where

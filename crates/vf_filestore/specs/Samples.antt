@@ -1,11 +1,14 @@
 -- Messages, settings and runs that the examples are made of.
-use Rattle.std.specs.Prelude.{ℕ, true, List, [], ◌∷◌, map, filter_map, Option, None, Some, if◌then◌else◌, nat_eq}
+use Rattle.std.specs.Prelude.{ℕ, true, false, List, [], ◌∷◌, map, filter_map, Option, None, Some, if◌then◌else◌, nat_eq}
 use Rattle.vf_attr.specs.declared.file.File.{File}
 use Rattle.vf_attr.specs.declared.stamp.Stamp.{Stamp}
 use Rattle.vf_base.specs.declared.access.Constraint.TheVariants.{Unstructured, SequentialFlat}
+use Rattle.vf_base.specs.declared.access.Context.{Context}
 use Rattle.vf_base.specs.declared.access.Context.TheVariants.{UA}
+use Rattle.vf_base.specs.declared.access.FaduId.{FaduId}
 use Rattle.vf_base.specs.declared.access.FaduId.TheVariants.{Begin}
 use Rattle.vf_base.specs.declared.action.Actions.{Actions}
+use Rattle.vf_base.specs.declared.action.Control.{Control}
 use Rattle.vf_base.specs.declared.contents.Contents.{Contents}
 use Rattle.vf_base.specs.declared.diagnostic.Diagnostic.{Diagnostic}
 use Rattle.vf_base.specs.declared.element.Element.{Element}
@@ -16,13 +19,18 @@ use Rattle.vf_elements.specs.declared.message.Said.{Said}
 use Rattle.vf_elements.specs.declared.message.Said.TheVariants as answers
 use Rattle.vf_pdu.specs.declared.pdu.Pdu.{Pdu}
 use Rattle.vf_pdu.specs.declared.pdu.Pdu.TheVariants.{InitializeRequest, SelectRequest, CreateRequest, OpenRequest, ReadRequest, WriteRequest, RecoverRequest}
+use Rattle.vf_pdu_fields.specs.declared.operation.WriteOperation.{WriteOperation}
 use Rattle.vf_pdu_fields.specs.declared.operation.WriteOperation.TheVariants.{Replace}
+use Rattle.vf_tables.specs.declared.docket.Direction.TheVariants.{Idle, Read, Write}
+use Rattle.vf_tables.specs.declared.docket.Docket.{Docket}
+use Rattle.vf_tables.specs.declared.docket.Regime as tables
 use Rattle.vf_tree.specs.FileTree.{DataUnit}
 use Rattle.vf_filestore.specs.Aborts.{Setting}
 use Rattle.vf_filestore.specs.Diagnostics.{plain}
 use Rattle.vf_filestore.specs.History.{History, guest}
 use Rattle.vf_filestore.specs.Runs.{Event, Takes, Arrives, run}
 use Rattle.vf_filestore.specs.State.{State, StandingParty, party_of}
+use Rattle.vf_filestore.specs.Tables.{operation_of}
 use Rattle.vf_filestore.specs.Transition.{Sent}
 
 -- names
@@ -161,3 +169,41 @@ replies pdus = map answers.Pdu pdus
 
 abbrev pub diagnostic : ℕ → Option Diagnostic
 diagnostic number = Some (plain number)
+
+-- What a store keeps of a recoverable open: its fields where no transfer is under way, and the same with a read and with
+-- a write.
+abbrev pub open_kept : (identity : List ℕ) (activity : ℕ) (file : List ℕ) (requested : Actions) → List Control → (mode : Actions) → Option (List ℕ) → (position number last : ℕ) → tables.Regime
+open_kept identity activity file requested controls mode password position number last = record {
+  identity = identity;
+  activity = activity;
+  file = file;
+  requested = requested;
+  controls = record { each = controls };
+  mode = mode;
+  password = password;
+  position = position;
+  number = number;
+  last = last;
+  window = 0;
+  direction = Idle;
+  fadu = Begin;
+  refused = 0;
+  point = 0;
+  ended = false;
+  version = 0;
+}
+
+abbrev pub at_rest : tables.Regime → Docket
+at_rest regime = record { regime = regime; staged = [] }
+
+abbrev pub in_read : FaduId → Context → (refused point version : ℕ) → tables.Regime → Docket
+in_read fadu context refused point version regime = record {
+  regime = record regime { direction = Read context; fadu = fadu; refused = refused; point = point; version = version };
+  staged = [];
+}
+
+abbrev pub in_write : FaduId → WriteOperation → (refused point : ℕ) → List (List Element) → tables.Regime → Docket
+in_write fadu operation refused point pieces regime = record {
+  regime = record regime { direction = Write (operation_of operation); fadu = fadu; refused = refused; point = point };
+  staged = pieces;
+}

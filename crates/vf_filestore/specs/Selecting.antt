@@ -15,12 +15,13 @@ use Rattle.vf_files.specs.Rows.{access_row, made}
 use Rattle.vf_files.specs.declared.creation.NewFile.{NewFile}
 use Rattle.vf_files.specs.declared.limits.TheConstants.{MOST_FILES}
 use Rattle.vf_pdu_fields.specs.declared.controls.AttributeControls.{AttributeControls}
+use Rattle.vf_tables.specs.declared.user.User.{User}
 use Rattle.vf_filestore.specs.Controls.{attributes_usable, joined, not_opened}
 use Rattle.vf_filestore.specs.Diagnostics.{Row, row, name_unknown, name_exists, not_permitted, contents_mismatch, store_full, attribute_unsupported, not_a_user}
 use Rattle.vf_filestore.specs.History.{Selection}
 use Rattle.vf_filestore.specs.Holders.{alone_row, clash_row}
 use Rattle.vf_filestore.specs.Limits.{most_names}
-use Rattle.vf_filestore.specs.State.{State, User, requested_in, file_in}
+use Rattle.vf_filestore.specs.State.{State, requested_in, file_in}
 
 abbrev pub is_user : (identity : List ℕ) → User → Bool
 is_user identity user = bytes_eq user.identity identity

@@ -29,6 +29,7 @@ use Rattle.vf_pdu.specs.declared.pdu.Pdu.TheVariants.{InitializeRequest, Recover
 use Rattle.vf_transfer.specs.Transfer.{NamesKnownChecks}
 use Rattle.vf_tree.specs.Contexts.{shown}
 use Rattle.vf_tree.specs.FileTree.{IsFile}
+use Rattle.vf_tables.specs.declared.tables.Tables.{Tables}
 use Rattle.vf_filestore.specs.Controls.{attributes_usable, contents_usable}
 use Rattle.vf_filestore.specs.History.{Association, Given, Nothing, Showed, History, Regime, Selection, association, guest, regime, selection}
 use Rattle.vf_filestore.specs.Holders.{controls_by}
@@ -36,7 +37,7 @@ use Rattle.vf_filestore.specs.Limits.{most_dockets, most_version}
 use Rattle.vf_filestore.specs.Opening.{action_of}
 use Rattle.vf_filestore.specs.Stage.{Group, pending, stage_by}
 use Rattle.vf_filestore.specs.State.{Docket, State, StandingParty, activity_in, identity_of, mode_in}
-use Rattle.vf_filestore.specs.Tables.{Tables, tables_of}
+use Rattle.vf_filestore.specs.Tables.{tables_of}
 use Rattle.vf_filestore.specs.Transfers.{Movement, Reads, Writes, Transfer, data_end, happened, under_way, was_shown}
 
 -- HISTORIES. Whose association it is doesn't matter for the stage within one.

@@ -3,15 +3,12 @@
 use Rattle.std.specs.Prelude.{ℕ, Bool, ◌&&◌, not, List, [], ◌∷◌, filter, find, Option, None, Some, if◌then◌else◌, nat_eq}
 use Rattle.std.specs.Str.{bytes_eq}
 use Rattle.vf_attr.specs.declared.file.File.{File}
-use Rattle.vf_base.specs.declared.element.Element.{Element}
 use Rattle.vf_base.specs.declared.action.Actions.{Actions}
 use Rattle.vf_elements.specs.declared.message.Message.{Message}
 use Rattle.vf_files.specs.Files.{file_named}
+use Rattle.vf_tables.specs.declared.task.Task.{Task}
+use Rattle.vf_tables.specs.declared.user.User.{User}
 use Rattle.vf_filestore.specs.History.{Association, History, Regime, Selection, association, guest, regime, selection}
-
-pub record User : Type 0 where
-  pub identity : List ℕ
-  pub password : Option (List ℕ)
 
 -- a party that stands: its link, all messages that came on it, and those that were concluded, both the newest first
 pub record StandingParty : Type 0 where
@@ -25,23 +22,9 @@ pub record Docket : Type 0 where
   pub activity : ℕ
   pub history : History
 
--- What an initiator on this store has to do (profile): a put or a get, and how it stands. Nothing that a responder
--- takes changes it.
-pub record Task : Type 0 where
-  pub activity : ℕ
-  pub is_put : Bool
-  pub kind : ℕ
-  pub every : ℕ
-  pub name : List ℕ
-  pub identity : List ℕ
-  pub number : ℕ
-  pub point : ℕ
-  pub state : ℕ
-  pub outcome : ℕ
-  pub pieces : List (List Element)
-
--- Files, parties and dockets stand in the order in which they came. The number of messages that were concluded so far
--- numbers the next one; no code keeps it.
+-- Users, and the tasks of an initiator on this store, are those of the tables: no message changes them. Files, parties and
+-- dockets stand in the order in which they came. The number of messages that were concluded so far numbers the next one;
+-- no code keeps it.
 pub record State : Type 0 where
   pub users : List User
   pub files : List File
