@@ -27,7 +27,7 @@ use Rattle.vf_filestore.proofs.Limited.{request_limited}
 use Rattle.vf_filestore.proofs.Lists.{all-filter, all_append, all_both, all_left, all_right, all_weaker, flat_map-append, all-flat_map, all-from_flat_map}
 use Rattle.vf_filestore.proofs.Named.{AsksKnown, named_message}
 use Rattle.vf_filestore.proofs.Owned.{AsksCheck, due_later, due_later_plain, goes_for, still_sound, within_stage}
-use Rattle.vf_filestore.proofs.Parties.{IsOff, located, off_after, same_links, with_at}
+use Rattle.vf_filestore.proofs.Parties.{IsOff, Located, located, off_after, same_links, with_at}
 use Rattle.vf_filestore.proofs.Regimes.{around, around_after, request_numbered}
 use Rattle.vf_filestore.proofs.Requests.{own_request}
 use Rattle.vf_filestore.proofs.Same.{entry_same, files_same, with_parties, with_trace}
@@ -218,7 +218,7 @@ dockets_same : (party : StandingParty) (trace : List Message) (message : Message
 dockets_same party trace message dockets = refl
 
 -- the state with this party in the place of the one of its link
-abbrev after_entry : State → StandingParty → Setting → Message → Given → (trace : List Message) (before after : List StandingParty) → State
+abbrev pub after_entry : State → StandingParty → Setting → Message → Given → (trace : List Message) (before after : List StandingParty) → State
 after_entry state party setting message given trace before after = record state {
   files = files_after state party setting.moment given message;
   parties = before ++ record party { trace = trace; history = concluding_entry state party setting message given ∷ taken_up state party message } ∷ after;
@@ -226,7 +226,7 @@ after_entry state party setting message given trace before after = record state 
   concluded = state.concluded + 1;
 }
 
-after_sound : (state : State) (party : StandingParty) (setting : Setting) (message : Message) (given : Given) (trace : List Message) (before after : List StandingParty) → IsSound state
+pub after_sound : (state : State) (party : StandingParty) (setting : Setting) (message : Message) (given : Given) (trace : List Message) (before after : List StandingParty) → IsSound state
     → state.parties ≡ before ++ party ∷ after → AllByRecursion (IsOff party.link) before → IfSome (pending trace) HasItems → IsGranting state party setting message given
     → IsSound (after_entry state party setting message given trace before after)
 after_sound state party setting message given trace before after sound is absent grouped granting =
@@ -279,14 +279,12 @@ after_sound state party setting message given trace before after sound is absent
     filed state party later (parts others alone) = others.filed
 
 -- the same, as the definitions have it: the party is looked up, and has another trace
-pub concluded_sound : (state : State) (link : ℕ) (party : StandingParty) (setting : Setting) (message : Message) (given : Given) (parties : List StandingParty) (trace : List Message) → IsSound state
-    → party_of link state.parties ≡ Some party → parties ≡ with_party (with_trace party trace) state.parties → IfSome (pending trace) HasItems → IsGranting state party setting message given
-    → IsSound (concluded (with_parties state parties) (with_trace party trace) (concluding_entry (with_parties state parties) (with_trace party trace) setting message given))
-concluded_sound state link party setting message given parties trace sound found are grouped granting =
-    let at = located link state.parties party found in
+pub concluded_is : (state : State) (link : ℕ) (party : StandingParty) (setting : Setting) (message : Message) (given : Given) (parties : List StandingParty) (trace : List Message) (at : Located link state.parties party)
+    → parties ≡ with_party (with_trace party trace) state.parties
+    → concluded (with_parties state parties) (with_trace party trace) (concluding_entry (with_parties state parties) (with_trace party trace) setting message given) ≡ after_entry state party setting message given trace at.before at.after
+concluded_is state link party setting message given parties trace at are =
     let entry = concluding_entry state party setting message given in
     let next : StandingParty = record party { trace = trace; history = entry ∷ taken_up state party message } in
-    let absent : AllByRecursion (IsOff party.link) at.before = subst (λ link. AllByRecursion (IsOff link) at.before) (sym at.same) at.absent in
     let first : parties ≡ at.before ++ with_trace party trace ∷ at.after
     = are ∙ ap (with_party (with_trace party trace)) at.is ∙ with_at link at.before at.after party (with_trace party trace) at.absent at.same at.same in
     let now : with_party next parties ≡ at.before ++ next ∷ at.after
@@ -298,7 +296,15 @@ concluded_sound state link party setting message given parties trace sound found
       dockets = dockets_same party trace message state.dockets i;
       concluded = state.concluded + 1;
     } in
-    subst (λ (one : State). IsSound one) (sym (ap (concluded (with_parties state parties) (with_trace party trace)) (entry_same state party parties trace setting message given) ∙ is))
+    ap (concluded (with_parties state parties) (with_trace party trace)) (entry_same state party parties trace setting message given) ∙ is
+
+pub concluded_sound : (state : State) (link : ℕ) (party : StandingParty) (setting : Setting) (message : Message) (given : Given) (parties : List StandingParty) (trace : List Message) → IsSound state
+    → party_of link state.parties ≡ Some party → parties ≡ with_party (with_trace party trace) state.parties → IfSome (pending trace) HasItems → IsGranting state party setting message given
+    → IsSound (concluded (with_parties state parties) (with_trace party trace) (concluding_entry (with_parties state parties) (with_trace party trace) setting message given))
+concluded_sound state link party setting message given parties trace sound found are grouped granting =
+    let at = located link state.parties party found in
+    let absent : AllByRecursion (IsOff party.link) at.before = subst (λ link. AllByRecursion (IsOff link) at.before) (sym at.same) at.absent in
+    subst (λ (one : State). IsSound one) (sym (concluded_is state link party setting message given parties trace at are))
     (after_sound state party setting message given trace at.before at.after sound at.is absent grouped granting)
 
 pub grants_sound : (state : State) (link : ℕ) (party : StandingParty) (setting : Setting) (message : Message) (given : Given) (parties : List StandingParty) (trace : List Message) → IsSound state

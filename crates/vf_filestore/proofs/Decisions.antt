@@ -55,19 +55,19 @@ use Rattle.vf_filestore.proofs.Same.{with_parties, with_trace}
 pub party_sound : (state : State) (link : ℕ) (party : StandingParty) → IsSound state → party_of link state.parties ≡ Some party → IsSoundParty state.files party
 party_sound state link party sound found = found_all (IsSoundParty state.files) (is_of_link link) state.parties party found sound.parties
 
-put_again : (link : ℕ) (parties : List StandingParty) (party : StandingParty) → party_of link parties ≡ Some party → parties ≡ with_party party parties
+pub put_again : (link : ℕ) (parties : List StandingParty) (party : StandingParty) → party_of link parties ≡ Some party → parties ≡ with_party party parties
 put_again link parties party found =
     let at = located link parties party found in
     at.is ∙ sym (ap (with_party party) at.is ∙ with_at link at.before at.after party party at.absent at.same at.same)
 
 -- ---- groups
 
-item_asks : (item : Pdu) (history : History) → IsItem item → AsksCheck item history
+pub item_asks : (item : Pdu) (history : History) → IsItem item → AsksCheck item history
 item_asks (RestartRequest point) history is = absurd cc
 item_asks (RecoverRequest activity number point) history is = tt
 item_asks item history is = tt
 
-trial_taken : (state : State) (party : StandingParty) (setting : Setting) (item : Pdu) (given : Given) → trial_decision state party setting item ≡ Grants given
+pub trial_taken : (state : State) (party : StandingParty) (setting : Setting) (item : Pdu) (given : Given) → trial_decision state party setting item ≡ Grants given
     → (takes (regime_stage party.history) (messages.Pdu item) ≡ true) × (request_decision state party setting item ≡ Grants given)
 trial_taken state party setting item given is = by (takes (regime_stage party.history) (messages.Pdu item)) refl is
   where
@@ -92,7 +92,7 @@ step_sound later keeps state link party setting item is_item sound found (Groups
 step_sound later keeps state link party setting item is_item sound found Ends is = keeps state sound
 step_sound later keeps state link party setting item is_item sound found Leaves is = keeps state sound
 
-trial_sound : (link : ℕ) (setting : Setting) (items : List Pdu) (state : State) → AllByRecursion IsItem items → IsSound state → IsSound (trial link setting items state).state
+pub trial_sound : (link : ℕ) (setting : Setting) (items : List Pdu) (state : State) → AllByRecursion IsItem items → IsSound state → IsSound (trial link setting items state).state
 trial_sound link setting [] state are sound = sound
 trial_sound link setting (item ∷ items) state are sound =
     by (λ state sound. trial_sound link setting items state are.1 sound) (party_of link state.parties) refl
@@ -170,14 +170,14 @@ heard_sound state link party trace sound found grouped =
     })
 
 -- what a party leaves doesn't look at its trace
-left_same : (party : StandingParty) (trace : List Message) → docket_left_by (with_trace party trace) ≡ docket_left_by party
+pub left_same : (party : StandingParty) (trace : List Message) → docket_left_by (with_trace party trace) ≡ docket_left_by party
 left_same party trace = by (activity_of party)
   where
     by : (one : Option ℕ) → docket_by one (with_trace party trace) ≡ docket_by one party
     by None = refl
     by (Some activity) = refl
 
-broken_same : (state : State) (link : ℕ) (party : StandingParty) (trace : List Message) → IsDistinct nat_eq (map link_of state.parties) → party_of link state.parties ≡ Some party
+pub broken_same : (state : State) (link : ℕ) (party : StandingParty) (trace : List Message) → IsDistinct nat_eq (map link_of state.parties) → party_of link state.parties ≡ Some party
     → broken party.link (with_parties state (with_party (with_trace party trace) state.parties)) ≡ broken party.link state
 broken_same state link party trace linked found =
     let at = located link state.parties party found in
@@ -201,7 +201,7 @@ leaves_sound state link party trace sound found =
 -- ---- decisions
 
 -- a decision with which the party stays is made where its stage takes the message
-decided_taken : (state : State) (party : StandingParty) (setting : Setting) (message : Message) (one : Decision) → decision state party setting message ≡ one → ((number : ℕ) → Aborts number ≡ one → ⊥)
+pub decided_taken : (state : State) (party : StandingParty) (setting : Setting) (message : Message) (one : Decision) → decision state party setting message ≡ one → ((number : ℕ) → Aborts number ≡ one → ⊥)
     → (takes (stage party) message ≡ true) × (decision_in (pending party.trace) state party setting message ≡ one)
 decided_taken state party setting message one is stays = by (takes (stage party) message) refl is
   where
@@ -233,7 +233,7 @@ pub record IsPassed (state : State) (party : StandingParty) (setting : Setting) 
   pub unaborted : first_abort (aborting.aborts party setting message) ≡ None
   pub decided : message_decision state party setting message ≡ Grants given
 
-passed_alone : (state : State) (party : StandingParty) (setting : Setting) (message : Message) (given : Given) (one : Option Group) → pending party.trace ≡ one → takes (stage party) message ≡ true
+pub passed_alone : (state : State) (party : StandingParty) (setting : Setting) (message : Message) (given : Given) (one : Option Group) → pending party.trace ≡ one → takes (stage party) message ≡ true
     → decision_in one state party setting message ≡ Grants given → IsPassed state party setting message given
 passed_alone state party setting message given (Some group) none taken is = absurd (no_grant group message given is)
 passed_alone state party setting message given None none taken is = by (first_abort (aborting.aborts party setting message)) refl is
@@ -266,7 +266,7 @@ request_asks party setting (RestartRequest point) is = restart_known party setti
 request_asks party setting (RecoverRequest activity number point) is = tt
 request_asks party setting request is = tt
 
-granting : (state : State) (party : StandingParty) (setting : Setting) (message : Message) (given : Given) → IsSound state → IsSoundParty state.files party → IsPassed state party setting message given
+pub granting : (state : State) (party : StandingParty) (setting : Setting) (message : Message) (given : Given) → IsSound state → IsSoundParty state.files party → IsPassed state party setting message given
     → IsGranting state party setting message given
 granting state party setting (messages.Pdu request) given sound own passed =
     granting_request state party setting request given sound own passed.decided passed.taken (request_asks party setting request passed.unaborted)
@@ -360,11 +360,11 @@ no_groups state party setting (LocateRequest fadu) other is = no_groups_locate p
 no_groups state party setting (EraseRequest fadu) other is = no_groups_erase party fadu (selected_file state party.history) other is
 no_groups state party setting request other is = cc
 
-no_groups_message : (state : State) (party : StandingParty) (setting : Setting) (message : Message) (other : Group) → message_decision state party setting message ≡ Groups other → ⊥
+pub no_groups_message : (state : State) (party : StandingParty) (setting : Setting) (message : Message) (other : Group) → message_decision state party setting message ≡ Groups other → ⊥
 no_groups_message state party setting (messages.Pdu request) other is = no_groups state party setting request other is
 no_groups_message state party setting message other is = cc
 
-no_groups_unless : (one : Option ℕ) (decides : Decision) (other : Group) → unless_aborted one decides ≡ Groups other → decides ≡ Groups other
+pub no_groups_unless : (one : Option ℕ) (decides : Decision) (other : Group) → unless_aborted one decides ≡ Groups other → decides ≡ Groups other
 no_groups_unless None decides other is = is
 no_groups_unless (Some number) decides other is = absurd cc
 
@@ -373,7 +373,7 @@ groups_message group other (messages.Pdu request) is = groups_request group othe
 groups_message group other messages.Break is = absurd cc
 groups_message group other message is = absurd cc
 
-grouped_items : (state : State) (party : StandingParty) (setting : Setting) (message : Message) (other : Group) (one : Option Group) → IfSome one HasItems → decision_in one state party setting message ≡ Groups other → HasItems other
+pub grouped_items : (state : State) (party : StandingParty) (setting : Setting) (message : Message) (other : Group) (one : Option Group) → IfSome one HasItems → decision_in one state party setting message ≡ Groups other → HasItems other
 grouped_items state party setting message other (Some group) items is = subst (λ (one : Group). HasItems one) (groups_message group other message is) items
 grouped_items state party setting message other None items is =
     absurd (no_groups_message state party setting message other

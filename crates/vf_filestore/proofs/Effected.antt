@@ -53,10 +53,10 @@ IsNextIn None later = ⊥
 IsNextIn (Some file) later = (later.name ≡ file.name) × IsNext file later
 
 pub next_itself : (file : File) → IsNext file file
-next_itself file = record { rises = omega arith; same = λ is. refl }
+next_itself file = record { rises = omega arith; same = λ is. refl; typed = refl }
 
 act_next : (stamp : Stamp) (file : File) (tree : FileTree) → IsNext file (after_act stamp file tree)
-act_next stamp file tree = record { rises = omega arith; same = λ is. absurd (omega (arith, is)) }
+act_next stamp file tree = record { rises = omega arith; same = λ is. absurd (omega (arith, is)); typed = refl }
 
 file_after_next : (stamp : Stamp) (file : File) (outcome : Result Outcome TreeRefusal) → IsNextIn (Some file) (file_after stamp file outcome)
 file_after_next stamp file (Ok outcome) = (refl, act_next stamp file outcome.tree)
@@ -87,7 +87,7 @@ write_next files stamp (Some file) at operation fadu values = typed_next files s
 
 read_next : (stamp : Stamp) (found : Option File) → EndsIn found (read_ending stamp found)
 read_next stamp None = tt
-read_next stamp (Some file) = (refl, record { rises = omega arith; same = λ is. refl })
+read_next stamp (Some file) = (refl, record { rises = omega arith; same = λ is. refl; typed = refl })
 
 unless_next : (found : Option File) (refused : Option Diagnostic) (ending : Ending) → EndsIn found ending → EndsIn found (ending_unless refused ending)
 unless_next found (Some diagnostic) ending ends = tt
@@ -186,7 +186,7 @@ not_taken state old name other free = by (bytes_eq name old) (file_named name st
     by false (Some file) other free = absurd cc
 
 changed_next : (file : File) (stamp : Stamp) (change : AttributeChange) → IsNext file (after_change file stamp change)
-changed_next file stamp change = record { rises = omega arith; same = λ is. refl }
+changed_next file stamp change = record { rises = omega arith; same = λ is. refl; typed = refl }
 
 change_effect : (state : State) (party : StandingParty) (stamp : Stamp) (name : Option (List ℕ)) (change : AttributeChange) → change.name ≡ name
     → IsDistinct bytes_eq (map name_of state.files) → is_taken state (name_in party.history) name ≡ false → rename_row state party.link (name_in party.history) name ≡ None

@@ -28,6 +28,7 @@ name_itself a = (bytes_eq-Decides a a).1 refl
 pub record IsNext (file later : File) : Type 0 where
   pub rises : file.version ≤ later.version
   pub same : later.version ≡ file.version → later.tree ≡ file.tree
+  pub typed : later.contents ≡ file.contents
 
 pub record IsFoundNext (file : File) (found : Option File) : Type 0 where
   pub later : File
@@ -43,7 +44,7 @@ continues_same files later name same = subst (λ (found : Option File). IfSome (
   where
     by : (found : Option File) → IfSome found (λ file. IsFoundNext file found)
     by None = tt
-    by (Some file) = record { later = file; is = refl; next = record { rises = omega arith; same = λ e. refl } }
+    by (Some file) = record { later = file; is = refl; next = record { rises = omega arith; same = λ e. refl; typed = refl } }
 
 continues_none : (files later : List File) (name : List ℕ) → file_named name files ≡ None → Continues files later name
 continues_none files later name none = subst (λ (found : Option File). IfSome found (λ file. IsFoundNext file (file_named name later))) (sym none) tt

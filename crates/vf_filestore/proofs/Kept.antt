@@ -19,10 +19,10 @@ use Rattle.vf_filestore.proofs.Soundness.{retains}
 
 -- ---- rows in the order of opens
 
-abbrev ordered : List states.Docket → List states.Docket → List states.Docket
+abbrev pub ordered : List states.Docket → List states.Docket → List states.Docket
 ordered first dockets = fold (λ (ordered : List states.Docket) (docket : states.Docket). in_order docket ordered) first dockets
 
-ordered_append : (first dockets others : List states.Docket) → ordered first (dockets ++ others) ≡ ordered (ordered first dockets) others
+pub ordered_append : (first dockets others : List states.Docket) → ordered first (dockets ++ others) ≡ ordered (ordered first dockets) others
 ordered_append first [] others = refl
 ordered_append first (docket ∷ dockets) others = ordered_append (in_order docket first) dockets others
 
@@ -82,10 +82,10 @@ swap one other (first ∷ list) off =
         ∙ sym (λ i. cond (a i) (one ∷ in_order other (first ∷ list)) (other ∷ one ∷ first ∷ list))
 
 -- a docket that is put before or after others
-abbrev IsOtherNumber : states.Docket → states.Docket → Type 0
+abbrev pub IsOtherNumber : states.Docket → states.Docket → Type 0
 IsOtherNumber docket other = nat_eq (number_of_open other) (number_of_open docket) ≡ false
 
-ordered_past : (docket : states.Docket) (others later first : List states.Docket) → AllByRecursion (IsOtherNumber docket) others
+pub ordered_past : (docket : states.Docket) (others later first : List states.Docket) → AllByRecursion (IsOtherNumber docket) others
     → ordered first (docket ∷ (others ++ later)) ≡ ordered first (others ++ docket ∷ later)
 ordered_past docket [] later first off = refl
 ordered_past docket (other ∷ others) later first off =
@@ -94,7 +94,7 @@ ordered_past docket (other ∷ others) later first off =
 
 -- ---- stops
 
-same_tables : (state other : State) → other.users ≡ state.users → other.files ≡ state.files → other.tasks ≡ state.tasks → all_dockets other ≡ all_dockets state → tables_of other ≡ tables_of state
+pub same_tables : (state other : State) → other.users ≡ state.users → other.files ≡ state.files → other.tasks ≡ state.tasks → all_dockets other ≡ all_dockets state → tables_of other ≡ tables_of state
 same_tables state other users files tasks dockets =
     λ i. record { users = users i; files = files i; dockets = flat_map row_of (dockets i); tasks = tasks i }
 
@@ -113,7 +113,7 @@ distinct_middle e [] y ys distinct = tt
 distinct_middle e (x ∷ xs) y ys distinct = ((all_right (λ z. e x z ≡ false) xs (y ∷ ys) distinct.0).0, distinct_middle e xs y ys distinct.1)
 
 -- the docket that a party leaves has the number of its open
-left_number : (party : StandingParty) (activity : ℕ) → IsNested party.history
+pub left_number : (party : StandingParty) (activity : ℕ) → IsNested party.history
     → number_in (regime (retained party.history)) ≡ number_in (regime party.history)
 left_number party activity nested = ap number_in (retains party.history nested).opens
 

@@ -79,7 +79,7 @@ kept_other link gone (first ∷ parties) party found other = by (nat_eq first.li
     by false is found rest = dropped (nat_eq first.link gone) refl is (rest found other)
 
 -- the party stands in the state that is left once another gave way
-still_there : (state : State) (link : ℕ) (party other : StandingParty) (message : Message) → IsSound state → party_of link state.parties ≡ Some party → superseded_by state party message ≡ Some other
+pub still_there : (state : State) (link : ℕ) (party other : StandingParty) (message : Message) → IsSound state → party_of link state.parties ≡ Some party → superseded_by state party message ≡ Some other
     → party_of link (broken other.link state).parties ≡ Some party
 still_there state link party other message sound found is = of message is
   where

@@ -1,14 +1,19 @@
 -- What holds of every run of the filestore (profile).
-use Rattle.std.specs.Prelude.{◌≡◌, ℕ, List, [], ◌∷◌, map, None}
+use Rattle.std.specs.Prelude.{◌≡◌, ℕ, true, List, [], ◌∷◌, map, None}
 use Rattle.std.specs.List.{IsDistinct}
 use Rattle.std.specs.Str.{bytes_eq}
 use Rattle.vf_attr.specs.declared.file.File.{File}
 use Rattle.vf_elements.specs.declared.message.Message.{Message}
+use Rattle.vf_elements.specs.declared.message.Message.TheVariants as messages
+use Rattle.vf_pdu.specs.declared.pdu.Pdu.TheVariants.{EndGroupRequest}
+use Rattle.vf_tables.specs.Changes.{after_all}
+use Rattle.vf_tables.specs.declared.change.Change.{Change}
 use Rattle.vf_tables.specs.declared.tables.Tables.{Tables}
 use Rattle.vf_tables.specs.declared.user.User.{User}
 use Rattle.vf_filestore.specs.Aborts.{Setting}
-use Rattle.vf_filestore.specs.Changes.{delta, is_same_open}
+use Rattle.vf_filestore.specs.Changes.{all_stand, delta, is_same_open}
 use Rattle.vf_filestore.specs.Dockets.{broken, dropped, stopped}
+use Rattle.vf_filestore.specs.Records.{changes_by}
 use Rattle.vf_filestore.specs.Runs.{Event, Arrives, after_event, beginning, run}
 use Rattle.vf_filestore.specs.Sound.{AreLimited, Begins, IsSound, name_of}
 use Rattle.vf_filestore.specs.State.{State, party_of}
@@ -61,3 +66,30 @@ MakesNoChange = (tables : Tables) → IsDistinct is_same_open tables.dockets →
 -- what a stop leaves is a state that an incarnation begins with
 abbrev pub StopsBegin : Type 0
 StopsBegin = (state : State) → IsSound state → Begins (tables_of state) (stopped state)
+
+-- WHAT CHANGES LEAD TO. What each change names stands in the tables before it, and all of them lead to these tables.
+pub record Lead (before : Tables) (changes : List Change) (after : Tables) : Type 0 where
+  pub stand : all_stand before changes ≡ true
+  pub lead : after_all before changes ≡ after
+
+-- the changes by any message, of a group or alone, lead to what is kept after it
+abbrev pub MessagesLead : Type 0
+MessagesLead =
+    (state : State) (link : ℕ) (setting : Setting) (message : Message) → IsSound state
+    → Lead (tables_of state) (changes_by state link setting message) (tables_of (transition state link setting message).state)
+
+-- and where it is the end of no group, they are the difference of what was kept and what is
+abbrev pub DifferencesLead : Type 0
+DifferencesLead =
+    (state : State) (link : ℕ) (setting : Setting) (message : Message) → IsSound state → (message ≡ messages.Pdu EndGroupRequest → ⊥)
+    → Lead (tables_of state) (delta (tables_of state) (tables_of (transition state link setting message).state)) (tables_of (transition state link setting message).state)
+
+-- octets that are no message change nothing that is kept
+abbrev pub FaultsKeep : Type 0
+FaultsKeep = (state : State) (link number place : ℕ) → IsSound state → tables_of (fault state link number place).state ≡ tables_of state
+
+-- the changes by which a docket is dropped
+abbrev pub DropsLead : Type 0
+DropsLead =
+    (state : State) (identity : List ℕ) (activity : ℕ) → IsSound state
+    → Lead (tables_of state) (delta (tables_of state) (tables_of (dropped identity activity state))) (tables_of (dropped identity activity state))

@@ -15,6 +15,7 @@ pub mod Laws
 pub mod Limits
 pub mod Opening
 pub mod Performed
+pub mod Records
 pub mod Recovering
 pub mod Replies
 pub mod RowsOfAttributes

@@ -1,5 +1,5 @@
 //! Laws of the definitions, each the contract of a function that does nothing.
-ghost use Rattle.vf_filestore.specs.Laws.{BeginsSound, BreaksAreSound, BreaksKeep, DropsAreSound, FaultsAreSound, MakesNoChange, RunsAreSound, StopsAreSound, StopsBegin, StopsKeep, TransitionsAreSound};
+ghost use Rattle.vf_filestore.specs.Laws.{BeginsSound, BreaksAreSound, BreaksKeep, DifferencesLead, DropsAreSound, DropsLead, FaultsAreSound, FaultsKeep, MakesNoChange, MessagesLead, RunsAreSound, StopsAreSound, StopsBegin, StopsKeep, TransitionsAreSound};
 
 /// A filestore whose files have names of their own and are within their limits begins in a sound state.
 pub fn begins_sound()
@@ -24,10 +24,11 @@ pub fn runs_are_sound()
     ensures { RunsAreSound }
 {}
 
-/// A stop and a break change nothing that a store keeps.
+/// A stop, a break and an abort by a fault change nothing that a store keeps.
 pub fn ends_keep_tables()
     ensures stops { StopsKeep }
     ensures breaks { BreaksKeep }
+    ensures faults { FaultsKeep }
 {}
 
 /// What a stop leaves is a state that an incarnation begins with, with the same tables.
@@ -38,4 +39,12 @@ pub fn stops_begin()
 /// Where nothing that is kept changes there is no change.
 pub fn the_same_makes_no_change()
     ensures { MakesNoChange }
+{}
+
+/// The changes by any message lead from what a store kept to what it keeps, and each names what stands; but for the end
+/// of a group they are the difference of both. So do those by which a docket is dropped.
+pub fn changes_lead()
+    ensures messages { MessagesLead }
+    ensures differences { DifferencesLead }
+    ensures drops { DropsLead }
 {}

@@ -6,7 +6,7 @@ mod laws;
 mod rows;
 
 pub use laws::{
-    begins_sound, ends_are_sound, ends_keep_tables, runs_are_sound, stops_begin,
+    begins_sound, changes_lead, ends_are_sound, ends_keep_tables, runs_are_sound, stops_begin,
     the_same_makes_no_change, transitions_are_sound,
 };
 pub use rows::{
