@@ -36,4 +36,6 @@ pub mod Transitions
 pub mod Unchanged
 pub mod Unmoved
 pub mod Usable
+pub mod Valid
+pub mod ValidDockets
 pub mod Views

@@ -37,7 +37,7 @@ order_permutes docket (other ∷ list) = by (nat_le (number_of_open other) (numb
         (IsPermutation-cons other (docket ∷ list) (in_order docket list) rest)
     by false rest = IsPermutation-refl (docket ∷ other ∷ list)
 
-ordered_permutes : (dockets first : List Docket) → IsPermutation (first ++ dockets) (ordered first dockets)
+pub ordered_permutes : (dockets first : List Docket) → IsPermutation (first ++ dockets) (ordered first dockets)
 ordered_permutes [] first = subst (λ (all : List Docket). IsPermutation all first) (sym (append-nil first)) (IsPermutation-refl first)
 ordered_permutes (docket ∷ dockets) first =
     IsPermutation-trans (first ++ docket ∷ dockets) (docket ∷ (first ++ dockets)) (ordered (in_order docket first) dockets) (IsPermutation-middle first docket dockets)
@@ -107,11 +107,11 @@ one_standing files docket sound = by (regime docket.history) sound.opened
     by None is = absurd cc
     by (Some opened) is = λ i. record { identity = docket.identity; activity = is i; number = opened.number } ∷ []
 
-standings_are : (files : List File) (dockets : List Docket) → AllByRecursion (IsSoundDocket files) dockets → flat_map standing_of_docket dockets ≡ map open_of dockets
+pub standings_are : (files : List File) (dockets : List Docket) → AllByRecursion (IsSoundDocket files) dockets → flat_map standing_of_docket dockets ≡ map open_of dockets
 standings_are files [] sound = refl
 standings_are files (docket ∷ dockets) sound = λ i. one_standing files docket sound.0 i ++ standings_are files dockets sound.1 i
 
-distinct_unmap : {A B : Type 0} (f : A → B) (e : B → B → Bool) (xs : List A) → IsDistinct e (map f xs) → IsDistinct (λ x y. e (f x) (f y)) xs
+pub distinct_unmap : {A B : Type 0} (f : A → B) (e : B → B → Bool) (xs : List A) → IsDistinct e (map f xs) → IsDistinct (λ x y. e (f x) (f y)) xs
 unfolding IsDistinct
 distinct_unmap f e [] distinct = tt
 distinct_unmap f e (x ∷ xs) distinct = (all_unmap f (λ y. e (f x) y ≡ false) xs distinct.0, distinct_unmap f e xs distinct.1)

@@ -253,7 +253,7 @@ trial_keeps link setting (item ∷ items) state are sound =
     subst (λ (to : State). KeepsOthers (tables_of state) (tables_of to)) (sym (trial_later link setting item items state))
     (record { users = rest.users ∙ step.users; tasks = rest.tasks ∙ step.tasks })
 
-rows_apart : (state : State) → IsSound state → IsDistinct is_same_open (tables_of state).dockets
+pub rows_apart : (state : State) → IsSound state → IsDistinct is_same_open (tables_of state).dockets
 rows_apart state sound = let all = apart state sound in ordered_rows_differ (state.dockets ++ flat_map docket_left_by state.parties) all.selected all.keys
 
 group_lead : (state : State) (party : StandingParty) (setting : Setting) (group : Group) → HasItems group → IsSound state

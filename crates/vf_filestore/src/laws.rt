@@ -1,4 +1,5 @@
 //! Laws of the definitions, each the contract of a function that does nothing.
+ghost use Rattle.vf_filestore.specs.Keeping.{DocketsAreValid, TablesAreValid};
 ghost use Rattle.vf_filestore.specs.Laws.{BeginsSound, BreaksAreSound, BreaksKeep, DifferencesLead, DropsAreSound, DropsLead, FaultsAreSound, FaultsKeep, MakesNoChange, MessagesLead, RunsAreSound, StopsAreSound, StopsBegin, StopsKeep, TransitionsAreSound};
 
 /// A filestore whose files have names of their own and are within their limits begins in a sound state.
@@ -47,4 +48,11 @@ pub fn changes_lead()
     ensures messages { MessagesLead }
     ensures differences { DifferencesLead }
     ensures drops { DropsLead }
+{}
+
+/// The tables of a sound state are valid where its users, tasks, files and dockets are; and dockets are where the
+/// histories that they retain are such as a store keeps.
+pub fn tables_are_valid()
+    ensures tables { TablesAreValid }
+    ensures dockets { DocketsAreValid }
 {}

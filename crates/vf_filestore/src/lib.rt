@@ -7,7 +7,7 @@ mod rows;
 
 pub use laws::{
     begins_sound, changes_lead, ends_are_sound, ends_keep_tables, runs_are_sound, stops_begin,
-    the_same_makes_no_change, transitions_are_sound,
+    tables_are_valid, the_same_makes_no_change, transitions_are_sound,
 };
 pub use rows::{
     attributes_compute, changes_compute, controls_compute, groups_compute, opens_compute,
