@@ -443,7 +443,24 @@ def rows():
         yield from faulty_rows(rng, recorded(text), own, times)
 
 
-def cases(count, seed=8327):
+def places(text):
+    """The lines of a recorded conversation with a fault at each place: a bit turned, an octet dropped or doubled, and the
+    rest of what comes cut off."""
+    made = recorded(text)
+    for own in "OI":
+        words = line_of(made, own).split(" ")
+        for which, word in enumerate(words):
+            octets = bytes.fromhex(word[1:]) if word[0] == "<" else b""
+            for at, octet in enumerate(octets):
+                before, after = octets[:at], octets[at + 1 :]
+                turned = before + bytes([octet ^ 1 << at % 8]) + after
+                for other in (turned, before + after, before + bytes([octet, octet]) + after):
+                    yield " ".join(words[:which] + ["<" + other.hex()] + words[which + 1 :])
+                says = [step for step in words[which + 1 :] if step[0] == ">"]
+                yield " ".join(words[:which] + ["<" + before.hex()] + says)
+
+
+def cases(count=20_000, seed=8327):
     """So many lines at random, and a few more."""
     rng = random.Random(seed)
     stored = [recorded(text) for text in (*CONVERSATIONS.values(), *(text for text, _, _ in OPENINGS))]

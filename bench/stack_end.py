@@ -370,11 +370,13 @@ class End:
         return sessions.may(self.own, self.offer, self.trace, unit)
 
     def say(self, word):
-        """Sends a request, `Accept+:A10381010F`; false where it may not be sent."""
+        """Sends a request, `Accept+:A10381010F`, and answers its packets; none where it may not be sent."""
         unit = self.unit_of(word)
         if unit is None or not self.may(unit):
             return None
         tsdu = b"".join(sessions.octets_of(spdu) for spdu in sessions.spdus_of(self.own, unit))
+        if len(tsdu) > streams.MOST:
+            return None
         before = len(self.tpdus.sent)
         self.tpdus.send(tsdu)
         octets = self.tpdus.sent[before:]
@@ -421,14 +423,16 @@ class End:
         around = upper.tagged([0x30], upper.data(contexts, value))
         if letters == "Restart":
             return make("r", number, mine, around)
+        waiting = sessions.unanswered(self.trace)
         if letters == "Restarted":
-            return make("e", number, mine, around)
+            # the answer to a restart, and below to an abandon
+            return make("e", number, mine, around) if waiting and waiting[1].letter == "r" else None
         if letters == "Cancel" and sync:
             return make("s", sessions.next_serial(self.trace), "I", around)
         if letters == "Cancelled" and sync:
-            waiting = sessions.unanswered(self.trace)
-            least = waiting[1].serial if waiting else 0
-            return make("e", max(least, sessions.next_serial(self.trace)), "I", around)
+            if not waiting or waiting[1].letter != "s":
+                return None
+            return make("e", max(waiting[1].serial, sessions.next_serial(self.trace)), "I", around)
         return self.item(value, sync and mine == self.own)
 
     def item(self, value, holds):
