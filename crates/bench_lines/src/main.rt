@@ -1,9 +1,9 @@
-//! Answers lines, each by one layer: its values, its PDUs, its user data, its sessions or its streams. For what stands in
-//! bench/, and for the gate, which compares the answers to the lines of its file stdin.
+//! Answers lines, each by one layer: its values, its PDUs, its user data, its sessions, its streams, or the stack of them
+//! all. For what stands in bench/, and for the gate, which compares the answers to the lines of its file stdin.
 //!
-//! Without words each line begins with the name of its layer, `ber`, `pdu`, `upper`, `session` or `transport`, and a space;
-//! one that begins with `#` is a heading, and is answered by itself. With the name as a word all lines are of that layer,
-//! and have no name. The files of the layers say what a line has and what is answered to it, which is one line too.
+//! Without words each line begins with the name of its layer, `ber`, `pdu`, `upper`, `session`, `transport` or `stack`, and
+//! a space; one that begins with `#` is a heading, and is answered by itself. With the name as a word all lines are of that
+//! layer, and have no name. The files of the layers say what a line has and what is answered to it, which is one line too.
 //!
 //! `ber parse`, `ber rewrite`, `upper parse` and `upper rewrite` take the octets of one value, and of the user data of a
 //! P-DATA, and write how many octets or values there are, or the octets as they are written again. `hold` takes any
@@ -13,6 +13,7 @@
 mod pdu;
 mod session;
 mod spelling;
+mod stack;
 mod transport;
 mod upper;
 mod value;
@@ -30,6 +31,7 @@ enum Layer {
     Upper,
     Session,
     Transport,
+    Stack,
     Heading,
 }
 
@@ -51,6 +53,7 @@ fn layer_of(name: &[u8]) -> Option<Layer> {
         b"upper" => Some(Layer::Upper),
         b"session" => Some(Layer::Session),
         b"transport" => Some(Layer::Transport),
+        b"stack" => Some(Layer::Stack),
         b"#" => Some(Layer::Heading),
         _ => None,
     }
@@ -91,6 +94,7 @@ fn put_answer(
         Layer::Upper => upper::put_line(alloc, line, out),
         Layer::Session => ends.put_line(alloc, line, out),
         Layer::Transport => transport::put_line(alloc, line, out),
+        Layer::Stack => stack::put_line(alloc, line, out),
         Layer::Heading => put_heading(line, out),
     }
 }

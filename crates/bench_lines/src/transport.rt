@@ -25,7 +25,7 @@ struct Told {
 }
 
 /// Appends all octets, or the first 12 of more than 32, and how many there are.
-fn show(alloc: Global, octets: &[u8], out: &mut Vec<u8>) -> Result<(), Fault> {
+pub fn show(alloc: Global, octets: &[u8], out: &mut Vec<u8>) -> Result<(), Fault> {
     if octets.len() <= 32 {
         let digits = hex::encode_upper(alloc, octets)?;
         return put(out, digits.as_str());
@@ -125,7 +125,7 @@ fn octets_of(alloc: Global, word: &str) -> Result<Vec<u8>, Fault> {
 }
 
 /// The next number of a short generator (Marsaglia's xorshift).
-fn next(seed: u64) -> u64 {
+pub fn next(seed: u64) -> u64 {
     let seed = seed ^ (seed << 13);
     let seed = seed ^ (seed >> 7);
     seed ^ (seed << 17)
