@@ -194,7 +194,7 @@ request_dockets : (P : Docket → Type 0) (party : StandingParty) (request : Pdu
 request_dockets P party (RecoverRequest activity number point) dockets all = all-filter P (λ docket. not (is_docket_of (identity_of party) activity docket)) dockets all
 request_dockets P party request dockets all = all
 
-message_dockets : (P : Docket → Type 0) (party : StandingParty) (message : Message) (dockets : List Docket) → AllByRecursion P dockets → AllByRecursion P (dockets_after party message dockets)
+pub message_dockets : (P : Docket → Type 0) (party : StandingParty) (message : Message) (dockets : List Docket) → AllByRecursion P dockets → AllByRecursion P (dockets_after party message dockets)
 message_dockets P party (messages.Pdu request) dockets all = request_dockets P party request dockets all
 message_dockets P party message dockets all = all
 

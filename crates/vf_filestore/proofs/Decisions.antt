@@ -247,11 +247,11 @@ passed_alone state party setting message given None none taken is = by (first_ab
 
 -- ---- what isn't aborted
 
-or_none : (one later : Option ℕ) → option_or one later ≡ None → (one ≡ None) × (later ≡ None)
+pub or_none : (one later : Option ℕ) → option_or one later ≡ None → (one ≡ None) × (later ≡ None)
 or_none None later is = (refl, is)
 or_none (Some number) later is = absurd cc
 
-where_none : (applies : Bool) (number : ℕ) → abort_where applies number ≡ None → applies ≡ false
+pub where_none : (applies : Bool) (number : ℕ) → abort_where applies number ≡ None → applies ≡ false
 where_none true number is = absurd cc
 where_none false number is = refl
 

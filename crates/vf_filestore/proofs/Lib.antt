@@ -15,6 +15,8 @@ pub mod Filed
 pub mod FilesMoved
 pub mod Holdings
 pub mod Kept
+pub mod KeptEntries
+pub mod KeptMoves
 pub mod Leading
 pub mod Limited
 pub mod Lists
@@ -32,6 +34,7 @@ pub mod Retained
 pub mod Same
 pub mod Soundness
 pub mod Standing
+pub mod StaysKept
 pub mod Transitions
 pub mod Unchanged
 pub mod Unmoved

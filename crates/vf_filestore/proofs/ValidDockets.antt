@@ -41,7 +41,7 @@ use Rattle.vf_tree.specs.TreeRefusal.{TreeRefusal, BadContext}
 use Rattle.vf_filestore.specs.Controls.{attributes_usable, contents_usable, is_usable, joined}
 use Rattle.vf_filestore.specs.Dockets.{docket_left_by}
 use Rattle.vf_filestore.specs.History.{Given, Nothing, Made, Refused, Showed, Placed, Resumed, History, Regime, Selection, position, regime, selection}
-use Rattle.vf_filestore.specs.Keeping.{DocketsAreValid, IsAt, IsEarned, IsKeptIn, IsKeptMove, IsOpenOn}
+use Rattle.vf_filestore.specs.Keeping.{AreKept, DocketsAreValid, IsAt, IsEarned, IsKeptMove, IsOpenIn, IsOpenOn}
 use Rattle.vf_filestore.specs.Opening.{action_of}
 use Rattle.vf_filestore.specs.Sound.{Holding, IsFaithful, IsInMode, IsMoving, IsShownIn, IsSoundDocket, IsThere, IsUsable, file_of, holding_by, holding_of_docket}
 use Rattle.vf_filestore.specs.State.{Docket, activity_in}
@@ -49,8 +49,9 @@ use Rattle.vf_filestore.specs.Tables.{operation_of, regime_by, row_in, row_of, s
 use Rattle.vf_filestore.specs.Transfers.{Movement, Reads, Writes, Transfer, happened, point, under_way}
 use Rattle.vf_filestore.proofs.Broken.{stopped_sound}
 use Rattle.vf_filestore.proofs.Kept.{ordered}
+use Rattle.vf_filestore.proofs.KeptMoves.{all_left_kept, moving_kept}
 use Rattle.vf_filestore.proofs.Leading.{both}
-use Rattle.vf_filestore.proofs.Lists.{all-from_flat_map, all_both}
+use Rattle.vf_filestore.proofs.Lists.{all-from_flat_map, all_append, all_both}
 use Rattle.vf_filestore.proofs.OrderedRows.{all_ordered}
 
 -- ---- sets of actions
@@ -270,9 +271,9 @@ row_valid files docket opened moving one file found known =
 -- ---- all rows
 
 -- the file of a selection that stands
-docket_valid : (files : List File) (docket : Docket) → IsSoundDocket files docket → AllByRecursion IsUsable (holding_of_docket docket) → IsKeptIn files docket.history → list_all (is_valid_docket files) (row_of docket) ≡ true
-docket_valid files docket sound usable kept =
-    of (regime docket.history) (under_way docket.history) (selection docket.history) sound.opened sound.selected sound.sound.there usable kept.opened kept.moving sound.sound.moving
+docket_valid : (files : List File) (docket : Docket) → IsSoundDocket files docket → AllByRecursion IsUsable (holding_of_docket docket) → AreKept docket.history → IsOpenIn files docket.history → list_all (is_valid_docket files) (row_of docket) ≡ true
+docket_valid files docket sound usable kept open_in =
+    of (regime docket.history) (under_way docket.history) (selection docket.history) sound.opened sound.selected sound.sound.there usable open_in (moving_kept docket.history sound.sound.nested kept) sound.sound.moving
   where
     named : (opened : Regime) (moving : Option Transfer) (one : Selection) (found : Option File) → file_named one.file files ≡ found → IsSome found → AllByRecursion IsUsable (holding_by (Some opened) moving (Some one))
         → IfSome found (IsOpenOn opened) → IfSome moving (IsKeptMove docket.history) → IfSome moving (IsMoving found docket.history)
@@ -298,13 +299,16 @@ rows_valid files (docket ∷ dockets) each = all_joined (is_valid_docket files) 
     all_joined p (x ∷ xs) ys first second = let parts = and_parts (p x) (list_all p xs) first in both (p x) (list_all p (xs ++ ys)) parts.0 (all_joined p xs ys parts.1 second)
 
 pub dockets_valid : DocketsAreValid
-dockets_valid state sound kept =
+dockets_valid state sound kept open_in =
     let after = stopped_sound state sound in
     let all = state.dockets ++ flat_map docket_left_by state.parties in
     let usable : AllByRecursion (λ (docket : Docket). AllByRecursion IsUsable (holding_of_docket docket)) all
     = all-from_flat_map holding_of_docket IsUsable all (subst (λ (holdings : List Holding). AllByRecursion IsUsable holdings) (append-nil (flat_map holding_of_docket all)) after.usable) in
+    let histories = all_append (λ (docket : Docket). AreKept docket.history) state.dockets (flat_map docket_left_by state.parties) kept.dockets (all_left_kept state.files state.parties sound.parties kept.parties) in
     let known = all_both (IsSoundDocket state.files) (λ (docket : Docket). AllByRecursion IsUsable (holding_of_docket docket))
     (λ (docket : Docket). IsSoundDocket state.files docket × AllByRecursion IsUsable (holding_of_docket docket)) all (λ docket sound usable. (sound, usable)) after.dockets usable in
-    let each = all_both (λ (docket : Docket). IsSoundDocket state.files docket × AllByRecursion IsUsable (holding_of_docket docket)) (λ (docket : Docket). IsKeptIn state.files docket.history)
-    (λ (docket : Docket). list_all (is_valid_docket state.files) (row_of docket) ≡ true) all (λ docket both kept. docket_valid state.files docket both.0 both.1 kept) known kept in
+    let more = all_both (λ (docket : Docket). AreKept docket.history) (λ (docket : Docket). IsOpenIn state.files docket.history)
+    (λ (docket : Docket). AreKept docket.history × IsOpenIn state.files docket.history) all (λ docket kept opened. (kept, opened)) histories open_in in
+    let each = all_both (λ (docket : Docket). IsSoundDocket state.files docket × AllByRecursion IsUsable (holding_of_docket docket)) (λ (docket : Docket). AreKept docket.history × IsOpenIn state.files docket.history)
+    (λ (docket : Docket). list_all (is_valid_docket state.files) (row_of docket) ≡ true) all (λ docket one other. docket_valid state.files docket one.0 one.1 other.0 other.1) known more in
     rows_valid state.files (ordered [] all) (all_ordered (λ (docket : Docket). list_all (is_valid_docket state.files) (row_of docket) ≡ true) all each)

@@ -1,5 +1,5 @@
 //! Laws of the definitions, each the contract of a function that does nothing.
-ghost use Rattle.vf_filestore.specs.Keeping.{DocketsAreValid, TablesAreValid};
+ghost use Rattle.vf_filestore.specs.Keeping.{BreaksKeepHistories, DocketsAreValid, DropsKeepHistories, FaultsKeepHistories, HistoriesBegin, MessagesKeep, StopsKeepHistories, TablesAreValid};
 ghost use Rattle.vf_filestore.specs.Laws.{BeginsSound, BreaksAreSound, BreaksKeep, DifferencesLead, DropsAreSound, DropsLead, FaultsAreSound, FaultsKeep, MakesNoChange, MessagesLead, RunsAreSound, StopsAreSound, StopsBegin, StopsKeep, TransitionsAreSound};
 
 /// A filestore whose files have names of their own and are within their limits begins in a sound state.
@@ -51,8 +51,18 @@ pub fn changes_lead()
 {}
 
 /// The tables of a sound state are valid where its users, tasks, files and dockets are; and dockets are where the
-/// histories that they retain are such as a store keeps.
+/// histories are such as a store keeps, and each open mode is one of its file's constraint set.
 pub fn tables_are_valid()
     ensures tables { TablesAreValid }
     ensures dockets { DocketsAreValid }
+{}
+
+/// Histories are such as a store keeps at the begin, and stay so with each message, fault, break, stop and drop.
+pub fn histories_stay_kept()
+    ensures begins { HistoriesBegin }
+    ensures messages { MessagesKeep }
+    ensures faults { FaultsKeepHistories }
+    ensures breaks { BreaksKeepHistories }
+    ensures stops { StopsKeepHistories }
+    ensures drops { DropsKeepHistories }
 {}
