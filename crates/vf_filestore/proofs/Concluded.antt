@@ -146,7 +146,7 @@ granting_other state party setting messages.Break is sound own taken asks =
 -- ---- the others go on
 
 -- the selection of a history goes on
-abbrev GoesOn : (files later : List File) → History → Type 0
+abbrev pub GoesOn : (files later : List File) → History → Type 0
 GoesOn files later history = IfSome (selection history) (λ one. Continues files later one.file)
 
 goes_off : (files later : List File) (old : List ℕ) (history : History) → KeepsOthers files later old → IsNotOn old history → GoesOn files later history
@@ -156,7 +156,7 @@ goes_off files later old history others off = by (selection history) off
     by None off = tt
     by (Some one) off = others.goes one.file off
 
-goes_party : (state : State) (party : StandingParty) (later : List File) (before after : List StandingParty) → Effect state party later → state.parties ≡ before ++ party ∷ after
+pub goes_party : (state : State) (party : StandingParty) (later : List File) (before after : List StandingParty) → Effect state party later → state.parties ≡ before ++ party ∷ after
     → AllByRecursion (λ (one : StandingParty). IsOff party.link one → GoesOn state.files later one.history) (before ++ party ∷ after)
 goes_party state party later before after (keeps all) is = everyone (before ++ party ∷ after)
   where
@@ -168,7 +168,7 @@ goes_party state party later before after (parts others alone) is =
     (all_weaker (λ (one : StandingParty). IsOff party.link one → IsNotOn (name_in party.history) one.history) (λ (one : StandingParty). IsOff party.link one → GoesOn state.files later one.history) state.parties
     (λ one not_on off. goes_off state.files later (name_in party.history) one.history others (not_on off)) alone.parties)
 
-goes_docket : (state : State) (party : StandingParty) (later : List File) → Effect state party later → AllByRecursion (λ (docket : Docket). GoesOn state.files later docket.history) state.dockets
+pub goes_docket : (state : State) (party : StandingParty) (later : List File) → Effect state party later → AllByRecursion (λ (docket : Docket). GoesOn state.files later docket.history) state.dockets
 goes_docket state party later (keeps all) = everyone state.dockets
   where
     everyone : (dockets : List Docket) → AllByRecursion (λ (docket : Docket). GoesOn state.files later docket.history) dockets
@@ -184,7 +184,7 @@ dockets_go files later party (RecoverRequest activity number point) dockets goes
     all-filter (λ (docket : Docket). GoesOn files later docket.history) (λ docket. not (is_docket_of (identity_of party) activity docket)) dockets goes
 dockets_go files later party request dockets goes = goes
 
-message_dockets_go : (files : List File) (later : List File) (party : StandingParty) (message : Message) (dockets : List Docket) → AllByRecursion (λ (docket : Docket). GoesOn files later docket.history) dockets
+pub message_dockets_go : (files : List File) (later : List File) (party : StandingParty) (message : Message) (dockets : List Docket) → AllByRecursion (λ (docket : Docket). GoesOn files later docket.history) dockets
     → AllByRecursion (λ (docket : Docket). GoesOn files later docket.history) (dockets_after party message dockets)
 message_dockets_go files later party (messages.Pdu request) dockets goes = dockets_go files later party request dockets goes
 message_dockets_go files later party message dockets goes = goes

@@ -373,11 +373,14 @@ groups_message group other (messages.Pdu request) is = groups_request group othe
 groups_message group other messages.Break is = absurd cc
 groups_message group other message is = absurd cc
 
-pub grouped_items : (state : State) (party : StandingParty) (setting : Setting) (message : Message) (other : Group) (one : Option Group) → IfSome one HasItems → decision_in one state party setting message ≡ Groups other → HasItems other
-grouped_items state party setting message other (Some group) items is = subst (λ (one : Group). HasItems one) (groups_message group other message is) items
-grouped_items state party setting message other None items is =
+pub grouped_as : (Q : Group → Type 0) (state : State) (party : StandingParty) (setting : Setting) (message : Message) (other : Group) (one : Option Group) → IfSome one Q → decision_in one state party setting message ≡ Groups other → Q other
+grouped_as Q state party setting message other (Some group) items is = subst Q (groups_message group other message is) items
+grouped_as Q state party setting message other None items is =
     absurd (no_groups_message state party setting message other
     (no_groups_unless (first_abort (aborting.aborts party setting message)) (message_decision state party setting message) other is))
+
+pub grouped_items : (state : State) (party : StandingParty) (setting : Setting) (message : Message) (other : Group) (one : Option Group) → IfSome one HasItems → decision_in one state party setting message ≡ Groups other → HasItems other
+grouped_items = grouped_as (λ group. HasItems group)
 
 -- ---- what comes of a message
 

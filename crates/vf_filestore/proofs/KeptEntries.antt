@@ -50,10 +50,12 @@ use Rattle.vf_filestore.specs.State.{Docket, State, StandingParty, docket_of, id
 use Rattle.vf_filestore.specs.Tables.{operation_of}
 use Rattle.vf_filestore.specs.Transfers.{Movement, Reads, Writes, Transfer, point, survivors, transferring, under_way}
 use Rattle.vf_filestore.specs.Units.{enhanced_management, limited_management, read_unit, write_unit}
+use Rattle.vf_filestore.proofs.Concluded.{IsNoPdu}
 use Rattle.vf_filestore.proofs.Decided.{first_passed, later_passed, rows_passed}
 use Rattle.vf_filestore.proofs.Decisions.{or_none, where_none}
 use Rattle.vf_filestore.proofs.Lists.{all_append}
 use Rattle.vf_filestore.proofs.Owned.{recovers}
+use Rattle.vf_filestore.proofs.Preserved.{IsDue}
 
 -- ---- rows have numbers
 
@@ -252,9 +254,9 @@ silent_due said history serial (Some transfer) silent = by transfer.movement
 
 -- ---- entries
 
-taken_message : (state : State) (party : StandingParty) (setting : Setting) (message : Message) → first_abort (aborting.aborts party setting message) ≡ None → IsTakenIn (taken_up state party message) message
+taken_message : (state : State) (party : StandingParty) (setting : Setting) (message : Message) → (IsNoPdu message → first_abort (aborting.aborts party setting message) ≡ None) → IsTakenIn (taken_up state party message) message
 taken_message state party setting (messages.Element element) spared =
-    where_none (passes_survivors (survivors party.history) element) too_long (or_none (abort_where (passes_survivors (survivors party.history) element) too_long) None spared).0
+    where_none (passes_survivors (survivors party.history) element) too_long (or_none (abort_where (passes_survivors (survivors party.history) element) too_long) None (spared tt)).0
 taken_message state party setting message spared = tt
 
 entry_with : (state : State) (party : StandingParty) (setting : Setting) (message : Message) (given : Given) → IsGiven message given → IsTakenIn (taken_up state party message) message
@@ -268,10 +270,5 @@ entry_with state party setting message given is taken =
       silent = silent_due (replies state party setting given message) (entry ∷ earlier) (next_serial earlier setting.serial message) (transferring message given (under_way earlier)) (silent_replies state party setting given message);
     }
 
-pub entry_kept : (state : State) (party : StandingParty) (setting : Setting) (message : Message) (given : Given) → message_decision state party setting message ≡ Grants given
-    → first_abort (aborting.aborts party setting message) ≡ None → IsKeptEntry (taken_up state party message) (concluding_entry state party setting message given)
-entry_kept state party setting message given is spared = entry_with state party setting message given (given_message state party setting message given is) (taken_message state party setting message spared)
-
-pub request_kept : (state : State) (party : StandingParty) (setting : Setting) (request : Pdu) (given : Given) → request_decision state party setting request ≡ Grants given
-    → IsKeptEntry (taken_up state party (messages.Pdu request)) (concluding_entry state party setting (messages.Pdu request) given)
-request_kept state party setting request given is = entry_with state party setting (messages.Pdu request) given (given_request state party setting request given is) tt
+pub entry_kept : (state : State) (party : StandingParty) (setting : Setting) (message : Message) (given : Given) → IsDue state party setting message given → IsKeptEntry (taken_up state party message) (concluding_entry state party setting message given)
+entry_kept state party setting message given due = entry_with state party setting message given (given_message state party setting message given due.decided) (taken_message state party setting message due.spared)

@@ -23,7 +23,7 @@ use Rattle.vf_filestore.specs.Aborts.{passes_survivors}
 use Rattle.vf_filestore.specs.Dockets.{docket_by, docket_left_by, retained, secured, secures, since_selection}
 use Rattle.vf_filestore.specs.Dockets.{selects as is_selection}
 use Rattle.vf_filestore.specs.History.{Entry, Given, Nothing, Made, Refused, Showed, Placed, Resumed, History, Regime, Selection, placed_by, placing, position, regime, selection}
-use Rattle.vf_filestore.specs.Keeping.{AreKept, IsAt, IsEarned, IsGiven, IsGivenTo, IsKeptEntry, IsKeptMove, IsNoElement, IsSilentIn, IsTakenIn, IsUnplaced}
+use Rattle.vf_filestore.specs.Keeping.{AreKept, IsEarned, IsGiven, IsGivenTo, IsKeptEntry, IsNoElement, IsSilentIn, IsTakenIn, IsUnplaced}
 use Rattle.vf_filestore.specs.Limits.{most_survivor_octets, most_survivors}
 use Rattle.vf_filestore.specs.Sound.{IsNested, IsPlaced, IsSoundParty}
 use Rattle.vf_filestore.specs.State.{Docket, StandingParty, activity_of}
@@ -35,6 +35,20 @@ use Rattle.vf_filestore.proofs.Nested.{placed}
 use Rattle.vf_filestore.proofs.Retained.{alike_since, selected_at}
 use Rattle.vf_filestore.proofs.Soundness.{alike_resumed, moving_happens}
 use Rattle.vf_filestore.proofs.Views.{AtAssociation, Place, in_association, in_selection, in_regime, in_reading, in_shown, in_writing, in_written, in_regime_only, in_selection_only, view}
+
+-- ---- a transfer under way
+
+-- a read stands where it came to
+abbrev pub IsAt : Given → (position : ℕ) → Type 0
+IsAt (Showed version elements position) at = at ≡ position
+IsAt given at = Unit {0}
+
+-- what it was given, where it stands, and that what stands of a write is within its limits
+pub record IsKeptMove (history : History) (transfer : Transfer) : Type 0 where
+  pub earned : IsEarned transfer.movement transfer.given
+  pub at : IsAt transfer.given (position history)
+  pub few_octets : octets_staged (staged_of history (Some transfer)) ≤ MOST_SURVIVING_OCTETS
+  pub few_elements : elements_staged (staged_of history (Some transfer)) ≤ MOST_SURVIVING_ELEMENTS
 
 -- ---- histories that are alike
 

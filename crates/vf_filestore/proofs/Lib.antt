@@ -12,11 +12,13 @@ pub mod Effected
 pub mod Equal
 pub mod FileSteps
 pub mod Filed
+pub mod FilesKept
 pub mod FilesMoved
 pub mod Holdings
 pub mod Kept
 pub mod KeptEntries
 pub mod KeptMoves
+pub mod KeptStates
 pub mod Leading
 pub mod Limited
 pub mod Lists
@@ -24,9 +26,11 @@ pub mod Meant
 pub mod Moving
 pub mod Named
 pub mod Nested
+pub mod OpensKept
 pub mod OrderedRows
 pub mod Owned
 pub mod Parties
+pub mod Preserved
 pub mod Recorded
 pub mod Regimes
 pub mod Requests

@@ -176,7 +176,7 @@ without_length name (file ∷ files) = by (bytes_eq file.name name) (without_len
     by true rest = (omega (arith, rest.0), omega (arith, rest.1, sum_by-cons octets_of_file file files))
     by false rest = (omega (arith, rest.0), omega (arith, rest.1, sum_by-cons octets_of_file file files, sum_by-cons octets_of_file file (without_file name files)))
 
-found_limited : (name : List ℕ) (files : List File) (file : File) → file_named name files ≡ Some file → AllByRecursion IsLimited files → IsLimited file
+pub found_limited : (name : List ℕ) (files : List File) (file : File) → file_named name files ≡ Some file → AllByRecursion IsLimited files → IsLimited file
 found_limited name [] file found all = absurd cc
 found_limited name (other ∷ files) file found all = by (bytes_eq name other.name) found (λ found. found_limited name files file found all.1)
   where

@@ -170,7 +170,7 @@ arrives_sound state link none sound = record {
   dockets = sound.dockets;
 }
 
-event_sound : (state : State) (event : Event) → IsNew event state → IsSound state → IsSound (after_event state event).state
+pub event_sound : (state : State) (event : Event) → IsNew event state → IsSound state → IsSound (after_event state event).state
 event_sound state (Arrives link) new sound = arrives_sound state link new sound
 event_sound state (Takes link setting message) new sound = transitions_sound state link setting message sound
 event_sound state (Faults link number place) new sound = faults_sound state link number place sound

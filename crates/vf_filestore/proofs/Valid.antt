@@ -13,14 +13,14 @@ use Rattle.vf_attr.specs.declared.file.File.{File}
 use Rattle.vf_base.specs.declared.action.Control.{Control}
 use Rattle.vf_locks.specs.Clash.{clash}
 use Rattle.vf_tables.specs.Entries.{is_docket, is_file}
-use Rattle.vf_tables.specs.Validity.{all_differ, exclude, octets_of_files}
+use Rattle.vf_tables.specs.Validity.{all_differ, exclude, is_valid, is_valid_docket, is_valid_file, octets_of_files}
 use Rattle.vf_tables.specs.declared.docket.Docket as tables
 use Rattle.vf_tables.specs.declared.limits.TheConstants.{MOST_DOCKETS, MOST_FILES, MOST_FILESTORE_OCTETS, MOST_TASKS, MOST_USERS}
 use Rattle.vf_filestore.specs.Changes.{is_same_open}
 use Rattle.vf_filestore.specs.Dockets.{docket_left_by}
 use Rattle.vf_filestore.specs.History.{Regime, Selection, regime, selection}
 use Rattle.vf_filestore.specs.Holders.{controls_by}
-use Rattle.vf_filestore.specs.Keeping.{TablesAreValid}
+use Rattle.vf_filestore.specs.Keeping.{AreOthersValid}
 use Rattle.vf_filestore.specs.Sound.{IsSound, Standing, Use, do_clash, is_recoverable, name_of, standing_of_docket, use_by, use_of_docket}
 use Rattle.vf_filestore.specs.State.{Docket, State}
 use Rattle.vf_filestore.specs.Tables.{row_in, row_of, tables_of}
@@ -167,7 +167,8 @@ none_excludes state sound =
 
 -- ---- all
 
-pub tables_valid : TablesAreValid
+pub tables_valid : (state : State) → IsSound state → AreOthersValid state.users state.tasks → list_all is_valid_file state.files ≡ true → list_all (is_valid_docket state.files) (tables_of state).dockets ≡ true
+    → is_valid (tables_of state) ≡ true
 tables_valid state sound others files dockets =
     let users = le-leb (length state.users) MOST_USERS others.few_users in
     let few = le-leb (length state.files) MOST_FILES sound.limited.counted in

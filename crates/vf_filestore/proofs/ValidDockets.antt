@@ -41,17 +41,18 @@ use Rattle.vf_tree.specs.TreeRefusal.{TreeRefusal, BadContext}
 use Rattle.vf_filestore.specs.Controls.{attributes_usable, contents_usable, is_usable, joined}
 use Rattle.vf_filestore.specs.Dockets.{docket_left_by}
 use Rattle.vf_filestore.specs.History.{Given, Nothing, Made, Refused, Showed, Placed, Resumed, History, Regime, Selection, position, regime, selection}
-use Rattle.vf_filestore.specs.Keeping.{AreKept, DocketsAreValid, IsAt, IsEarned, IsKeptMove, IsOpenIn, IsOpenOn}
+use Rattle.vf_filestore.specs.Keeping.{AreHistoriesKept, AreKept, AreOpensKept, IsEarned, IsOpenIn, IsOpenOn}
 use Rattle.vf_filestore.specs.Opening.{action_of}
-use Rattle.vf_filestore.specs.Sound.{Holding, IsFaithful, IsInMode, IsMoving, IsShownIn, IsSoundDocket, IsThere, IsUsable, file_of, holding_by, holding_of_docket}
-use Rattle.vf_filestore.specs.State.{Docket, activity_in}
-use Rattle.vf_filestore.specs.Tables.{operation_of, regime_by, row_in, row_of, staged_of}
+use Rattle.vf_filestore.specs.Sound.{Holding, IsFaithful, IsInMode, IsMoving, IsShownIn, IsSound, IsSoundDocket, IsThere, IsUsable, file_of, holding_by, holding_of_docket}
+use Rattle.vf_filestore.specs.State.{Docket, State, activity_in}
+use Rattle.vf_filestore.specs.Tables.{operation_of, regime_by, row_in, row_of, staged_of, tables_of}
 use Rattle.vf_filestore.specs.Transfers.{Movement, Reads, Writes, Transfer, happened, point, under_way}
 use Rattle.vf_filestore.proofs.Broken.{stopped_sound}
 use Rattle.vf_filestore.proofs.Kept.{ordered}
-use Rattle.vf_filestore.proofs.KeptMoves.{all_left_kept, moving_kept}
+use Rattle.vf_filestore.proofs.KeptMoves.{IsAt, IsKeptMove, all_left_kept, moving_kept}
 use Rattle.vf_filestore.proofs.Leading.{both}
 use Rattle.vf_filestore.proofs.Lists.{all-from_flat_map, all_append, all_both}
+use Rattle.vf_filestore.proofs.OpensKept.{all_left_open}
 use Rattle.vf_filestore.proofs.OrderedRows.{all_ordered}
 
 -- ---- sets of actions
@@ -298,8 +299,8 @@ rows_valid files (docket ∷ dockets) each = all_joined (is_valid_docket files) 
     all_joined p [] ys first second = second
     all_joined p (x ∷ xs) ys first second = let parts = and_parts (p x) (list_all p xs) first in both (p x) (list_all p (xs ++ ys)) parts.0 (all_joined p xs ys parts.1 second)
 
-pub dockets_valid : DocketsAreValid
-dockets_valid state sound kept open_in =
+pub dockets_valid : (state : State) → IsSound state → AreHistoriesKept state → AreOpensKept state → list_all (is_valid_docket state.files) (tables_of state).dockets ≡ true
+dockets_valid state sound kept opens =
     let after = stopped_sound state sound in
     let all = state.dockets ++ flat_map docket_left_by state.parties in
     let usable : AllByRecursion (λ (docket : Docket). AllByRecursion IsUsable (holding_of_docket docket)) all
@@ -307,6 +308,7 @@ dockets_valid state sound kept open_in =
     let histories = all_append (λ (docket : Docket). AreKept docket.history) state.dockets (flat_map docket_left_by state.parties) kept.dockets (all_left_kept state.files state.parties sound.parties kept.parties) in
     let known = all_both (IsSoundDocket state.files) (λ (docket : Docket). AllByRecursion IsUsable (holding_of_docket docket))
     (λ (docket : Docket). IsSoundDocket state.files docket × AllByRecursion IsUsable (holding_of_docket docket)) all (λ docket sound usable. (sound, usable)) after.dockets usable in
+    let open_in = all_append (λ (docket : Docket). IsOpenIn state.files docket.history) state.dockets (flat_map docket_left_by state.parties) opens.dockets (all_left_open state.files state.parties sound.parties opens.parties) in
     let more = all_both (λ (docket : Docket). AreKept docket.history) (λ (docket : Docket). IsOpenIn state.files docket.history)
     (λ (docket : Docket). AreKept docket.history × IsOpenIn state.files docket.history) all (λ docket kept opened. (kept, opened)) histories open_in in
     let each = all_both (λ (docket : Docket). IsSoundDocket state.files docket × AllByRecursion IsUsable (holding_of_docket docket)) (λ (docket : Docket). AreKept docket.history × IsOpenIn state.files docket.history)

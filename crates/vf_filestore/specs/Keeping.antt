@@ -1,42 +1,40 @@
--- When a store may keep the tables of a sound state: what has to hold of it besides (profile).
-use Rattle.std.specs.Prelude.{◌≡◌, ℕ, ◌≤◌, true, false, List, [], ◌∷◌, ◌++◌, flat_map, length, Some, IfSome}
+-- What holds of every state that a run reaches beside what is sound, with which a store may keep its tables (profile).
+use Rattle.std.specs.Prelude.{◌≡◌, ℕ, ◌≤◌, Bool, true, false, List, [], ◌∷◌, length, is_none, IfSome}
 use Rattle.std.specs.List.{AllByRecursion, list_all}
 use Rattle.vf_attr.specs.declared.file.File.{File}
+use Rattle.vf_base.specs.declared.element.Element.{Element}
+use Rattle.vf_doctype.specs.Checks.{fault as fault_of}
+use Rattle.vf_doctype.specs.DocumentTypes.{doc_type}
+use Rattle.vf_doctype.specs.declared.doc_type.DocType.{DocType}
 use Rattle.vf_elements.specs.declared.message.Message.{Message}
 use Rattle.vf_elements.specs.declared.message.Message.TheVariants as messages
 use Rattle.vf_elements.specs.declared.message.Said.{Said}
 use Rattle.vf_elements.specs.declared.message.Said.TheVariants as answers
 use Rattle.vf_pdu.specs.declared.pdu.Pdu.{Pdu}
-use Rattle.vf_pdu.specs.declared.pdu.Pdu.TheVariants.{LocateRequest, EraseRequest, ReadRequest, WriteRequest, TransferEndRequest, CancelRequest}
+use Rattle.vf_pdu.specs.declared.pdu.Pdu.TheVariants.{CreateRequest, ChangeAttribRequest, LocateRequest, EraseRequest, ReadRequest, WriteRequest, TransferEndRequest, CancelRequest}
 use Rattle.vf_tables.specs.Entries.{is_task, is_user}
-use Rattle.vf_tables.specs.Validity.{all_differ, elements_staged, includes, is_valid, is_valid_docket, is_valid_file, is_valid_task, is_written, modes, octets_staged}
-use Rattle.vf_tables.specs.declared.limits.TheConstants.{MOST_SURVIVING_ELEMENTS, MOST_SURVIVING_OCTETS, MOST_TASKS, MOST_USERS}
+use Rattle.vf_tables.specs.Validity.{all_differ, includes, is_valid, is_valid_task, is_written, modes}
+use Rattle.vf_tables.specs.declared.limits.TheConstants.{MOST_TASKS, MOST_TERMS, MOST_USERS}
 use Rattle.vf_tables.specs.declared.task.Task.{Task}
 use Rattle.vf_tables.specs.declared.user.User.{User}
 use Rattle.vf_filestore.specs.Aborts.{Setting, passes_survivors}
-use Rattle.vf_filestore.specs.Dockets.{broken, docket_left_by, dropped, stopped}
+use Rattle.vf_filestore.specs.Dockets.{broken, dropped, stopped}
 use Rattle.vf_filestore.specs.History.{Entry, Given, Nothing, Refused, Showed, Placed, History, Regime, position, regime, selection}
-use Rattle.vf_filestore.specs.Runs.{beginning}
+use Rattle.vf_filestore.specs.Laws.{AreNew}
+use Rattle.vf_filestore.specs.Runs.{Event, Takes, beginning, run}
 use Rattle.vf_filestore.specs.Sound.{IsSound, file_of}
 use Rattle.vf_filestore.specs.State.{Docket, State, StandingParty}
-use Rattle.vf_filestore.specs.Tables.{operation_of, staged_of, tables_of}
+use Rattle.vf_filestore.specs.Tables.{operation_of, tables_of}
 use Rattle.vf_filestore.specs.Transfers.{Movement, Reads, Writes, Transfer, survivors, transferring, under_way}
 use Rattle.vf_filestore.specs.Transition.{fault, transition}
 
--- users and tasks, which no message changes, are such as valid tables have
+-- OTHERS. Users and tasks, which no message changes, are such as valid tables have.
 pub record AreOthersValid (users : List User) (tasks : List Task) : Type 0 where
   pub users_differ : all_differ (λ (user : User). is_user user.identity) users ≡ true
   pub few_users : length users ≤ MOST_USERS
   pub tasks_differ : all_differ (λ (task : Task). is_task task.plan.activity) tasks ≡ true
   pub few_tasks : length tasks ≤ MOST_TASKS
   pub tasks_valid : list_all is_valid_task tasks ≡ true
-
--- With valid users, tasks, files and dockets the tables are valid: keys differ, each list is within its limit, and no
--- docket excludes another.
-abbrev pub TablesAreValid : Type 0
-TablesAreValid =
-    (state : State) → IsSound state → AreOthersValid state.users state.tasks → list_all is_valid_file state.files ≡ true
-    → list_all (is_valid_docket state.files) (tables_of state).dockets ≡ true → is_valid (tables_of state) ≡ true
 
 -- HISTORIES. What the request of a transfer was given: a read what it shows, and a write whose identity its operation
 -- takes nothing; or the number of the diagnostic that refuses it.
@@ -46,20 +44,7 @@ IsEarned (Writes operation fadu) Nothing = is_written (operation_of operation) f
 IsEarned movement (Refused version number) = number ≡ 0 → ⊥
 IsEarned movement given = ⊥
 
--- a read stands where it came to
-abbrev pub IsAt : Given → (position : ℕ) → Type 0
-IsAt (Showed version elements position) at = at ≡ position
-IsAt given at = Unit {0}
-
--- of a transfer under way: what it was given, where it stands, and that what stands of a write is within its limits
-pub record IsKeptMove (history : History) (transfer : Transfer) : Type 0 where
-  pub earned : IsEarned transfer.movement transfer.given
-  pub at : IsAt transfer.given (position history)
-  pub few_octets : octets_staged (staged_of history (Some transfer)) ≤ MOST_SURVIVING_OCTETS
-  pub few_elements : elements_staged (staged_of history (Some transfer)) ≤ MOST_SURVIVING_ELEMENTS
-
--- What is kept of each message that was concluded: a message that places nothing was given no position, an element came
--- where there was room for it, and in a write no element was said.
+-- a message that sets no position was given none
 abbrev pub IsUnplaced : Given → Type 0
 IsUnplaced (Placed position) = ⊥
 IsUnplaced (Showed version elements position) = ⊥
@@ -78,10 +63,12 @@ abbrev pub IsGiven : Message → Given → Type 0
 IsGiven (messages.Pdu request) given = IsGivenTo request given
 IsGiven message given = IsUnplaced given
 
+-- an element came where there was room for it
 abbrev pub IsTakenIn : History → Message → Type 0
 IsTakenIn earlier (messages.Element element) = passes_survivors (survivors earlier) element ≡ false
 IsTakenIn earlier message = Unit {0}
 
+-- in a write no element was said
 abbrev pub IsNoElement : Said → Type 0
 IsNoElement (answers.Element element) = ⊥
 IsNoElement said = Unit {0}
@@ -111,30 +98,65 @@ IsOpenOn regime file = includes (modes file.tree.constraint) regime.mode.value �
 abbrev pub IsOpenIn : List File → History → Type 0
 IsOpenIn files history = IfSome (regime history) (λ regime. IfSome (file_of files (selection history)) (IsOpenOn regime))
 
--- With such histories the dockets, those of the recoverable opens that stand among them, are valid.
-abbrev pub DocketsAreValid : Type 0
-DocketsAreValid =
-    (state : State) → IsSound state → AreHistoriesKept state
-    → AllByRecursion (λ (docket : Docket). IsOpenIn state.files docket.history) (state.dockets ++ flat_map docket_left_by state.parties)
-    → list_all (is_valid_docket state.files) (tables_of state).dockets ≡ true
+pub record AreOpensKept (state : State) : Type 0 where
+  pub parties : AllByRecursion (λ (party : StandingParty). IsOpenIn state.files party.history) state.parties
+  pub dockets : AllByRecursion (λ (docket : Docket). IsOpenIn state.files docket.history) state.dockets
 
--- THEY STAY SO. A filestore begins without any.
-abbrev pub HistoriesBegin : Type 0
-HistoriesBegin = (users : List User) (files : List File) → AreHistoriesKept (beginning users files)
+-- Each string of a file is such as its document type takes, and its terms are few.
+abbrev pub fits_unit : DocType → List Element → Bool
+fits_unit doc unit = list_all (λ element. is_none (fault_of doc element)) unit
 
-abbrev pub MessagesKeep : Type 0
-MessagesKeep =
-    (state : State) (link : ℕ) (setting : Setting) (message : Message) → IsSound state → AreHistoriesKept state
-    → AreHistoriesKept (transition state link setting message).state
+pub record IsFilled (file : File) : Type 0 where
+  pub few : length file.terms ≤ MOST_TERMS
+  pub filled : IfSome (doc_type file.contents) (λ (doc : DocType). list_all (fits_unit doc) file.tree.units ≡ true)
 
-abbrev pub FaultsKeepHistories : Type 0
-FaultsKeepHistories = (state : State) (link number place : ℕ) → IsSound state → AreHistoriesKept state → AreHistoriesKept (fault state link number place).state
+-- as the terms of each message are that is read
+abbrev pub HasFewTerms : Message → Type 0
+HasFewTerms (messages.Pdu (CreateRequest over name contents permitted terms requested controls password)) = length terms ≤ MOST_TERMS
+HasFewTerms (messages.Pdu (ChangeAttribRequest name permitted terms others)) = IfSome terms (λ terms. length terms ≤ MOST_TERMS)
+HasFewTerms message = Unit {0}
 
-abbrev pub BreaksKeepHistories : Type 0
-BreaksKeepHistories = (state : State) (link : ℕ) → IsSound state → AreHistoriesKept state → AreHistoriesKept (broken link state)
+pub record AreFilesKept (state : State) : Type 0 where
+  pub files : AllByRecursion IsFilled state.files
+  pub traces : AllByRecursion (λ (party : StandingParty). AllByRecursion HasFewTerms party.trace) state.parties
 
-abbrev pub StopsKeepHistories : Type 0
-StopsKeepHistories = (state : State) → IsSound state → AreHistoriesKept state → AreHistoriesKept (stopped state)
+-- STATES. All of it, with which the tables of a sound state are valid
+pub record IsKept (state : State) : Type 0 where
+  pub others : AreOthersValid state.users state.tasks
+  pub histories : AreHistoriesKept state
+  pub opens : AreOpensKept state
+  pub files : AreFilesKept state
 
-abbrev pub DropsKeepHistories : Type 0
-DropsKeepHistories = (state : State) (identity : List ℕ) (activity : ℕ) → AreHistoriesKept state → AreHistoriesKept (dropped identity activity state)
+abbrev pub KeptIsValid : Type 0
+KeptIsValid = (state : State) → IsSound state → IsKept state → is_valid (tables_of state) ≡ true
+
+-- THEY STAY SO, from the begin on
+abbrev pub BeginsKept : Type 0
+BeginsKept = (users : List User) (files : List File) → AreOthersValid users [] → AllByRecursion IsFilled files → IsKept (beginning users files)
+
+abbrev pub MessagesStayKept : Type 0
+MessagesStayKept =
+    (state : State) (link : ℕ) (setting : Setting) (message : Message) → HasFewTerms message → IsSound state → IsKept state
+    → IsKept (transition state link setting message).state
+
+abbrev pub FaultsStayKept : Type 0
+FaultsStayKept = (state : State) (link number place : ℕ) → IsSound state → IsKept state → IsKept (fault state link number place).state
+
+abbrev pub BreaksStayKept : Type 0
+BreaksStayKept = (state : State) (link : ℕ) → IsSound state → IsKept state → IsKept (broken link state)
+
+abbrev pub StopsStayKept : Type 0
+StopsStayKept = (state : State) → IsSound state → IsKept state → IsKept (stopped state)
+
+abbrev pub DropsStayKept : Type 0
+DropsStayKept = (state : State) (identity : List ℕ) (activity : ℕ) → IsKept state → IsKept (dropped identity activity state)
+
+abbrev pub HasFew : Event → Type 0
+HasFew (Takes link setting message) = HasFewTerms message
+HasFew event = Unit {0}
+
+-- and so each state of a run is one that a store may keep
+abbrev pub RunsStayKept : Type 0
+RunsStayKept =
+    (events : List Event) (state : State) → AreNew events state → AllByRecursion HasFew events → IsSound state → IsKept state
+    → IsKept (run events state).state × (is_valid (tables_of (run events state).state) ≡ true)

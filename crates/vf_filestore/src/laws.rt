@@ -1,5 +1,5 @@
 //! Laws of the definitions, each the contract of a function that does nothing.
-ghost use Rattle.vf_filestore.specs.Keeping.{BreaksKeepHistories, DocketsAreValid, DropsKeepHistories, FaultsKeepHistories, HistoriesBegin, MessagesKeep, StopsKeepHistories, TablesAreValid};
+ghost use Rattle.vf_filestore.specs.Keeping.{BeginsKept, BreaksStayKept, DropsStayKept, FaultsStayKept, KeptIsValid, MessagesStayKept, RunsStayKept, StopsStayKept};
 ghost use Rattle.vf_filestore.specs.Laws.{BeginsSound, BreaksAreSound, BreaksKeep, DifferencesLead, DropsAreSound, DropsLead, FaultsAreSound, FaultsKeep, MakesNoChange, MessagesLead, RunsAreSound, StopsAreSound, StopsBegin, StopsKeep, TransitionsAreSound};
 
 /// A filestore whose files have names of their own and are within their limits begins in a sound state.
@@ -50,19 +50,20 @@ pub fn changes_lead()
     ensures drops { DropsLead }
 {}
 
-/// The tables of a sound state are valid where its users, tasks, files and dockets are; and dockets are where the
-/// histories are such as a store keeps, and each open mode is one of its file's constraint set.
+/// The tables of a sound state are valid, so that a store may keep them, where what they are made of is kept: its users
+/// and tasks, its files, the entries of its histories and the modes of its opens.
 pub fn tables_are_valid()
-    ensures tables { TablesAreValid }
-    ensures dockets { DocketsAreValid }
+    ensures { KeptIsValid }
 {}
 
-/// Histories are such as a store keeps at the begin, and stay so with each message, fault, break, stop and drop.
-pub fn histories_stay_kept()
-    ensures begins { HistoriesBegin }
-    ensures messages { MessagesKeep }
-    ensures faults { FaultsKeepHistories }
-    ensures breaks { BreaksKeepHistories }
-    ensures stops { StopsKeepHistories }
-    ensures drops { DropsKeepHistories }
+/// So it is at the begin, and stays so with each message whose terms are few, each fault, break, stop and drop, and with
+/// every run of links that are new where they arrive.
+pub fn states_stay_kept()
+    ensures begins { BeginsKept }
+    ensures messages { MessagesStayKept }
+    ensures faults { FaultsStayKept }
+    ensures breaks { BreaksStayKept }
+    ensures stops { StopsStayKept }
+    ensures drops { DropsStayKept }
+    ensures runs { RunsStayKept }
 {}
