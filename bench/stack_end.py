@@ -36,7 +36,7 @@ class Fault(Exception):
 
 
 def length_at(octets, at, end):
-    """A length, and the place behind it; `end` is that of what holds it, which it may not pass."""
+    """A length, and the place after it; `end` is that of what holds it, which it may not pass."""
     if at >= end:
         raise Fault("Session", "Length", at)
     length, after = octets[at], at + 1
@@ -99,7 +99,7 @@ def parameters_in(kind, octets, at, end, begin, fields, grouped=False):
 
 
 def spdu_at(kind, octets, begin):
-    """The SPDU that begins there, and the place behind its parameters."""
+    """The SPDU that begins there, and the place after its parameters."""
     length, after = length_at(octets, begin + 1, len(octets))
     fields = {}
     parameters_in(kind, octets, after, after + length, begin, fields)
@@ -243,7 +243,7 @@ class End:
     # Hearing.
 
     def hear(self, octets):
-        """What stands in the stream behind what was heard before."""
+        """What stands in the stream after what was heard before."""
         if self.ending != OPEN:
             return
         self.stream += octets

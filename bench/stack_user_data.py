@@ -81,7 +81,7 @@ class Part:
 
 
 class Text:
-    """Octets, each with its place in the user data, and the place behind the last one."""
+    """Octets, each with its place in the user data, and the place after the last one."""
 
     def __init__(self, octets, places, end):
         self.octets, self.places, self.end = octets, places, end
@@ -424,7 +424,7 @@ class Walk:
             self.offers.append(Offer(found["id"], found["syntax"], BER in syntaxes))
 
     def result(self, part):
-        """[0] first, and behind a 0 the transfer syntax; behind a 2 this is skipped."""
+        """[0] first, and after a 0 the transfer syntax; after a 2 this is skipped."""
         if not part.built:
             wrong(part.place)
         results, names = [], []
