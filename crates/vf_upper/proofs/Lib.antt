@@ -4,7 +4,8 @@ mod Marked
 mod Parts
 mod Readings
 mod Measured
+mod OneValue
 mod Recovered
-mod Room
+pub mod Room
 mod TypesRead
 mod WrittenTrees

@@ -287,6 +287,12 @@ small_by deep long size e n f (inr lt) = grind (arith, nat_tests)
 pub small-sized : (p : Primitive) (contexts : List ContextEntry) (n : ℕ) → size_of p contexts ≡ Some n → ¬ IsTooLarge (written p contexts)
 small-sized p contexts n e = small_by (depth (written p contexts)) (length (spell (written p contexts))) (size_of p contexts) (written-sized p contexts) n e
 
+length_by : (deep long : ℕ) (size : Option ℕ) → within 32 1048576 deep long ≡ size → (n : ℕ) → size ≡ Some n → long ≡ n
+length_by deep long size e n f = grind (arith, nat_tests)
+
+pub length-sized : (p : Primitive) (contexts : List ContextEntry) (n : ℕ) → size_of p contexts ≡ Some n → length (spell (written p contexts)) ≡ n
+length-sized p contexts n e = length_by (depth (written p contexts)) (length (spell (written p contexts))) (size_of p contexts) (written-sized p contexts) n e
+
 large_by : (deep long : ℕ) → within 32 1048576 deep long ≡ None → (32 < deep) ⊎ (1048576 < long)
 large_by deep long e = grind (arith, nat_tests)
 

@@ -16,10 +16,10 @@ use Rattle.vf_upper.specs.declared.contexts.Offer.{Offer}
 use Rattle.vf_upper.specs.declared.primitive.Primitive.{Primitive}
 use Rattle.vf_upper.specs.declared.primitive.Primitive.TheVariants.{Associate, Accepted, Refused, Release, Released, Data, Abort}
 use Rattle.vf_upper.specs.CarriedCode.{Carried}
-use Rattle.vf_upper.specs.Laws.{carried_in, contexts_in, HasRoom, IsOffer, IsPrimitive}
+use Rattle.vf_upper.specs.Laws.{AreProposed, carried_in, contexts_in, EmptyHasRoom, HasRoom, IsOffer, IsRoomy}
 use Rattle.vf_upper.specs.Sizes.{acse_size, all, apdu_size, both, carried_size, fitting, information_size, in_mode_size, integer_size, listed_size, outcome_size, placed_size, proposal_size, size_of, wrapped}
-use Rattle.vf_upper.specs.Written.{acse_id, is_placed, IsWritable}
-use Rattle.vf_upper.proofs.Measured.{small-sized}
+use Rattle.vf_upper.specs.Written.{acse_id, is_placed}
+use Rattle.vf_upper.proofs.Measured.{length-sized, small-sized}
 
 -- ---- sizes up to a number
 
@@ -159,19 +159,22 @@ mode-most list user m n p q small =
 
 -- ---- primitives
 
-some-size : (o : Option ℕ) (n : ℕ) → AtMost o n → (size : ℕ) × (o ≡ Some size)
+some-size : (o : Option ℕ) (n : ℕ) → AtMost o n → (size : ℕ) × (o ≡ Some size) × (size ≤ n)
 some-size None n most = absurd most
-some-size (Some size) n most = (size, refl)
+some-size (Some size) n most = (size, refl, most)
 
-fits : (p : Primitive) (contexts : List ContextEntry) (n : ℕ) → is_placed p contexts ≡ true → AtMost (size_of p contexts) n → IsWritable p contexts
-fits p contexts n placed most = let s = some-size (size_of p contexts) n most in record { placed = placed; small = small-sized p contexts s.0 s.1 }
+fits : (p : Primitive) (contexts : List ContextEntry) (n : ℕ) → is_placed p contexts ≡ true → AtMost (size_of p contexts) n → IsRoomy p contexts n
+fits p contexts n placed most =
+    let s = some-size (size_of p contexts) n most in
+    let long = length-sized p contexts s.0 s.1 in
+    (record { placed = placed; small = small-sized p contexts s.0 s.1 }, omega (arith, long, s.2))
 
 -- the sizes of a primitive with one value
-room : (p : Primitive) (contexts : List ContextEntry) (v : Carried) → IsPrimitive p → carried_in p ≡ v ∷ [] → depth v.tree ≤ 23 → 128 * (contexts_in p + 1) + length (spell v.tree) ≤ 1048576
+room : (p : Primitive) (contexts : List ContextEntry) (v : Carried) → AreProposed p → carried_in p ≡ v ∷ [] → depth v.tree ≤ 23 → 128 * (contexts_in p + 1) + length (spell v.tree) ≤ 1048576
     → AtMost (size_of p contexts) (128 * (contexts_in p + 1) + length (spell v.tree))
 room (Associate offers values) contexts v is one shallow small =
     let n = length (spell v.tree) in
-    let list = all-most IsOffer proposal_size 114 proposal-most offers is.0 (Some 0) 0 (omega arith) (omega arith) in
+    let list = all-most IsOffer proposal_size 114 proposal-most offers is (Some 0) 0 (omega arith) (omega arith) in
     let request = acse-most (acse_id contexts) 9 23 v shallow (omega arith) (omega arith) in
     at-most-along _ _ _ (ap (λ vs. in_mode_size (listed_size (map proposal_size offers)) (acse_size (acse_id contexts) (apdu_size 9 23 vs))) one)
     (more-most _ (((0 + 114 * length offers) + 5) + (n + 82) + 15) _
@@ -207,3 +210,21 @@ room (Abort values) contexts v is one shallow small =
 
 pub has_room : HasRoom
 has_room p contexts v is one placed shallow small = fits p contexts _ placed (room p contexts v is one shallow small)
+
+-- ---- without values
+
+pub empty_has_room : EmptyHasRoom
+empty_has_room (Associate offers values) contexts e = cc
+empty_has_room (Accepted results values) contexts e = cc
+empty_has_room (Refused [] []) contexts e =
+    let user = wrapped-most (placed_size (acse_id contexts) (Some 25)) 48 (placed-most (acse_id contexts) (Some 25) 25 (omega arith) (omega arith)) (omega arith) in
+    (fits (Refused [] []) contexts 60 refl (wrapped-most (both (Some 2) (acse_size (acse_id contexts) (Some 25))) 55 (both-most (Some 2) (acse_size (acse_id contexts) (Some 25)) 2 53 (omega arith) user (omega arith)) (omega arith))).0
+empty_has_room (Refused [] (value ∷ values)) contexts e = cc
+empty_has_room (Refused (result ∷ results) values) contexts e = cc
+empty_has_room (Release values) contexts e = cc
+empty_has_room (Released values) contexts e = cc
+empty_has_room (Data values) contexts e = cc
+empty_has_room (Abort []) contexts e =
+    let user = wrapped-most (placed_size (acse_id contexts) (Some 7)) 30 (placed-most (acse_id contexts) (Some 7) 7 (omega arith) (omega arith)) (omega arith) in
+    (fits (Abort []) contexts 40 refl (wrapped-most (acse_size (acse_id contexts) (Some 7)) 35 user (omega arith))).0
+empty_has_room (Abort (value ∷ values)) contexts e = cc

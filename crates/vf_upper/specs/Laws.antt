@@ -1,5 +1,5 @@
 -- What was written is read as the primitive again.
-use Rattle.std.specs.Prelude.{◌≡◌, ℕ, ◌+◌, ◌*◌, ◌≤◌, ℤ, true, false, List, [], ◌∷◌, length, MatchOption, Result, Ok, Err}
+use Rattle.std.specs.Prelude.{◌≡◌, ℕ, ◌+◌, ◌*◌, ◌≤◌, ℤ, true, false, List, [], ◌∷◌, length, MatchOption, Option, None, Some, Result, Ok, Err}
 use Rattle.std.specs.Int.{w64}
 use Rattle.std.specs.Int.RustNames.{FitsSigned}
 use Rattle.std.specs.List.{All}
@@ -10,7 +10,7 @@ use Rattle.vf_base.specs.declared.spdu_kind.SpduKind.TheVariants.{CN, AC, RF, FN
 use Rattle.vf_ber.specs.Limits.{IsTooLarge}
 use Rattle.vf_ber.specs.Spelling.{spell}
 use Rattle.vf_ber.specs.Tags.{IsTree}
-use Rattle.vf_ber.specs.Tree.{depth}
+use Rattle.vf_ber.specs.Tree.{Tree, depth}
 use Rattle.vf_upper.specs.declared.contexts.ContextEntry.{ContextEntry}
 use Rattle.vf_upper.specs.declared.contexts.Offer.{Offer}
 use Rattle.vf_upper.specs.declared.primitive.Primitive.{Primitive}
@@ -22,7 +22,7 @@ use Rattle.vf_upper.specs.Primitives.{admitted, answered, is_bare, Negotiated, n
 use Rattle.vf_upper_grammar.specs.FaultPlaces.{fault_places, IsLeast}
 use Rattle.vf_upper_grammar.specs.Faults.{Places}
 use Rattle.vf_upper_grammar.specs.Modules.{meaning_of, meant}
-use Rattle.vf_upper.specs.Written.{accepted, holding, is_placed, IsWritable, universal, user_octets, written}
+use Rattle.vf_upper.specs.Written.{accepted, holding, is_empty, is_placed, IsWritable, universal, user_octets, written}
 
 abbrev pub carrier_of : Primitive → SpduKind
 carrier_of (Associate offers values) = CN
@@ -109,13 +109,33 @@ contexts_in (Accepted results values) = length results
 contexts_in (Refused results values) = length results
 contexts_in primitive = 0
 
+-- the offers of a proposal are offers of the code
+abbrev pub AreProposed : Primitive → Type 0
+AreProposed (Associate offers values) = All IsOffer offers
+AreProposed primitive = Unit {0}
+
+abbrev pub in_context : ℤ → Tree → Carried
+in_context id tree = record { context = id; tree = tree }
+
 -- A primitive with one value in contexts that suit it is writable where the value is at most 23 deep and leaves 128 octets,
--- and as many for each context that is proposed or answered.
+-- and as many for each context that is proposed or answered; its user data have no more than these.
+abbrev pub IsRoomy : Primitive → List ContextEntry → ℕ → Type 0
+IsRoomy primitive contexts most = IsWritable primitive contexts × (length (spell (written primitive contexts)) ≤ most)
+
 abbrev pub HasRoom : Type 0
 HasRoom =
-    (primitive : Primitive) (contexts : List ContextEntry) (value : Carried) → IsPrimitive primitive → carried_in primitive ≡ value ∷ []
+    (primitive : Primitive) (contexts : List ContextEntry) (value : Carried) → AreProposed primitive → carried_in primitive ≡ value ∷ []
     → is_placed primitive contexts ≡ true → depth value.tree ≤ 23 → 128 * (contexts_in primitive + 1) + length (spell value.tree) ≤ MOST_VALUE_OCTETS
-    → IsWritable primitive contexts
+    → IsRoomy primitive contexts (128 * (contexts_in primitive + 1) + length (spell value.tree))
+
+-- So is one without user data.
+abbrev pub EmptyHasRoom : Type 0
+EmptyHasRoom = (primitive : Primitive) (contexts : List ContextEntry) → is_empty primitive ≡ true → IsWritable primitive contexts
+
+-- The user data of a primitive have so many octets, or none where they pass the limits of a value.
+abbrev pub Measures : Primitive → List ContextEntry → Option ℕ → Type 0
+Measures primitive contexts None = IsTooLarge (written primitive contexts)
+Measures primitive contexts (Some most) = (¬ IsTooLarge (written primitive contexts)) × (length (spell (written primitive contexts)) ≡ most)
 
 -- ---- what user data mean
 

@@ -1,5 +1,5 @@
 //! Laws of writing and reading, each the contract of a function that does nothing.
-ghost use Rattle.vf_upper.specs.Laws.{HasRoom, IsAnswered, IsReadAgain, IsReadInResynchronizations, LeastIsAnswered};
+ghost use Rattle.vf_upper.specs.Laws.{EmptyHasRoom, HasRoom, IsAnswered, IsReadAgain, IsReadInResynchronizations, LeastIsAnswered};
 
 /// User data are answered by what they mean: where they are one value of the type of their SPDU, in whatever spelling, by
 /// the numbers, names and values that this value holds by the modules of presentation (ISO 8823) and ACSE (ISO 8650-1);
@@ -27,7 +27,9 @@ pub fn resynchronizations_are_read_again()
 {}
 
 /// A primitive with one value in contexts that suit it can be written where the value is at most 23 deep and leaves 128
-/// of the 1,048,576 octets, and as many for each context that the primitive proposes or answers.
+/// of the 1,048,576 octets, and as many for each context that the primitive proposes or answers: its user data have no more
+/// octets than these and the value's. A refusal and an abort without values can be written too.
 pub fn small_values_have_room()
-    ensures { HasRoom }
+    ensures room { HasRoom }
+    ensures empty { EmptyHasRoom }
 {}

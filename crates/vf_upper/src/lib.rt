@@ -7,6 +7,7 @@ mod contexts;
 mod errors;
 mod holding;
 mod laws;
+mod lengths;
 mod negotiated;
 mod placed;
 mod presentation;
@@ -23,6 +24,7 @@ pub use laws::{
     resynchronizations_are_read_again, small_values_have_room, the_least_fault_is_answered,
     what_is_read_is_meant, written_is_read_again,
 };
+pub use lengths::{acceptance_length, data_length, refusal_length};
 pub use placed::is_writable;
 pub use primitive::Primitive;
 pub use reading::read;

@@ -12,7 +12,7 @@ use crate::negotiated::acse_id;
 use crate::{CarriedValue, CarriedValues, ContextEntry, Offer, Primitive};
 use vf_base::{MOST_VALUE_OCTETS, Oid};
 
-fn fitting(len: u64) -> Option<u32>
+pub(crate) fn fitting(len: u64) -> Option<u32>
     ensures { result ≡ fitting_length len }
 {
     if len <= u64::from(MOST_VALUE_OCTETS) {
@@ -23,14 +23,14 @@ fn fitting(len: u64) -> Option<u32>
 }
 
 /// Two values in turn.
-fn both(first: Option<u32>, second: Option<u32>) -> Option<u32>
+pub(crate) fn both(first: Option<u32>, second: Option<u32>) -> Option<u32>
     ensures { result ≡ both_lengths first second }
 {
     fitting(u64::from(first?) + u64::from(second?))
 }
 
 /// A value with parts of this length.
-fn wrapped(parts: Option<u32>) -> Option<u32>
+pub(crate) fn wrapped(parts: Option<u32>) -> Option<u32>
     ensures { result ≡ wrapped_length parts }
 {
     let len = parts?;
@@ -101,7 +101,7 @@ fn oid_len(oid: &Oid) -> u32
 }
 
 /// A context and a value in \[0\]: a PDV-list or an EXTERNAL.
-fn placed_size(id: i64, size: Option<u32>) -> Option<u32>
+pub(crate) fn placed_size(id: i64, size: Option<u32>) -> Option<u32>
     ensures { result ≡ placed_length id size }
 {
     wrapped(both(integer_size(id), wrapped(size)))
@@ -137,7 +137,7 @@ fn apdu_size(fields: u32, depth: u32, values: &CarriedValues) -> Option<u32>
 }
 
 /// User data with an ACSE value.
-fn acse_size(contexts: &[ContextEntry], apdu: Option<u32>) -> Option<u32>
+pub(crate) fn acse_size(contexts: &[ContextEntry], apdu: Option<u32>) -> Option<u32>
     ensures { result ≡ acse_length (acse_context contexts.now) apdu }
 {
     wrapped(placed_size(acse_id(contexts), apdu))
@@ -161,7 +161,7 @@ fn proposals_size(offers: &[Offer]) -> Option<u32>
     wrapped(total)
 }
 
-fn outcome_size(accepted: bool) -> Option<u32>
+pub(crate) fn outcome_size(accepted: bool) -> Option<u32>
     ensures { result ≡ outcome_length accepted }
 {
     Some(if accepted { 9 } else { 5 })
@@ -179,7 +179,7 @@ fn outcomes_size(results: &[bool]) -> Option<u32>
 }
 
 /// The mode selector, a list and user data.
-fn in_mode_size(list: Option<u32>, user_data: Option<u32>) -> Option<u32>
+pub(crate) fn in_mode_size(list: Option<u32>, user_data: Option<u32>) -> Option<u32>
     ensures { result ≡ in_mode_length list user_data }
 {
     wrapped(both(Some(5), wrapped(both(list, user_data))))
