@@ -10,3 +10,4 @@ pub mod FeedLemmas
 pub mod OnwardLemmas
 pub mod OutcomeLemmas
 pub mod ToldLemmas
+pub mod SendLemmas

@@ -102,7 +102,7 @@ traced-unit kept x unit ending a =
           ∙ sym (received-accepted own unit x.trace);
     }
 
-standing-is : (kept : KeptExchange) (trace : Trace) → IsTraced kept trace → standing_of kept ≡ standing kept.session.side trace
+pub standing-is : (kept : KeptExchange) (trace : Trace) → IsTraced kept trace → standing_of kept ≡ standing kept.session.side trace
 standing-is kept trace p =
     let made : List Offer → List ContextEntry → SessionState → Standing = λ offers contexts state. record { offers = offers; accepted = contexts; state = state } in
     ap (λ (offers : List Offer). made offers kept.accepted kept.state) p.offers_are

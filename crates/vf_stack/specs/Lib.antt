@@ -9,4 +9,5 @@ pub mod Represents
 pub mod Examples
 pub mod Requests
 pub mod Sending
+pub mod Sends
 pub mod Mutual

@@ -1,23 +1,25 @@
 -- What one end sends of a unit and of a request, when it may, and what joins the trace.
-use Rattle.std.specs.Prelude.{◌≤◌, ℕ, Bool, ◌||◌, nat_eq, IsTrue, List, length, Option, None, Some}
+use Rattle.std.specs.Prelude.{◌≤◌, ℕ, Bool, true, false, ◌&&◌, ◌||◌, nat_eq, IsTrue, List, length, Option, None, Some, if◌then◌else◌}
 use Rattle.std.specs.List.{flat_map}
 use Rattle.vf_base.specs.declared.limits.TheConstants.{MOST_VALUE_OCTETS}
 use Rattle.vf_elements.specs.ElementValue.{IsWritable as IsElement}
 use Rattle.vf_pdu.specs.PduMeaning.{IsInRange}
 use Rattle.vf_pdu.specs.PduNumbers.{number_of}
 use Rattle.vf_pdu.specs.declared.pdu.Pdu.{Pdu}
-use Rattle.vf_session.specs.Sending.{may as session_may, spdus}
-use Rattle.vf_session.specs.Trace.{with_sent}
+use Rattle.vf_session.specs.Sending.{fits, may as session_may, spdus}
+use Rattle.vf_session.specs.Trace.{state as state_of, with_sent}
+use Rattle.vf_session.specs.declared.state.SessionState.{SessionState}
 use Rattle.vf_session.specs.declared.units.SessionSay.{SessionSay}
+use Rattle.vf_session.specs.declared.units.SessionSay.TheVariants as say
 use Rattle.vf_session.specs.declared.units.TokenSide.{TokenSide}
 use Rattle.vf_session_spdu.specs.Spelling.{spelling}
-use Rattle.vf_stack.specs.Association.{Association, end_of}
+use Rattle.vf_stack.specs.Association.{Association, Exchange, end_of, is_ended}
 use Rattle.vf_stack.specs.Carriage.{goes_in_data}
 use Rattle.vf_stack.specs.Contexts.{Standing, standing}
 use Rattle.vf_stack.specs.Receiving.{ending_by}
 use Rattle.vf_stack.specs.Requests.{contexts_of, primitive_of, unit_of}
 use Rattle.vf_stack.specs.declared.ending.Ending.{Ending}
-use Rattle.vf_stack.specs.declared.ending.Ending.TheVariants.{Open, Refused as RefusedEnding, Partly}
+use Rattle.vf_stack.specs.declared.ending.Ending.TheVariants.{Open, Refused, Partly}
 use Rattle.vf_stack.specs.declared.indication.Item.{Item as ItemOf}
 use Rattle.vf_stack.specs.declared.indication.Item.TheVariants as items
 use Rattle.vf_stack.specs.declared.request.Request.{Request}
@@ -40,11 +42,16 @@ unit_sent own a request = unit_of own (standing own a.exchange.trace) request
 abbrev pub octets_sent : TokenSide → Association → Request → List ℕ
 octets_sent own a request = packets (most_of (stream_reading (end_of own) a.stream).kept.connection.phase) (tsdu_of own (unit_sent own a request))
 
--- Its unit joins the trace, and ends receiving as one that is received.
+-- A refusal, an answered release and an abort end the association; after any other unit receiving stands as it did.
+abbrev pub ending_after : SessionSay → Ending → Ending
+ending_after unit ending = if is_ended (ending_by unit) then ending_by unit else ending
+
+-- Its unit joins the trace.
+abbrev pub with_sent_unit : TokenSide → Exchange → SessionSay → Exchange
+with_sent_unit own x unit = record { trace = with_sent own unit x.trace; ending = ending_after unit x.ending }
+
 abbrev pub with_request : TokenSide → Association → Request → Association
-with_request own a request =
-    let unit = unit_sent own a request in
-    record { stream = a.stream; exchange = record { trace = with_sent own unit a.exchange.trace; ending = ending_by unit } }
+with_request own a request = record { stream = a.stream; exchange = with_sent_unit own a.exchange (unit_sent own a request) }
 
 -- ---- when it may be sent
 
@@ -84,18 +91,18 @@ pub record IsSendable (own : TokenSide) (s : Standing) (request : Request) : Typ
   pub is_written : IsWritten (contexts_of s request) (primitive_of s request)
   pub fits : length (tsdu_of own (unit_of own s request)) ≤ MOST_VALUE_OCTETS
 
-abbrev pub IsAbort : Request → Type 0
-IsAbort (Abort pdu) = Unit {0}
-IsAbort request = ⊥
+abbrev pub is_abort : SessionSay → Bool
+is_abort (say.Abort octets) = true
+is_abort unit = false
 
 -- After a fault of which nothing else was told an abort alone, whatever session would say; after the end nothing.
-abbrev pub Permits : TokenSide → Bool → Standing → Request → Ending → Type 0
-Permits own offer s request Open = IsTrue (session_may own offer s.state (unit_of own s request))
-Permits own offer s request Partly = IsTrue (session_may own offer s.state (unit_of own s request))
-Permits own offer s request RefusedEnding = IsAbort request
-Permits own offer s request ending = ⊥
+abbrev pub permits : TokenSide → Bool → SessionState → SessionSay → Ending → Bool
+permits own offer state unit Open = session_may own offer state unit
+permits own offer state unit Partly = session_may own offer state unit
+permits own offer state unit Refused = is_abort unit && fits own unit
+permits own offer state unit ending = false
 
 pub record May (own : TokenSide) (offer : Bool) (a : Association) (request : Request) : Type 0 where
   pub connected : IsTrue (stands (stream_reading (end_of own) a.stream).kept)
-  pub permitted : Permits own offer (standing own a.exchange.trace) request a.exchange.ending
+  pub permitted : IsTrue (permits own offer (state_of own a.exchange.trace) (unit_sent own a request) a.exchange.ending)
   pub sendable : IsSendable own (standing own a.exchange.trace) request

@@ -30,7 +30,7 @@ pub(crate) fn entries_of(alloc: Global, offers: &[Offer]) -> Result<Contexts, No
 }
 
 /// Whether a called end accepts a proposal: its own syntaxes in the basic encoding rules.
-fn is_accepted(offer: &Offer) -> bool
+pub(crate) fn is_accepted(offer: &Offer) -> bool
     ensures { result ≡ accepted_now offer.now }
 {
     offer.ber && is_ours(&offer.syntax)
@@ -67,7 +67,11 @@ fn chosen(alloc: Global, proposed: &[ContextEntry], results: &[bool]) -> Result<
     Ok(made)
 }
 
-fn offers_in(alloc: Global, read: &Result<Primitive, UpperError>) -> Result<Offers, NoMemory>
+/// The contexts that user data propose, as they were read.
+pub(crate) fn offers_in(
+    alloc: Global,
+    read: &Result<Primitive, UpperError>,
+) -> Result<Offers, NoMemory>
     ensures { IfOk result (λ made. made ≡ offers_read read.now) }
 {
     match read {

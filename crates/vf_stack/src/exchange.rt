@@ -45,7 +45,7 @@ struct Negotiated {
 }
 
 /// Puts a new value in the place of another, where there is one.
-fn put_new<T: Drop>(new: Option<T>, place: &mut T)
+pub(crate) fn put_new<T: Drop>(new: Option<T>, place: &mut T)
     ensures { place.new ≡ unwrap_or new place.old }
 {
     let Some(value) = new else {
@@ -361,7 +361,7 @@ impl KeptExchange {
     }
 }
 
-fn read_by(
+pub(crate) fn read_by(
     alloc: Global,
     kind: SpduKind,
     contexts: &Contexts,

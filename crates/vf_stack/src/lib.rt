@@ -9,9 +9,12 @@ mod exchange;
 mod fault;
 mod indication;
 mod laws;
+mod placing;
 mod request;
 mod stack;
 mod told;
+mod unit;
+mod writing;
 
 pub use ending::Ending;
 pub use indication::{FaultName, Indication, Item, Layer};

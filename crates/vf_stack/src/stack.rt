@@ -1,23 +1,27 @@
-//! One end of an association: what it receives, and what may be fed to it.
-ghost use Rattle.std.specs.Prelude.{◌≡◌, ◌+◌, ◌++◌, ◌≤◌, [], IfOk, List, OnErr, OnOk, length, ℕ};
+//! One end of an association: what it receives, and what it sends.
+ghost use Rattle.std.specs.Prelude.{◌≡◌, ◌+◌, ◌++◌, ◌≤◌, [], IfOk, IsTrue, List, OnErr, OnOk, length, ℕ};
 ghost use Rattle.vf_stack.specs.Association.{Association, beginning, is_ended as is_over};
 ghost use Rattle.vf_stack.specs.Pieces.{TellOnce};
 ghost use Rattle.vf_stack.specs.Receiving.{octets_received, piece_received};
 ghost use Rattle.vf_stack.specs.Represents.{Feeds, Listens, Represents, offer_of, side_of};
+ghost use Rattle.vf_stack.specs.Sending.{tsdu_of};
+ghost use Rattle.vf_stack.specs.Sends.{IsPermitted, IsSame, MaySend, Sends};
 ghost use Rattle.vf_session.specs.Sending.{holds_token};
 ghost use Rattle.vf_session.specs.Trace.{next, state as state_of};
 ghost use Rattle.vf_session.specs.declared.units.TokenSide.TheVariants as sides;
 ghost use Rattle.vf_tpkt.specs.Receiving.{onward};
+ghost use Rattle.vf_tpkt.specs.Sending.{most_of, sent as packets, stands as stands_now};
 ghost use Rattle.vf_tpkt.specs.Tpdu.{packet, request};
 ghost use Rattle.vf_tpkt.specs.Wanting.{lacking};
 ghost use Rattle.vf_tpkt.specs.declared.limits.TheConstants.{MOST_PACKET_OCTETS};
 
 use crate::exchange::KeptExchange;
-use crate::{Ending, Indication};
+use crate::unit::has_token;
+use crate::{Ending, Indication, Request};
 use std::alloc::Global;
 use std::marker::Model;
 use vf_base::{MOST_VALUE_OCTETS, NoMemory};
-use vf_session::{Session, SessionState, TokenSide};
+use vf_session::{Session, SessionSay};
 use vf_tpkt::{Tpkt, TpktError, Unit};
 use vf_upper::{Contexts, Offers};
 
@@ -48,17 +52,6 @@ fn begun(alloc: Global, session: Session) -> KeptExchange
         accepted: Contexts::new(alloc),
         ending: Ending::Open,
     }
-}
-
-/// Whether sync is agreed where the connection stands, and this end has the token.
-fn has_token(state: &SessionState, own: TokenSide) -> bool
-    ensures { result ≡ holds_token own state.now }
-{
-    let names_own = match state.token {
-        TokenSide::Initiator => matches!(own, TokenSide::Initiator),
-        TokenSide::Responder => matches!(own, TokenSide::Responder),
-    };
-    state.agreed && names_own
 }
 
 impl Stack {
@@ -144,6 +137,43 @@ impl Stack {
             Err(TpktError::NoMemory) => Err(NoMemory),
             Err(fault) => Ok(Some(fault)),
         }
+    }
+
+    /// Sends a request that may be sent: appends its packets. Without memory nothing is appended, and nothing has changed.
+    pub fn send(
+        &mut self,
+        alloc: Global,
+        request: &Request,
+        out: &mut Vec<u8>,
+    ) -> Result<(), NoMemory>
+        requires { MaySend self.old request.now }
+        // Of every association that the stack represents.
+        ensures sent { (a : Association) → Represents self.old a → OnOk result (Sends (side_of self.old) a request.now out.old.items self.new out.new.items) }
+        ensures end { IsSame self.old.exchange self.new.exchange }
+        ensures err { OnErr result ((self.new ≡ self.old) × (out.new.items ≡ out.old.items)) }
+    {
+        let unit = self.exchange.unit_of(alloc, request)?;
+        let offers = self.exchange.offers_of(alloc, &unit)?;
+        self.put_packets(alloc, &unit, out)?;
+        self.exchange.join_sent(&unit, offers);
+        Ok(())
+    }
+
+    /// Appends the packets of a unit of session.
+    fn put_packets(
+        &self,
+        alloc: Global,
+        unit: &SessionSay,
+        out: &mut Vec<u8>,
+    ) -> Result<(), NoMemory>
+        requires connected { IsTrue (stands_now self.now.transport) }
+        requires permitted { IsPermitted self.now.exchange unit.now }
+        requires fits { length (tsdu_of (side_of self.now) unit.now) ≤ MOST_VALUE_OCTETS }
+        ensures ok { OnOk result (out.new.items ≡ out.old.items ++ packets (most_of self.now.transport.connection.phase) (tsdu_of (side_of self.now) unit.now)) }
+        ensures err { OnErr result (out.new.items ≡ out.old.items) }
+    {
+        let tsdu = self.exchange.tsdu_of(alloc, unit)?;
+        self.transport.wrap(alloc, tsdu.as_slice(), out)
     }
 
     /// How many octets may be fed before something may be told or answered: fed at most so many, `feed` tells one unit's
