@@ -11,3 +11,6 @@ pub mod OnwardLemmas
 pub mod OutcomeLemmas
 pub mod ToldLemmas
 pub mod SendLemmas
+pub mod PduLemmas
+pub mod MayLemmas
+pub mod CountLemmas

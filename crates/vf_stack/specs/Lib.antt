@@ -10,4 +10,5 @@ pub mod Examples
 pub mod Requests
 pub mod Sending
 pub mod Sends
+pub mod Lengths
 pub mod Mutual

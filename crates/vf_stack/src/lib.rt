@@ -9,6 +9,8 @@ mod exchange;
 mod fault;
 mod indication;
 mod laws;
+mod lengths;
+mod may;
 mod placing;
 mod request;
 mod stack;

@@ -8,8 +8,9 @@ ghost use Rattle.vf_stack.specs.Requests.{element_carried, maybe_carried, own_of
 ghost use Rattle.vf_stack.specs.Sends.{IsMaybeInRange};
 ghost use Rattle.vf_upper.specs.Carried.{carried_of};
 ghost use Rattle.vf_upper.specs.Primitives.{syntax_of};
-ghost use Rattle.vf_upper.specs.Written.{accepted, has_syntax, id_of as first_id, or_zero};
+ghost use Rattle.vf_upper.specs.Written.{accepted, acse_id, has_syntax, id_of as first_id, or_zero, suits_in};
 ghost use Rattle.vf_upper_grammar.specs.Syntaxes.{pci};
+ghost use Rattle.vf_upper_grammar.specs.declared.labels.NumberLabel.TheVariants.{AcseContext, AnyContext, PciContext};
 
 use crate::contexts::is_accepted;
 use std::alloc::Global;
@@ -55,7 +56,7 @@ fn id_of(contexts: &[ContextEntry], syntax: &[u32]) -> Option<i64>
 }
 
 /// The context that PDUs stand in: the first one of FTAM PCI, or 0.
-fn pdu_id(contexts: &[ContextEntry]) -> i64
+pub(crate) fn pdu_id(contexts: &[ContextEntry]) -> i64
     ensures { result ≡ or_zero (first_id pci contexts.now) }
 {
     match id_of(contexts, &PCI) {
@@ -78,13 +79,42 @@ fn syntax_of_element(element: &Element) -> &'static [u32]
 }
 
 /// The context that an element stands in: the first one of its own syntax, or else that of the PDUs.
-fn element_id(contexts: &[ContextEntry], element: &Element) -> i64
+pub(crate) fn element_id(contexts: &[ContextEntry], element: &Element) -> i64
     ensures { result ≡ (element_carried contexts.now element.now).context }
 {
     match id_of(contexts, syntax_of_element(element)) {
         Some(id) => id,
         None => pdu_id(contexts),
     }
+}
+
+/// Whether there is a context of ACSE.
+pub(crate) fn has_acse(contexts: &[ContextEntry]) -> bool
+    ensures { result ≡ suits_in (accepted contexts.now) AcseContext (acse_id contexts.now) }
+{
+    match id_of(contexts, &ACSE) {
+        Some(id) => names(contexts, id, &ACSE),
+        None => names(contexts, 0, &ACSE),
+    }
+}
+
+/// Whether there is a context of FTAM PCI.
+pub(crate) fn has_pci(contexts: &[ContextEntry]) -> bool
+    ensures { result ≡ suits_in (accepted contexts.now) PciContext (or_zero (first_id pci contexts.now)) }
+{
+    names(contexts, pdu_id(contexts), &PCI)
+}
+
+/// Whether there is a context with this identifier.
+pub(crate) fn has_context(contexts: &[ContextEntry], id: i64) -> bool
+    ensures { result ≡ suits_in (accepted contexts.now) AnyContext id }
+{
+    for entry in contexts {
+        if entry.id == id {
+            return true;
+        }
+    }
+    false
 }
 
 /// A proposal in the basic encoding rules.

@@ -1,10 +1,10 @@
 //! One end of an association: what it receives, and what it sends.
-ghost use Rattle.std.specs.Prelude.{◌≡◌, ◌+◌, ◌++◌, ◌≤◌, [], IfOk, IsTrue, List, OnErr, OnOk, length, ℕ};
+ghost use Rattle.std.specs.Prelude.{◌≡◌, ◌↔◌, ◌+◌, ◌++◌, ◌≤◌, [], IfOk, IsTrue, List, OnErr, OnOk, length, ℕ};
 ghost use Rattle.vf_stack.specs.Association.{Association, beginning, is_ended as is_over};
 ghost use Rattle.vf_stack.specs.Pieces.{TellOnce};
 ghost use Rattle.vf_stack.specs.Receiving.{octets_received, piece_received};
 ghost use Rattle.vf_stack.specs.Represents.{Feeds, Listens, Represents, offer_of, side_of};
-ghost use Rattle.vf_stack.specs.Sending.{tsdu_of};
+ghost use Rattle.vf_stack.specs.Sending.{May, tsdu_of};
 ghost use Rattle.vf_stack.specs.Sends.{IsPermitted, IsSame, MaySend, Sends};
 ghost use Rattle.vf_session.specs.Sending.{holds_token};
 ghost use Rattle.vf_session.specs.Trace.{next, state as state_of};
@@ -137,6 +137,15 @@ impl Stack {
             Err(TpktError::NoMemory) => Err(NoMemory),
             Err(fault) => Ok(Some(fault)),
         }
+    }
+
+    /// Whether a request may be sent: by what was received and sent, by its PDU and its contexts, and by its length. Of the
+    /// numbers of checks, acknowledgements and restarts it asks too. It takes no memory.
+    pub fn may(&self, request: &Request) -> bool
+        ensures state { IsTrue result ↔ MaySend self.now request.now }
+        ensures association { (a : Association) → Represents self.now a → IsTrue result ↔ May (side_of self.now) (offer_of self.now) a request.now }
+    {
+        self.transport.stands() && self.exchange.may(request)
     }
 
     /// Sends a request that may be sent: appends its packets. Without memory nothing is appended, and nothing has changed.

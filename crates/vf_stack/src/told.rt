@@ -38,7 +38,8 @@ fn put(
 
 // ---- P-DATA
 
-fn goes_in_data(sync: bool, number: u16) -> bool
+/// Whether a PDU of this number goes in P-DATA.
+pub(crate) fn goes_in_data(sync: bool, number: u16) -> bool
     ensures { result ≡ goes sync number }
 {
     6 <= number && (if sync { number <= 36 } else { true })
