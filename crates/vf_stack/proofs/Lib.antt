@@ -14,3 +14,4 @@ pub mod SendLemmas
 pub mod PduLemmas
 pub mod MayLemmas
 pub mod CountLemmas
+pub mod RequestLemmas

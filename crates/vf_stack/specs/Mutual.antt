@@ -11,11 +11,13 @@ use Rattle.vf_stack.specs.Association.{Association, end_of}
 use Rattle.vf_stack.specs.Carriage.{one_told, unit_told}
 use Rattle.vf_stack.specs.Contexts.{standing}
 use Rattle.vf_stack.specs.Receiving.{ending_by, piece_received}
-use Rattle.vf_stack.specs.Sending.{tsdu_of}
+use Rattle.vf_stack.specs.Sending.{May, octets_sent, tsdu_of, unit_sent}
 use Rattle.vf_stack.specs.declared.ending.Ending.TheVariants.{Open}
 use Rattle.vf_stack.specs.declared.indication.Indication.{Indication}
+use Rattle.vf_stack.specs.declared.request.Request.{Request}
 use Rattle.vf_tpkt.specs.Receiving.{Kept}
 use Rattle.vf_tpkt.specs.Sending.{is_open, sent as packets}
+use Rattle.vf_tpkt.specs.Steps.{has_room}
 use Rattle.vf_tpkt.specs.Stream.{reading as stream_reading}
 
 -- the transport connection stands, and no packet or TSDU is begun
@@ -51,3 +53,12 @@ IsReceived own offer far_offer a far most unit indication =
     → TellsAlone (other own) far.exchange.trace unit indication
     → piece_received (other own) far (packets most (tsdu_of own unit))
     ≡ record { indications = indication ∷ []; answers = []; association = with_unit own far (packets most (tsdu_of own unit)) unit }
+
+-- So a request that this end may send while both agree, by the packets that it sends, of a size that class 0 has.
+abbrev pub IsRequestReceived : TokenSide → Bool → Bool → Association → Association → Request → Indication → Type 0
+IsRequestReceived own offer far_offer a far request indication =
+    AreTogether own offer far_offer a far → a.exchange.ending ≡ Open → May own offer a request
+    → IsTrue (has_room (stream_reading (end_of own) a.stream).kept.connection.phase)
+    → TellsAlone (other own) far.exchange.trace (unit_sent own a request) indication
+    → piece_received (other own) far (octets_sent own a request)
+    ≡ record { indications = indication ∷ []; answers = []; association = with_unit own far (octets_sent own a request) (unit_sent own a request) }

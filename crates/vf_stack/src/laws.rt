@@ -1,8 +1,9 @@
 //! Laws of an association, each the contract of a function that does nothing.
 ghost use Rattle.std.specs.Prelude.{ℕ, ◌++◌, ◌≤◌, Bool, List, length};
 ghost use Rattle.vf_session.specs.declared.units.SessionSay.{SessionSay};
-ghost use Rattle.vf_stack.specs.Mutual.{IsReceived};
+ghost use Rattle.vf_stack.specs.Mutual.{IsReceived, IsRequestReceived};
 ghost use Rattle.vf_stack.specs.declared.indication.Indication.{Indication};
+ghost use Rattle.vf_stack.specs.declared.request.Request.{Request};
 ghost use Rattle.vf_session.specs.declared.units.TokenSide.{TokenSide};
 ghost use Rattle.vf_stack.specs.Association.{Association, end_of};
 ghost use Rattle.vf_stack.specs.Pieces.{AreCut, TellOnce, TellsByOctets, TellsInPieces};
@@ -37,4 +38,10 @@ pub fn examples_compute()
 /// tell one indication is received as this indication and nothing else.
 pub fn sent_is_received()
     ensures { (own : TokenSide) (offer far_offer : Bool) (a far : Association) (most : ℕ) (unit : SessionSay) (indication : Indication) → IsReceived own offer far_offer a far most unit indication }
+{}
+
+/// So the packets that `send` appends for a request that `may` permits: the other end, where both agree and nothing is on
+/// its way, receives them as the one indication that the unit's user data tell, and nothing else.
+pub fn requests_are_received()
+    ensures { (own : TokenSide) (offer far_offer : Bool) (a far : Association) (request : Request) (indication : Indication) → IsRequestReceived own offer far_offer a far request indication }
 {}
