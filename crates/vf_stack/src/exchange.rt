@@ -252,22 +252,6 @@ impl KeptExchange {
         }
     }
 
-    fn receive_others(
-        &mut self,
-        alloc: Global,
-        after: u32,
-        spdus: Vec<Spdu>,
-        out: &mut Vec<Indication>,
-    ) -> Result<(), NoMemory>
-        requires { AllByRecursion IsReadable spdus.items }
-        ensures { OnOk result (Receives self.old out.old.items (λ own x. each (spdu_received own after) x spdus.items) self.new out.new.items) }
-    {
-        for spdu in spdus {
-            self.receive_spdu(alloc, after, spdu, out)?;
-        }
-        Ok(())
-    }
-
     /// Receives the SPDUs of a TSDU, of which the second begins at this place.
     fn receive_spdus(
         &mut self,
@@ -279,13 +263,12 @@ impl KeptExchange {
         requires { AllByRecursion IsReadable spdus.items }
         ensures { OnOk result (Receives self.old out.old.items (λ own x. spdus_received own after x spdus.items) self.new out.new.items) }
     {
-        let mut others = spdus;
-        if others.is_empty() {
-            return Ok(());
+        let mut place = 0;
+        for spdu in spdus {
+            self.receive_spdu(alloc, place, spdu, out)?;
+            place = after;
         }
-        let first = others.remove(0);
-        self.receive_spdu(alloc, 0, first, out)?;
-        self.receive_others(alloc, after, others, out)
+        Ok(())
     }
 
     fn receive_tsdu(
