@@ -31,6 +31,7 @@ pub mod OrderedRows
 pub mod Owned
 pub mod Parties
 pub mod Preserved
+pub mod Ranged
 pub mod Recorded
 pub mod Regimes
 pub mod Requests

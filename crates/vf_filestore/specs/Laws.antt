@@ -7,6 +7,8 @@ use Rattle.vf_elements.specs.declared.message.Message.{Message}
 use Rattle.vf_elements.specs.declared.message.Message.TheVariants as messages
 use Rattle.vf_pdu.specs.declared.pdu.Pdu.TheVariants.{EndGroupRequest}
 use Rattle.vf_tables.specs.Changes.{after_all}
+use Rattle.vf_tables.specs.Fitting.{all_fit}
+use Rattle.vf_tables.specs.Snapshot.{is_kept}
 use Rattle.vf_tables.specs.declared.change.Change.{Change}
 use Rattle.vf_tables.specs.declared.tables.Tables.{Tables}
 use Rattle.vf_tables.specs.declared.user.User.{User}
@@ -93,3 +95,16 @@ abbrev pub DropsLead : Type 0
 DropsLead =
     (state : State) (identity : List ℕ) (activity : ℕ) → IsSound state
     → Lead (tables_of state) (delta (tables_of state) (tables_of (dropped identity activity state))) (tables_of (dropped identity activity state))
+
+-- THEY FIT, where a store may keep the tables before and those after.
+abbrev pub DifferencesFit : Type 0
+DifferencesFit =
+    (before after : Tables) → is_kept before ≡ true → is_kept after ≡ true → all_stand before (delta before after) ≡ true
+    → all_fit before (delta before after) ≡ true
+
+-- so those by a message do, but for the end of a group
+abbrev pub MessagesFit : Type 0
+MessagesFit =
+    (state : State) (link : ℕ) (setting : Setting) (message : Message) → IsSound state → (message ≡ messages.Pdu EndGroupRequest → ⊥)
+    → is_kept (tables_of state) ≡ true → is_kept (tables_of (transition state link setting message).state) ≡ true
+    → all_fit (tables_of state) (delta (tables_of state) (tables_of (transition state link setting message).state)) ≡ true

@@ -1,6 +1,6 @@
 //! Laws of the definitions, each the contract of a function that does nothing.
 ghost use Rattle.vf_filestore.specs.Keeping.{BeginsKept, BreaksStayKept, DropsStayKept, FaultsStayKept, KeptIsValid, MessagesStayKept, RunsStayKept, StopsStayKept};
-ghost use Rattle.vf_filestore.specs.Laws.{BeginsSound, BreaksAreSound, BreaksKeep, DifferencesLead, DropsAreSound, DropsLead, FaultsAreSound, FaultsKeep, MakesNoChange, MessagesLead, RunsAreSound, StopsAreSound, StopsBegin, StopsKeep, TransitionsAreSound};
+ghost use Rattle.vf_filestore.specs.Laws.{BeginsSound, BreaksAreSound, BreaksKeep, DifferencesFit, DifferencesLead, DropsAreSound, DropsLead, FaultsAreSound, FaultsKeep, MakesNoChange, MessagesFit, MessagesLead, RunsAreSound, StopsAreSound, StopsBegin, StopsKeep, TransitionsAreSound};
 
 /// A filestore whose files have names of their own and are within their limits begins in a sound state.
 pub fn begins_sound()
@@ -48,6 +48,13 @@ pub fn changes_lead()
     ensures messages { MessagesLead }
     ensures differences { DifferencesLead }
     ensures drops { DropsLead }
+{}
+
+/// Where a store may keep the tables before and those after, what they differ by fits, if what it names stands; so do the
+/// changes by any message but the end of a group.
+pub fn changes_fit()
+    ensures differences { DifferencesFit }
+    ensures messages { MessagesFit }
 {}
 
 /// The tables of a sound state are valid, so that a store may keep them, where what they are made of is kept: its users

@@ -1,0 +1,5 @@
+use Rattle.vf_filestore.proofs.Ranged.{differences_fit, messages_fit}
+use Rattle.vf_filestore.proofs.laws.changes_fit.Goals as goal
+
+pub returns : goal.returns
+returns c = record { differences = differences_fit; messages = messages_fit }
