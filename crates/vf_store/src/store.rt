@@ -1,6 +1,7 @@
-ghost use Rattle.std.specs.Prelude.{◌≡◌, ℕ, List, Some, IfOk, OnOk, is_err};
+ghost use Rattle.std.specs.Prelude.{◌≡◌, ◌<◌, ℕ, List, Some, IfOk, OnOk, is_err, option_copied};
 ghost use Rattle.vf_disk.specs.Calls.{MakesChanges};
 ghost use Rattle.vf_disk.specs.Disk.{LeavesOnly, LeavesShown};
+ghost use Rattle.vf_disk.specs.Plans.{sooner};
 ghost use Rattle.vf_disk.specs.Steps.{MakesSteps};
 ghost use Rattle.vf_journal.specs.Answers.{FaultAlone, OpenCauses, is_fault};
 ghost use Rattle.vf_journal.specs.Image.{records_of};
@@ -12,7 +13,7 @@ ghost use Rattle.vf_store.specs.Commit.{AreFitting, commit_steps, placed};
 ghost use Rattle.vf_store.specs.Represented.{IsNoneOrNew, Represents, RepresentsEither, read_from};
 ghost use Rattle.vf_store.specs.StoreState.{IsRepresented, answer_of, disk_of};
 ghost use Rattle.vf_tables.specs.Changes.{after_all};
-ghost use Rattle.vf_tables.specs.Entries.{no_tables};
+ghost use Rattle.vf_tables.specs.Entries.{docket_of, file_of, no_tables, task_of, user_of};
 ghost use Rattle.vf_tables.specs.declared.tables.Tables.{Tables as TablesMeant};
 
 use crate::StoreError;
@@ -20,9 +21,11 @@ use crate::commit::commit_on;
 use crate::reading::read;
 use std::alloc::Global;
 use std::marker::Model;
-use vf_disk::Disk;
+use vf_attr::File;
+use vf_base::Name;
+use vf_disk::{Disk, MemoryDisk};
 use vf_journal::{Journal, new_holds_none};
-use vf_tables::{Changes, Tables};
+use vf_tables::{Changes, Docket, Tables, Task, User};
 
 /// Tables on a disk. After `DiskFault` it is spent: the disk has to be opened again.
 #[derive(Drop)]
@@ -98,6 +101,34 @@ impl<D: Disk> Store<D> {
         &self.tables
     }
 
+    /// The user of this identity; `None` exactly where there is none.
+    pub fn user(&self, identity: &Name) -> Option<&User>
+        ensures { option_copied result ≡ user_of identity.now self.now.tables }
+    {
+        self.tables.user(identity)
+    }
+
+    /// The file of this name; `None` exactly where there is none.
+    pub fn file(&self, name: &Name) -> Option<&File>
+        ensures { option_copied result ≡ file_of name.now self.now.tables }
+    {
+        self.tables.file(name)
+    }
+
+    /// The docket of this identity and activity; `None` exactly where there is none.
+    pub fn docket(&self, identity: &Name, activity: u32) -> Option<&Docket>
+        ensures { option_copied result ≡ docket_of identity.now activity self.now.tables }
+    {
+        self.tables.docket(identity, activity)
+    }
+
+    /// The task of this activity; `None` exactly where there is none.
+    pub fn task(&self, activity: u32) -> Option<&Task>
+        ensures { option_copied result ≡ task_of activity self.now.tables }
+    {
+        self.tables.task(activity)
+    }
+
     /// Makes all of the changes or none, in one record, after a switch to another area where one is due and possible. A
     /// crash at any moment leaves an image that represents the tables before or after, and after `Ok` those after. This
     /// holds of changes of which each fits the tables before it, where those after all are valid.
@@ -130,5 +161,16 @@ impl<D: Disk> Store<D> {
         ensures { result ≡ self.disk }
     {
         self.disk
+    }
+}
+
+impl Store<MemoryDisk> {
+    /// Lets the `call`-th write or sync of the disk from now, and every call after it, fail, unless a stop that is planned
+    /// already comes sooner.
+    pub fn stop(&mut self, call: u32)
+        requires { 0 < call }
+        ensures { self.new ≡ record self.old { disk = record self.old.disk { plan = record self.old.disk.plan { until_stop = Some (sooner call self.old.disk.plan.until_stop) } } } }
+    {
+        self.disk.stop(call);
     }
 }
