@@ -1,0 +1,9 @@
+mod Lines
+mod BadLines
+mod Blocks
+mod Ordered
+mod Bools
+mod Kept
+mod NewStores
+mod Faults
+mod Empty

@@ -1,0 +1,12 @@
+use Rattle.std.proofs.Common.{◌≡◌, ◌∙◌, ◌∷◌, [], List, ℕ, subst}
+use Rattle.vf_store_commands.specs.Printed.{Prints, no_store_line}
+use Rattle.vf_store_commands.proofs.Faults.{four_more, more_faults}
+use Rattle.vf_store_commands.proofs.error_lines.print_no_store.Goals as goal
+
+pub returns-clause-prints : goal.returns-clause-prints
+returns-clause-prints g c =
+    let old = g.O.Sink.taken c.args.out.now in
+    let new = g.O.Sink.taken c.print.new.out in
+    let text : c.as_bytes.result.now ≡ no_store_line c.args.place = c.as_bytes.ensures.value ∙ c.in-Ok.ensures in
+    more_faults (4 ∷ []) (4 ∷ 9 ∷ []) (record { octets = no_store_line c.args.place; status = 8 }) c.print.result old new (four_more c.print.result)
+    (subst (λ (l : List ℕ). Prints (4 ∷ []) (record { octets = l; status = 8 }) c.print.result old new) text c.print.ensures.prints)

@@ -1,0 +1,19 @@
+use Rattle.std.proofs.Common.{Bool, subst}
+use Rattle.vf_journal.specs.Image.{records_of}
+use Rattle.vf_journal.specs.Looking.{IsSyncedAndLookedAt}
+use Rattle.vf_store.specs.Represented.{read_from}
+use Rattle.vf_store.specs.StoreState.{StoreState}
+use Rattle.vf_tables.specs.Entries.{no_tables}
+use Rattle.vf_store_commands.proofs.Faults.{error_printed, fault_is_five}
+use Rattle.vf_store_commands.proofs.listing.list.Goals as goal
+
+pub returns-in-Err-clause-prints : goal.returns-in-Err-clause-prints
+returns-in-Err-clause-prints g c = λ image shows.
+    error_printed image (read_from (records_of image) no_tables).files c.print_error-status.result (g.O.Sink.taken c.args.out.now) (g.O.Sink.taken c.print_error-status.new.out)
+    c.in-Err.error (c.in-Err.ensures.answers image shows) c.print_error-status.ensures.prints
+
+pub returns-in-Err-clause-looks : goal.returns-in-Err-clause-looks
+returns-in-Err-clause-looks g c =
+    subst (λ (b : Bool). IsSyncedAndLookedAt g.D.Disk.shown g.D.Disk.size g.D.Disk.may_leave g.D.Disk.moment g.D.Disk.left_since g.D.Disk.plan g.D.Disk.state g.D.Disk.lack_count b c.args.disk c.in-Err.disk)
+    (fault_is_five (StoreState g.row.D.Denot) c.in-Err.error c.print_error-status.result (g.O.Sink.taken c.args.out.now) (g.O.Sink.taken c.print_error-status.new.out) c.print_error-status.ensures.prints)
+    c.in-Err.ensures.looks

@@ -1,0 +1,57 @@
+//! The command `list`.
+ghost use Rattle.std.specs.Prelude.{◌≡◌, ℕ, List, [], ◌∷◌, Some, nat_eq};
+ghost use Rattle.vf_base.specs.Faults.{HasRisen};
+ghost use Rattle.vf_disk.specs.Disk.{LeavesOnly};
+ghost use Rattle.vf_journal.specs.Looking.{IsSyncedAndLookedAt};
+ghost use Rattle.vf_store.specs.Represented.{Represents};
+ghost use Rattle.vf_store_commands.specs.Listing.{EndsList, PrintsFiles, PrintsList};
+ghost use Rattle.vf_store_commands.specs.Printed.{IsOneOf};
+ghost use Rattle.vf_tables.specs.declared.tables.Tables.{Tables as TablesMeant};
+
+use crate::error_lines::print_error;
+use crate::file_lines::text_of;
+use crate::printing::print;
+use crate::status::{NO_MEMORY, STORE_LIMIT};
+use std::alloc::Global;
+use vf_attr::File;
+use vf_base::Sink;
+use vf_disk::Disk;
+use vf_store::Store;
+
+/// Lists the files of the store on a disk, a line each, in the order of their names (profile). The disk is synced, and
+/// otherwise only looked at.
+///
+/// The statuses: 0 all was written; 4 the output failed; 5 the disk failed; 8 the disk has no store, which a line tells; 9
+/// memory is wanting.
+pub fn list<D: Disk, O: Sink>(alloc: Global, disk: D, out: &mut O) -> (D, u8)
+    ensures prints { (image : List ℕ) → D.shown disk ≡ Some image → PrintsList image result.1 (O.taken out.old) (O.taken out.new) }
+    ensures ends { EndsList result.1 }
+    ensures any_moment { (tables : TablesMeant) → ((image : List ℕ) → D.may_leave disk image → Represents image tables)
+        → LeavesOnly D.moment D.left_since disk result.0 (λ image. Represents image tables) }
+    ensures looks { IsSyncedAndLookedAt D.shown D.size D.may_leave D.moment D.left_since D.plan D.state D.lack_count (nat_eq result.1 5) disk result.0 }
+    ensures disk_cause { result.1 ≡ 5 → HasRisen (D.fault_count disk) (D.fault_count result.0) }
+    ensures output_cause { result.1 ≡ 4 → HasRisen (O.fault_count out.old) (O.fault_count out.new) }
+{
+    match Store::open(alloc, disk, STORE_LIMIT) {
+        Ok(store) => {
+            let status = print_files(alloc, store.tables().files.as_slice(), out);
+            (store.close(), status)
+        }
+        Err((disk, error)) => {
+            let status = print_error(alloc, error, out);
+            (disk, status)
+        }
+    }
+}
+
+/// Writes the lines of files.
+fn print_files<O: Sink>(alloc: Global, files: &[File], out: &mut O) -> u8
+    ensures prints { PrintsFiles files.now result (O.taken out.old) (O.taken out.new) }
+    ensures ends { IsOneOf (0 ∷ 4 ∷ 9 ∷ []) result }
+    ensures cause { result ≡ 4 → HasRisen (O.fault_count out.old) (O.fault_count out.new) }
+{
+    let Ok(text) = text_of(alloc, files) else {
+        return NO_MEMORY;
+    };
+    print(out, text.as_slice(), 0)
+}
