@@ -437,10 +437,14 @@ def faulty_rows(rng, made, own, times):
 
 
 def rows():
-    """The lines that stand in the crate: conversations at an end that says nothing."""
+    """The lines that stand in the crate: conversations at an end that says nothing, and whole ones at both."""
     rng = random.Random(8571)
     for text, own, times in OPENINGS:
         yield from faulty_rows(rng, recorded(text), own, times)
+    for text in CONVERSATIONS.values():
+        made = recorded(text)
+        for own in "OI":
+            yield from faulty_rows(rng, made, own, 1)
 
 
 def places(text):

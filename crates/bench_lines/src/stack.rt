@@ -1,7 +1,8 @@
 //! One end of an association over its four lower layers.
 //!
-//! A line such as `called <0300000B06E00000000100 <0400` has an end and pieces of the stream that comes to it, in
-//! hexadecimal digits. The end is `called`, or a calling one that proposes sync (`sync`) or doesn't (`plain`).
+//! A line such as `called <0300000B06E00000000100 >Abort` has an end and steps: `<` takes a piece of the stream, in
+//! hexadecimal digits, and `>` sends a request, by the words of `stack/request.rt`, or is told `no` where it may not be
+//! sent. The end is `called`, or a calling one that proposes sync (`sync`) or doesn't (`plain`).
 //!
 //! The answer has a word for each indication, a colon, the octets that the end has sent, a colon, `open` or `ended`, how
 //! many octets are held and wanted, the next serial number, and `*` where the end has the token. A word of an indication is
@@ -16,7 +17,11 @@ use bench_base::{Fault, octets_in, put, put_digits, text_of};
 use std::alloc::Global;
 use vf_base::{Element, Name};
 use vf_pdu::{Boxed, Pdu, is_in_range, to_value};
-use vf_stack::{FaultName, Indication, Item, Layer, Stack};
+use vf_stack::{FaultName, Indication, Item, Layer, Request, Stack};
+
+mod request;
+
+use request::request_of;
 
 /// One end, the words of what it was told, and what it has sent.
 #[derive(Drop)]
@@ -180,8 +185,21 @@ impl End {
         Ok(())
     }
 
+    /// Sends a request; `no` is told where it may not be sent.
+    fn send(&mut self, alloc: Global, request: &Request) -> Result<(), Fault> {
+        if !self.stack.may(request) {
+            return put(&mut self.told, "no ");
+        }
+        self.stack.send(alloc, request, &mut self.sent)?;
+        Ok(())
+    }
+
     /// A step of a line.
     fn step(&mut self, alloc: Global, step: &str, seed: &mut u64) -> Result<(), Fault> {
+        if let Some(word) = step.strip_prefix('>') {
+            let request = request_of(alloc, word)?;
+            return self.send(alloc, &request);
+        }
         let digits = step.strip_prefix('<').ok_or(Fault::Line)?;
         let octets = octets_in(alloc, digits.as_bytes())?;
         self.feed(alloc, octets.as_slice(), seed)
