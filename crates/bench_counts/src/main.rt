@@ -8,6 +8,7 @@ mod disk;
 mod file;
 mod journal;
 mod locks;
+mod stack;
 mod transport;
 
 use bench_base::{Fault, end};
@@ -19,6 +20,7 @@ fn put_command(rt: &HostRuntime, command: &str, out: &mut Vec<u8>) -> Result<(),
     let (name, rest) = command.split_once(' ').ok_or(Fault::Words)?;
     match name {
         "transport" => transport::put(rt, rest, out),
+        "stack" => stack::put(rt, rest, out),
         "locks" => locks::put(rt.alloc(), rest, out),
         "disk" => disk::put(rt.alloc(), rest, out),
         "journal" => journal::put(rt, rest, out),

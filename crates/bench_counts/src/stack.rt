@@ -1,0 +1,107 @@
+//! One end of an association over its four lower layers.
+//!
+//! `hear COUNT` takes the stream of a calling end from standard input, a CR, a CN and then P-DATA, as the called end that
+//! accepts it, the P-DATA in pieces of COUNT octets. It writes how many data elements came, how many octets their strings
+//! have, and how many octets are held. `hold COUNT` takes the CR and the CN of the same stream, and writes how many octets
+//! of P-DATA follow, so that what `hear` costs beyond it is what hearing these costs.
+use bench_base::{Fault, input, number, put_count};
+use std::alloc::Global;
+use vf_base::Element;
+use vf_pdu::{Boxed, Pdu};
+use vf_stack::{Indication, Item, Request, Stack};
+
+/// The octets of a CR without parameters in its packet.
+const CR: usize = 11;
+
+/// What came.
+#[derive(Clone, Copy)]
+struct Counts {
+    elements: u64,
+    octets: u64,
+}
+
+pub fn put(rt: &HostRuntime, words: &str, out: &mut Vec<u8>) -> Result<(), Fault> {
+    let (way, word) = words.split_once(' ').ok_or(Fault::Words)?;
+    let count = number(Some(word)).ok_or(Fault::Words)? as usize;
+    let stream = input(rt)?;
+    let stream = stream.as_slice();
+    let (begin, data) = stream.split_at(begin_of(stream).min(stream.len()));
+    let mut stack = accepted(rt.alloc(), begin)?;
+    match way {
+        "hold" => put_count(rt.alloc(), data.len(), out),
+        "hear" => put_heard(rt.alloc(), &mut stack, count, data, out),
+        _ => Err(Fault::Words),
+    }
+}
+
+/// How many octets the packets of the CR and the CN have.
+fn begin_of(stream: &[u8]) -> usize {
+    match stream.get(CR..) {
+        Some([_, _, high, low, ..]) => {
+            CR.saturating_add(usize::from(u16::from_be_bytes([*high, *low])))
+        }
+        _ => 0,
+    }
+}
+
+/// A called end that has accepted what these octets ask for.
+fn accepted(alloc: Global, begin: &[u8]) -> Result<Stack, Fault> {
+    let mut stack = Stack::called(alloc)?;
+    let mut told = Vec::new(alloc);
+    let mut sent = Vec::new(alloc);
+    stack.feed(begin, &mut told, &mut sent)?;
+    let pdu = Pdu::InitializeResponse {
+        diagnostic: None,
+        units: 15,
+        window: 1,
+    };
+    let pdu = Boxed::new(alloc, pdu)?;
+    let request = Request::Accept { sync: false, pdu };
+    if !stack.may(&request) {
+        return Err(Fault::Received);
+    }
+    stack.send(alloc, &request, &mut sent)?;
+    Ok(stack)
+}
+
+/// Counts an indication, which must be of a data element.
+fn count(told: &Indication, counts: &mut Counts) -> Result<(), Fault> {
+    let Indication::Item(Item::Element(element)) = told else {
+        return Err(Fault::Received);
+    };
+    let len = match element {
+        Element::Text { octets, .. } | Element::Binary { octets } => octets.len(),
+        _ => 0,
+    };
+    counts.elements = counts.elements.saturating_add(1);
+    counts.octets = counts.octets.saturating_add(len as u64);
+    Ok(())
+}
+
+/// Appends what an end hears of octets that come in pieces of so many.
+fn put_heard(
+    alloc: Global,
+    stack: &mut Stack,
+    size: usize,
+    octets: &[u8],
+    out: &mut Vec<u8>,
+) -> Result<(), Fault> {
+    let mut counts = Counts {
+        elements: 0,
+        octets: 0,
+    };
+    let mut told = Vec::new(alloc);
+    let mut sent = Vec::new(alloc);
+    for piece in octets.chunks(size.max(1)) {
+        stack.feed(piece, &mut told, &mut sent)?;
+        for indication in &told {
+            count(indication, &mut counts)?;
+        }
+        told.clear();
+    }
+    let Counts { elements, octets } = counts;
+    let held = stack.held();
+    let line = format!(in alloc; "elements {elements} octets {octets} held {held}\n")?;
+    out.extend_from_slice(line.as_bytes())?;
+    Ok(())
+}
