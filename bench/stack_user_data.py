@@ -237,28 +237,23 @@ class Walk:
         return self.built(lambda part: self.exactly(part, (tag, take)))
 
     def number(self, found=None, among=None):
-        def judge(part):
-            if part.built:
-                wrong(part.place)
-            if part.inside is not None:
-                number = pdus.integer_of(part.value())
-                if number is None or (among is not None and number not in among):
-                    wrong(part.place)
-                if found:
-                    found(part, number)
-
-        return judge
+        return self.primitive(pdus.integer_of, found, lambda number: among is None or number in among)
 
     def identifier(self, found=None, only=None):
+        return self.primitive(pdus.arcs_of, found, lambda arcs: only is None or arcs == only)
+
+    def primitive(self, read, found, suits):
+        """A primitive part whose octets are read as a value that suits; what is found is told."""
+
         def judge(part):
             if part.built:
                 wrong(part.place)
             if part.inside is not None:
-                arcs = pdus.arcs_of(part.value())
-                if arcs is None or (only is not None and arcs != only):
+                value = read(part.value())
+                if value is None or not suits(value):
                     wrong(part.place)
                 if found:
-                    found(part, arcs)
+                    found(part, value)
 
         return judge
 
