@@ -54,6 +54,11 @@ CONVERSATIONS = {
         I>Restarted1:BF2800 {CLOSED}""",
     "crossed": f"""{BEGIN[True]} I~Release:A200 O~Item:A700 O~Restart1:BF2700 O~Item:A700 O< I< I>Restarted1:BF2800
         O~Release:A200 I~Release:A200 O< I<""",
+    "unaccepted": f"""I>Abort:A403800107 I>Associate+:{CHECKED} I>Abort:A403800107 O>Abort:A503800165 O>Accept+:{TAKES_CHECKED}
+        O>Abort:A503800165""",
+    "kinds": f"""{BEGIN[True]} {MADE} I>Item:BF2103800102 I>Check1 I>Restart2:BF2703800101 O>Cancelled:BF2600
+        O>Restarted2:BF2803800101 I>Check2 O>Cancel:BF2500 I>Restarted3:BF2800 I>Cancelled:BF2600 I>Cancel:BF2500
+        O>Restarted3:BF2800 O>Cancelled:BF2600 {CLOSED}""",
 }
 
 # Conversations in which one end says nothing, that end, and how often each fault is in the rows of the crate.

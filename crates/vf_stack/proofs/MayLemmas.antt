@@ -25,7 +25,7 @@ use Rattle.vf_stack.specs.Contexts.{Standing}
 use Rattle.vf_stack.specs.Lengths.{Counts, CountsData, fits_by}
 use Rattle.vf_stack.specs.Association.{Association}
 use Rattle.vf_stack.specs.Represents.{IsInSession, Kept, Represents, offer_of, side_of, standing_of}
-use Rattle.vf_stack.specs.Sending.{IsCarried, IsSendable, May, is_abort, permits, tsdu_of, unit_sent}
+use Rattle.vf_stack.specs.Sending.{IsCarried, IsSendable, May, is_abort, permits, suits, tsdu_of, unit_sent}
 use Rattle.vf_stack.specs.Sends.{IsPermitted, unit_kept}
 use Rattle.vf_stack.specs.declared.ending.Ending.{Ending}
 use Rattle.vf_stack.specs.declared.ending.Ending.TheVariants.{Open, Closed, Broken, Refused, Partly}
@@ -279,11 +279,11 @@ may-associated kept a request test rep connected may =
 both-true : (a b : Bool) → a ≡ true → b ≡ true → (a && b) ≡ true
 both-true a b e f = cc
 
-pub may-counts : (kept : KeptExchange) (request : Request) (count : ℕ) (p : SayParameters) (permitted fit : Bool) → IsCarried (standing_of kept) request → CountsData kept request (Some count) → p ≡ parameters (unit_kept kept request)
+pub may-counts : (kept : KeptExchange) (request : Request) (count : ℕ) (p : SayParameters) (permitted fit : Bool) → suits kept.state request ≡ true → IsCarried (standing_of kept) request → CountsData kept request (Some count) → p ≡ parameters (unit_kept kept request)
     → ((octets : List ℕ) → Counts p count (length octets) → permitted ≡ permits kept.session.side kept.session.offer kept.session.state (with_data p octets) kept.ending) → fit ≡ fits_by p count
     → (IsTrue (permitted && fit) → IsPermitted kept (unit_kept kept request) × IsSendable kept.session.side (standing_of kept) request)
     × (IsPermitted kept (unit_kept kept request) × IsSendable kept.session.side (standing_of kept) request → IsTrue (permitted && fit))
-may-counts kept request count p permitted fit carried counts same asked fits_is =
+may-counts kept request count p permitted fit suited carried counts same asked fits_is =
     let own = kept.session.side in
     let unit = unit_kept kept request in
     let C : SayParameters → Type 0 = λ q. Counts q count (length (user_data unit)) in
@@ -297,6 +297,7 @@ may-counts kept request count p permitted fit carried counts same asked fits_is 
           let may = sym is-permitted ∙ both.0 in (
             may,
             record {
+              suited = suited;
               carried = carried;
               is_written = counts.0;
               fits = tsdu-fits own unit count (λ among. permitted-fits own kept.session.offer kept.session.state unit kept.ending may) counts.1 (sym is-fit ∙ both.1);

@@ -6,9 +6,14 @@ use Rattle.vf_elements.specs.ElementValue.{IsWritable as IsElement}
 use Rattle.vf_pdu.specs.PduMeaning.{IsInRange}
 use Rattle.vf_pdu.specs.PduNumbers.{number_of}
 use Rattle.vf_pdu.specs.declared.pdu.Pdu.{Pdu}
+use Rattle.vf_session.specs.Receiving.{is_leaving, is_left, is_open}
 use Rattle.vf_session.specs.Sending.{fits, may as session_may, spdus}
 use Rattle.vf_session.specs.Trace.{state as state_of, with_sent}
+use Rattle.vf_session.specs.declared.phase.Phase.{Phase}
+use Rattle.vf_session.specs.declared.resync.PendingResync.{PendingResync}
 use Rattle.vf_session.specs.declared.state.SessionState.{SessionState}
+use Rattle.vf_session.specs.declared.units.ResyncKind.{ResyncKind}
+use Rattle.vf_session.specs.declared.units.ResyncKind.TheVariants as kinds
 use Rattle.vf_session.specs.declared.units.SessionSay.{SessionSay}
 use Rattle.vf_session.specs.declared.units.SessionSay.TheVariants as say
 use Rattle.vf_session.specs.declared.units.TokenSide.{TokenSide}
@@ -81,12 +86,44 @@ IsCarried s (Cancelled pdu) = IsDue (nat_eq (number_of pdu) 38) pdu
 IsCarried s (Abort pdu) = IsMaybe (λ pdu. nat_eq (number_of pdu) 4 || nat_eq (number_of pdu) 5) pdu
 IsCarried s request = Unit {0}
 
+-- the association was accepted, and isn't over
+abbrev pub is_associated : Phase → Bool
+is_associated phase = is_open phase || is_leaving phase || is_left phase
+
+abbrev pub is_kind : ResyncKind → ResyncKind → Bool
+is_kind kinds.Restart kinds.Restart = true
+is_kind kinds.Abandon kinds.Abandon = true
+is_kind a b = false
+
+-- a resynchronization of this kind waits for its answer
+abbrev pub waits : ResyncKind → Option PendingResync → Bool
+waits kind None = false
+waits kind (Some r) = is_kind kind r.kind
+
+-- The response to F-CANCEL answers an abandon; where sync isn't agreed it is data.
+abbrev pub cancelled_suits : SessionState → Bool
+cancelled_suits s = if s.agreed then waits kinds.Abandon s.resync else true
+
+-- An abort has a PDU once the association is accepted, and before that none (profile).
+abbrev pub abort_suits : Phase → Option Pdu → Bool
+abort_suits phase None = true
+abort_suits phase (Some pdu) = is_associated phase
+
+-- What is asked of the connection by the request, beside what session asks by its unit: an RA has the response to F-RESTART
+-- where a restart waits for it, and the response to F-CANCEL where an abandon does.
+abbrev pub suits : SessionState → Request → Bool
+suits s (Restarted serial pdu) = waits kinds.Restart s.resync
+suits s (Cancelled pdu) = cancelled_suits s
+suits s (Abort pdu) = abort_suits s.phase pdu
+suits s request = true
+
 -- its user data are within the limits, and in contexts that are accepted
 abbrev pub IsWritten : List ContextEntry → Option Primitive → Type 0
 IsWritten contexts None = Unit {0}
 IsWritten contexts (Some primitive) = IsWritable primitive contexts
 
 pub record IsSendable (own : TokenSide) (s : Standing) (request : Request) : Type 0 where
+  pub suited : IsTrue (suits s.state request)
   pub carried : IsCarried s request
   pub is_written : IsWritten (contexts_of s request) (primitive_of s request)
   pub fits : length (tsdu_of own (unit_of own s request)) ≤ MOST_VALUE_OCTETS

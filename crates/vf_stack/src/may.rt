@@ -7,7 +7,7 @@ ghost use Rattle.vf_session.specs.Units.{with_data};
 ghost use Rattle.vf_stack.specs.Lengths.{Counts, CountsData, fits_by, needs_length as length_matters, placed};
 ghost use Rattle.vf_stack.specs.Represents.{standing_of};
 ghost use Rattle.vf_stack.specs.Requests.{element_carried, pdu_carried, results_of};
-ghost use Rattle.vf_stack.specs.Sending.{IsCarried, IsDue, IsItem, IsMaybe, IsSendable, permits as permits_by};
+ghost use Rattle.vf_stack.specs.Sending.{IsCarried, IsDue, IsItem, IsMaybe, IsSendable, abort_suits, cancelled_suits, is_associated as associated, is_kind as kinds_agree, permits as permits_by, suits as suits_by, waits as waits_by};
 ghost use Rattle.vf_stack.specs.Sends.{IsPermitted, unit_kept};
 ghost use Rattle.vf_upper.specs.Written.{accepted, acse_id, id_of, or_zero, suits_in};
 ghost use Rattle.vf_upper.specs.Laws.{Measures};
@@ -22,8 +22,79 @@ use crate::told::goes_in_data;
 use crate::{Ending, Item, Request};
 use vf_base::{Element, MOST_VALUE_OCTETS};
 use vf_pdu::{Boxed, Pdu, is_in_range};
-use vf_session::SayParameters;
+use vf_session::{PendingResync, Phase, ResyncKind, SayParameters, SessionState};
 use vf_upper::{ContextEntry, Offer, acceptance_length, data_length, refusal_length};
+
+// ---- where the connection stands
+
+/// Whether the association was accepted, and isn't over.
+fn is_associated(phase: Phase) -> bool
+    ensures { result ≡ associated phase }
+{
+    matches!(phase, Phase::Open | Phase::Leaving | Phase::Left)
+}
+
+fn is_kind(a: ResyncKind, b: ResyncKind) -> bool
+    ensures { result ≡ kinds_agree a b }
+{
+    match a {
+        ResyncKind::Restart => matches!(b, ResyncKind::Restart),
+        ResyncKind::Abandon => matches!(b, ResyncKind::Abandon),
+    }
+}
+
+/// Whether a resynchronization of this kind waits for its answer.
+fn waits(kind: ResyncKind, resync: Option<PendingResync>) -> bool
+    ensures { result ≡ waits_by kind resync }
+{
+    match resync {
+        Some(resync) => is_kind(kind, resync.kind),
+        None => false,
+    }
+}
+
+/// Whether the answer to F-CANCEL suits where the connection stands: without sync it is data.
+fn suits_cancelled(state: SessionState) -> bool
+    ensures { result ≡ cancelled_suits state }
+{
+    if state.agreed {
+        waits(ResyncKind::Abandon, state.resync)
+    } else {
+        true
+    }
+}
+
+/// Whether an abort suits it: it has a PDU once the association is accepted.
+fn suits_abort(phase: Phase, pdu: &Option<Boxed<Pdu>>) -> bool
+    ensures { result ≡ abort_suits phase pdu.now }
+{
+    match pdu {
+        Some(_) => is_associated(phase),
+        None => true,
+    }
+}
+
+/// Whether a request suits it, beside what session asks.
+fn suits(state: SessionState, request: &Request) -> bool
+    ensures { result ≡ suits_by state request.now }
+{
+    match request {
+        Request::Restarted { .. } => waits(ResyncKind::Restart, state.resync),
+        Request::Cancelled { .. } => suits_cancelled(state),
+        Request::Abort { pdu } => suits_abort(state.phase, pdu),
+        Request::Associate { .. } => true,
+        Request::Accept { .. } => true,
+        Request::Refuse { .. } => true,
+        Request::Release { .. } => true,
+        Request::Released { .. } => true,
+        Request::Item(_) => true,
+        Request::Check { .. } => true,
+        Request::Acknowledge { .. } => true,
+        Request::Restart { .. } => true,
+        Request::Cancel { .. } => true,
+        Request::Pass => true,
+    }
+}
 
 // ---- the PDU or element of a request
 
@@ -295,6 +366,7 @@ impl KeptExchange {
 
     /// Whether a request may be sent whose user data can be written and have so many octets.
     fn is_within(&self, request: &Request, octets: u32) -> bool
+        requires suited { IsTrue (suits_by self.now.state request.now) }
         requires carried { IsCarried (standing_of self.now) request.now }
         requires counted { CountsData self.now request.now (Some octets) }
         ensures { IsTrue result ↔ (IsPermitted self.now (unit_kept self.now request.now) × IsSendable self.now.session.side (standing_of self.now) request.now) }
@@ -309,6 +381,9 @@ impl KeptExchange {
     pub(crate) fn may(&self, request: &Request) -> bool
         ensures { IsTrue result ↔ (IsPermitted self.now (unit_kept self.now request.now) × IsSendable self.now.session.side (standing_of self.now) request.now) }
     {
+        if !suits(self.state, request) {
+            return false;
+        }
         if !self.is_carried(request) {
             return false;
         }

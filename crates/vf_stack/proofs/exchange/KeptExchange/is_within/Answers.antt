@@ -15,7 +15,7 @@ returns-then-permitted c =
     (IsTrue (test && fit) → IsPermitted kept (unit_kept kept request) × IsSendable kept.session.side (standing_of kept) request)
     × (IsPermitted kept (unit_kept kept request) × IsSendable kept.session.side (standing_of kept) request → IsTrue (test && fit)) in
     subst P c.if-permitted.true
-    (may-counts kept request c.args.octets c.parameters_of-parameters.result c.permits-permitted.result fit c.requires.carried c.requires.counted c.parameters_of-parameters.ensures c.permits-permitted.ensures c.fits-fit.ensures)
+    (may-counts kept request c.args.octets c.parameters_of-parameters.result c.permits-permitted.result fit c.requires.suited c.requires.carried c.requires.counted c.parameters_of-parameters.ensures c.permits-permitted.ensures c.fits-fit.ensures)
 
 pub returns-else-permitted : goal.returns-else-permitted
 returns-else-permitted c =
@@ -29,5 +29,5 @@ returns-else-permitted c =
     (IsTrue test → IsPermitted kept (unit_kept kept request) × IsSendable kept.session.side (standing_of kept) request)
     × (IsPermitted kept (unit_kept kept request) × IsSendable kept.session.side (standing_of kept) request → IsTrue test) in
     let none : Q false = subst P c.if-permitted.false
-    (may-counts kept request c.args.octets c.parameters_of-parameters.result c.permits-permitted.result fit c.requires.carried c.requires.counted c.parameters_of-parameters.ensures c.permits-permitted.ensures c.fits-fit.ensures) in
+    (may-counts kept request c.args.octets c.parameters_of-parameters.result c.permits-permitted.result fit c.requires.suited c.requires.carried c.requires.counted c.parameters_of-parameters.ensures c.permits-permitted.ensures c.fits-fit.ensures) in
     subst Q (sym c.if-permitted.false) none
