@@ -1,7 +1,16 @@
-//! Tests of public calls of the stack: what octets tell and what answers them, at both ends.
+//! Tests of public calls of the stack: what octets tell and what answers them, what is sent, and what two ends tell each
+//! other.
 #![tactic(auto)]
 
+#[cfg(test)]
+mod end;
+#[cfg(test)]
+mod exchanged;
 #[cfg(test)]
 mod octets;
 #[cfg(test)]
 mod received;
+#[cfg(test)]
+mod requests;
+#[cfg(test)]
+mod shown;

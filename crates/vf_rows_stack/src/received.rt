@@ -1,11 +1,11 @@
-//! Octets that come to one end, with what they tell and what answers them.
-use crate::octets::{octets_of, show_all};
+//! Octets that come to one end and what it sends, with what they tell and all that is sent.
+use crate::end::End;
+use crate::octets::show_all;
 use std::alloc::Global;
 use std::test::Fail;
-use vf_stack::{Indication, Stack};
 
-/// An end, the octets that come to it, and what they tell. The octets that answer them follow `>`; for the calling end its
-/// CR, which it sends first.
+/// An end, the octets that come to it, and the requests that it sends, each after `>`; then what they tell. All octets that
+/// the end sent follow `>`; for the calling end its CR, which it sends first.
 const ROWS: &str = "
 called 0300000B06E00000000100 = > 0300000B06D00001000100
 called 0300000B06E00000000100 0300000902F0800100 = Fault Session State 0, ended > 0300000B06D00001000100
@@ -22,67 +22,33 @@ called 0300000B06E00000000100 0300005E02F0800D5514020002C14F314EA003800101A247A4
 called 0300000B06E00000000100 0300000C02F0801903110105 = Abort, ended > 0300000B06D00001000100
 calling 0300000B06D00001000100 = > 0300000B06E00000000100
 calling 0300000B06E00000000100 = Fault Transport State 4, ended > 0300000B06E00000000100
+called 0300000B06E00000000100 0300000902F0800100 >Abort >Abort = Fault Session State 0, no, ended > 0300000B06D000010001000300000C02F0801903110105
+called 0300000B06E00000000100 0300005F02F0800D5614020002C150314EA003800101A247A423300F0201010604520100013004060251013010020103060528C27B02013004060251016120301E020101A0196017A107060528C27B0101BE0C280A020103A005A00380010F >Abort:A503800165 >Abort = Associate false 0, no, ended > 0300000B06D000010001000300000C02F0801903110105
+called 0300000B06E00000000100 0300005F02F0800D5614020002C150314EA003800101A247A423300F0201010604520100013004060251013010020103060528C27B02013004060251016120301E020101A0196017A107060528C27B0101BE0C280A020103A005A00380010F >Accept-:A10381010F 0300001902F08001000100610C300A020103A005A603800161 >Item:A705A00380010B = Associate false 0, Item 6 > 0300000B06D000010001000300006202F0800E59050613010016010214020002C14B3149A003800101A242A512300780010081025101300780010081025101612C302A020101A0256123A107060528C27B0101A203020100A305A103020100BE0C280A020103A005A10381010F0300001B02F08001000100610E300C020103A007A705A00380010B
 ";
 
-/// What an indication is, as far as the rows have such.
-fn shown(alloc: Global, indication: &Indication) -> Result<String, Fail> {
-    Ok(match indication {
-        Indication::Associate { sync, pdu } => {
-            format!(in alloc; "Associate {sync} {}", pdu.value().number())?
-        }
-        Indication::Abort { pdu: None } => format!(in alloc; "Abort")?,
-        Indication::Fault { layer, name, at } => format!(in alloc;
-            "Fault {layer:?} {name:?} {at}"
-        )?,
-        _ => format!(in alloc; "another")?,
-    })
-}
-
-/// Appends what is told, as copies of the indications show it.
-fn show_told(alloc: Global, told: &[Indication], text: &mut String) -> Result<(), Fail> {
-    for indication in told {
-        if !text.is_empty() {
-            text.push_str(", ")?;
-        }
-        let copied = indication.copy(alloc)?;
-        text.push_str(shown(alloc, &copied)?.as_str())?;
-    }
-    Ok(())
-}
-
-/// What octets tell an end, which come one by one or together.
-fn told(
-    alloc: Global,
-    stack: &mut Stack,
-    pieces: usize,
-    octets: &[u8],
-    sent: &mut Vec<u8>,
-) -> Result<String, Fail> {
-    let mut text = String::new(alloc);
-    let mut indications = Vec::new(alloc);
-    for piece in octets.chunks(pieces.max(1)) {
-        stack.feed(piece, &mut indications, sent)?;
-    }
-    show_told(alloc, indications.as_slice(), &mut text)?;
-    if stack.ended() {
+/// What an end was told, whether it is ended, and what it has sent.
+fn shown(alloc: Global, end: &End) -> Result<String, Fail> {
+    let mut text = String::from_str(alloc, end.told.as_str())?;
+    if end.stack.ended() {
         text.push_str(if text.is_empty() { "ended" } else { ", ended" })?;
     }
-    if !sent.is_empty() {
+    if !end.sent.is_empty() {
         text.push_str(" > ")?;
-        show_all(alloc, sent.as_slice(), &mut text)?;
+        show_all(alloc, end.sent.as_slice(), &mut text)?;
     }
     Ok(text)
 }
 
-/// The same for the end that a row names.
-fn answer(alloc: Global, end: &str, pieces: usize, octets: &[u8]) -> Result<String, Fail> {
-    let mut sent = Vec::new(alloc);
-    if end == "called" {
-        let mut stack = Stack::called(alloc)?;
-        return told(alloc, &mut stack, pieces, octets, &mut sent);
+/// The same for the end that a row names, after its steps, whose octets come so many at a time.
+fn answer(alloc: Global, name: &str, steps: &str, pieces: usize) -> Result<String, Fail> {
+    let mut end = End::new(alloc, name)?;
+    let mut parts = steps.split('>');
+    end.hear(alloc, parts.next().unwrap_or(""), pieces)?;
+    for part in parts {
+        end.step(alloc, part, pieces)?;
     }
-    let mut stack = Stack::calling(alloc, false, &mut sent)?;
-    told(alloc, &mut stack, pieces, octets, &mut sent)
+    shown(alloc, &end)
 }
 
 #[test]
@@ -90,16 +56,15 @@ fn octets_are_received(rt: HostRuntime) -> Result<(), Fail> {
     let mut count = 0_u32;
     for row in ROWS.lines() {
         if let Some((given, expected)) = row.split_once(" =") {
-            if let Some((end, digits)) = given.split_once(' ') {
-                let octets = octets_of(rt.alloc(), digits)?;
+            if let Some((name, steps)) = given.split_once(' ') {
                 for pieces in [1, 5, 1000] {
-                    let found = answer(rt.alloc(), end, pieces, octets.as_slice())?;
+                    let found = answer(rt.alloc(), name, steps, pieces)?;
                     assert_eq!(rt; found.as_str().trim(), expected.trim(), "{given}");
                 }
                 count = count.saturating_add(1);
             }
         }
     }
-    assert_eq!(rt; count, 15);
+    assert_eq!(rt; count, 18);
     Ok(())
 }

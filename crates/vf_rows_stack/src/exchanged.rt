@@ -1,0 +1,172 @@
+//! Two ends that send each other the messages of a dialogue: what each tells, in whatever pieces the packets come.
+use crate::end::End;
+use std::alloc::Global;
+use std::test::Fail;
+
+/// A write with checks, acknowledgements and a restart: requests of the calling end (`>`) and of the called one (`<`), and
+/// what each tells the other.
+const WRITE: &str = "
+> Associate+:A007800200CF830104 = Associate true 0
+< Accept+:A107810200CF820104 = Accepted true 1
+> Item:AA0F800101810161A207800528C27B0503 = Item 10
+< Item:AB00 = Item 11
+> Item:B206800104830107 = Item 18
+< Item:B309A107800528C27B0503 = Item 19
+> Item:BF2103800102 = Item 33
+> Item:04027631 = String 4 7631
+> Item:04027632 = String 4 7632
+> Check1 = Check 1
+< Acknowledge1 = Acknowledged 1
+> Item:04027633 = String 4 7633
+> Item:04027634 = String 4 7634
+> Check2 = Check 2
+> Item:04027635 = String 4 7635
+> Restart2:BF2703800101 = Restart 2 39
+< Restarted2:BF2803800101 = Restarted 2 40
+> Item:04027733 = String 4 7733
+> Check2 = Check 2
+< Acknowledge2 = Acknowledged 2
+> Item:BF2200 = Item 34
+> Item:BF2300 = Item 35
+< Item:BF2400 = Item 36
+> Item:B400 = Item 20
+< Item:B500 = Item 21
+> Item:A800 = Item 8
+< Item:A900 = Item 9
+> Release:A200 = Release 2
+< Released:A300 = Released 3
+";
+
+/// A file replaced and read, without sync.
+const READ: &str = "
+> Associate-:A00380010F = Associate false 0
+< Accept-:A10381010F = Accepted false 1
+> Item:AA0F810161A207800528C27B0503850105 = Item 10
+< Item:AB00 = Item 11
+> Item:B203800105 = Item 18
+< Item:B309A107800528C27B0503 = Item 19
+> Item:BF2103800102 = Item 33
+> Item:04026869 = String 4 6869
+> Item:BF2200 = Item 34
+> Item:BF2300 = Item 35
+< Item:BF2400 = Item 36
+> Item:BF2000 = Item 32
+< Item:04026869 = String 4 6869
+< Item:BF2200 = Item 34
+> Item:BF2300 = Item 35
+< Item:BF2400 = Item 36
+> Cancel:BF2500 = Item 37
+< Cancelled:BF2600 = Item 38
+> Item:B400 = Item 20
+< Item:B500 = Item 21
+> Abort:A403800107 = Abort 4
+";
+
+/// The two ends of an association, and how many octets each takes at a time.
+#[derive(Drop)]
+struct Ends {
+    calling: End,
+    called: End,
+    pieces: usize,
+}
+
+/// One end takes what the other has sent.
+fn deliver(alloc: Global, from: &mut End, to: &mut End, pieces: usize) -> Result<(), Fail> {
+    to.take(alloc, from.sent.as_slice(), pieces)?;
+    from.sent.clear();
+    Ok(())
+}
+
+/// One end sends a request, and the other one takes its packets.
+fn tell(
+    alloc: Global,
+    from: &mut End,
+    to: &mut End,
+    request: &str,
+    pieces: usize,
+) -> Result<(), Fail> {
+    from.say(alloc, request)?;
+    deliver(alloc, from, to, pieces)
+}
+
+impl Ends {
+    fn new(alloc: Global, name: &str, pieces: usize) -> Result<Ends, Fail> {
+        let calling = End::new(alloc, name)?;
+        let called = End::new(alloc, "called")?;
+        Ok(Ends {
+            calling,
+            called,
+            pieces,
+        })
+    }
+
+    /// The CR and its CC.
+    fn connect(&mut self, alloc: Global) -> Result<(), Fail> {
+        deliver(alloc, &mut self.calling, &mut self.called, self.pieces)?;
+        deliver(alloc, &mut self.called, &mut self.calling, self.pieces)
+    }
+
+    /// The request of a row.
+    fn take(&mut self, alloc: Global, row: &str) -> Result<(), Fail> {
+        if let Some(request) = row.strip_prefix("> ") {
+            return tell(
+                alloc,
+                &mut self.calling,
+                &mut self.called,
+                request,
+                self.pieces,
+            );
+        }
+        if let Some(request) = row.strip_prefix("< ") {
+            return tell(
+                alloc,
+                &mut self.called,
+                &mut self.calling,
+                request,
+                self.pieces,
+            );
+        }
+        Ok(())
+    }
+
+    /// Appends a row with what it tells both ends.
+    fn put_row(&mut self, alloc: Global, row: &str, text: &mut String) -> Result<(), Fail> {
+        self.take(alloc, row)?;
+        let (calling, called) = (self.calling.told.as_str(), self.called.told.as_str());
+        text.push_str(format!(in alloc; "{row} = {calling}{called}\n")?.as_str())?;
+        self.calling.told.clear();
+        self.called.told.clear();
+        Ok(())
+    }
+}
+
+/// Rows with what they tell the two ends, of which the calling one has this name.
+fn dialogue(alloc: Global, name: &str, rows: &str, pieces: usize) -> Result<String, Fail> {
+    let mut ends = Ends::new(alloc, name, pieces)?;
+    ends.connect(alloc)?;
+    let mut text = String::from_str(alloc, "\n")?;
+    for row in rows.lines() {
+        if let Some((request, _)) = row.split_once(" = ") {
+            ends.put_row(alloc, request, &mut text)?;
+        }
+    }
+    Ok(text)
+}
+
+#[test]
+fn a_write_is_told(rt: HostRuntime) -> Result<(), Fail> {
+    for pieces in [1, 7, 64, 100_000] {
+        let found = dialogue(rt.alloc(), "sync", WRITE, pieces)?;
+        assert_eq!(rt; found.as_str(), WRITE, "{pieces} octets at a time");
+    }
+    Ok(())
+}
+
+#[test]
+fn a_read_is_told(rt: HostRuntime) -> Result<(), Fail> {
+    for pieces in [1, 7, 64, 100_000] {
+        let found = dialogue(rt.alloc(), "plain", READ, pieces)?;
+        assert_eq!(rt; found.as_str(), READ, "{pieces} octets at a time");
+    }
+    Ok(())
+}
