@@ -16,9 +16,11 @@ use Rattle.vf_base.specs.declared.action.Action.TheVariants as actions
 use Rattle.vf_base.specs.declared.action.Actions.{Actions}
 use Rattle.vf_base.specs.declared.contents.Contents.{Contents}
 use Rattle.vf_base.specs.declared.diagnostic.Diagnostic.{Diagnostic}
+use Rattle.vf_elements.specs.Stages.{takes}
 use Rattle.vf_elements.specs.declared.message.Message.{Message}
 use Rattle.vf_elements.specs.declared.message.Message.TheVariants as messages
 use Rattle.vf_elements.specs.declared.message.Said.{Said}
+use Rattle.vf_elements.specs.declared.stage.Stage.TheVariants as stages
 use Rattle.vf_files.specs.Files.{file_named}
 use Rattle.vf_files.specs.Rows.{includes, tree_diagnostic, unit_row}
 use Rattle.vf_files.specs.declared.creation.NewFile.{NewFile}
@@ -50,7 +52,6 @@ use Rattle.vf_filestore.specs.State.{Docket, State, StandingParty, docket_of, id
 use Rattle.vf_filestore.specs.Tables.{operation_of}
 use Rattle.vf_filestore.specs.Transfers.{Movement, Reads, Writes, Transfer, point, survivors, transferring, under_way}
 use Rattle.vf_filestore.specs.Units.{enhanced_management, limited_management, read_unit, write_unit}
-use Rattle.vf_filestore.proofs.Concluded.{IsNoPdu}
 use Rattle.vf_filestore.proofs.Decided.{first_passed, later_passed, rows_passed}
 use Rattle.vf_filestore.proofs.Decisions.{or_none, where_none}
 use Rattle.vf_filestore.proofs.Lists.{all_append}
@@ -254,9 +255,9 @@ silent_due said history serial (Some transfer) silent = by transfer.movement
 
 -- ---- entries
 
-taken_message : (state : State) (party : StandingParty) (setting : Setting) (message : Message) → (IsNoPdu message → first_abort (aborting.aborts party setting message) ≡ None) → IsTakenIn (taken_up state party message) message
+taken_message : (state : State) (party : StandingParty) (setting : Setting) (message : Message) → (takes stages.Grouping message ≡ false → first_abort (aborting.aborts party setting message) ≡ None) → IsTakenIn (taken_up state party message) message
 taken_message state party setting (messages.Element element) spared =
-    where_none (passes_survivors (survivors party.history) element) too_long (or_none (abort_where (passes_survivors (survivors party.history) element) too_long) None (spared tt)).0
+    where_none (passes_survivors (survivors party.history) element) too_long (or_none (abort_where (passes_survivors (survivors party.history) element) too_long) None (spared refl)).0
 taken_message state party setting message spared = tt
 
 entry_with : (state : State) (party : StandingParty) (setting : Setting) (message : Message) (given : Given) → IsGiven message given → IsTakenIn (taken_up state party message) message

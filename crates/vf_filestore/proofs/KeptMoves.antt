@@ -1,40 +1,34 @@
 -- What is kept of the entries of a history, and what it makes of a transfer under way: what it was given, where it stands,
 -- and that what stands of a write is within its limits.
-use Rattle.std.proofs.Common.{◌≡◌, ℕ, zero, suc, ◌+◌, ◌≤◌, Bool, true, false, cond, List, [], ◌∷◌, ◌++◌, length, take, is_some, Option, None, Some, refl, ap, sym, subst, ◌∙◌, arith, append_assoc, length-append}
-use Rattle.std.specs.Prelude.{IfSome, IsSome, flat_map, nat_le, nat_lt, ◌-◌}
-use Rattle.std.specs.List.{AllByRecursion, sum_by}
+use Rattle.std.proofs.Common.{◌≡◌, ℕ, zero, suc, ◌+◌, ◌≤◌, false, List, [], ◌∷◌, ◌++◌, length, take, Option, None, Some, refl, ap, sym, subst, ◌∙◌, arith, append_assoc, length-append}
+use Rattle.std.specs.Prelude.{IfSome, IsSome, nat_le, nat_lt, ◌-◌}
+use Rattle.std.specs.List.{sum_by}
 use Rattle.std.proofs.lemmas.Bool.{or_parts, leb-false, ltb-false}
 use Rattle.std.proofs.lemmas.List.{append-nil}
 use Rattle.std.proofs.lemmas.List.Sums.{sum_by-append, sum_by-cons}
-use Rattle.vf_attr.specs.declared.file.File.{File}
 use Rattle.vf_base.specs.declared.element.Element.{Element}
 use Rattle.vf_elements.specs.declared.message.Message.{Message}
 use Rattle.vf_elements.specs.declared.message.Message.TheVariants as messages
-use Rattle.vf_elements.specs.declared.message.Said.{Said}
-use Rattle.vf_elements.specs.declared.message.Said.TheVariants as answers
 use Rattle.vf_pdu.specs.declared.pdu.Pdu.{Pdu}
-use Rattle.vf_pdu.specs.declared.pdu.Pdu.TheVariants.{RecoverRequest, OpenRequest, LocateRequest, EraseRequest, ReadRequest, WriteRequest, TransferEndRequest, CancelRequest, RestartRequest}
+use Rattle.vf_pdu.specs.declared.pdu.Pdu.TheVariants.{OpenRequest, LocateRequest, EraseRequest, ReadRequest, WriteRequest, TransferEndRequest, CancelRequest}
 use Rattle.vf_tables.specs.Validity.{elements_staged, octets_staged}
 use Rattle.vf_tables.specs.declared.limits.TheConstants.{MOST_SURVIVING_ELEMENTS, MOST_SURVIVING_OCTETS}
 use Rattle.vf_transfer.specs.Transfer as transfer
 use Rattle.vf_transfer.specs.Transfer.{joined, standing}
 use Rattle.vf_tree.specs.FileTree.{octets_of, octets_of_unit}
 use Rattle.vf_filestore.specs.Aborts.{passes_survivors}
-use Rattle.vf_filestore.specs.Dockets.{docket_by, docket_left_by, retained, secured, secures, since_selection}
-use Rattle.vf_filestore.specs.Dockets.{selects as is_selection}
 use Rattle.vf_filestore.specs.History.{Entry, Given, Nothing, Made, Refused, Showed, Placed, Resumed, History, Regime, Selection, placed_by, placing, position, regime, selection}
-use Rattle.vf_filestore.specs.Keeping.{AreKept, IsEarned, IsGiven, IsGivenTo, IsKeptEntry, IsNoElement, IsSilentIn, IsTakenIn, IsUnplaced}
+use Rattle.vf_filestore.specs.Keeping.{AreKept, IsEarned, IsGiven, IsGivenTo, IsKeptEntry, IsSilentIn, IsTakenIn, IsUnplaced}
 use Rattle.vf_filestore.specs.Limits.{most_survivor_octets, most_survivors}
-use Rattle.vf_filestore.specs.Sound.{IsNested, IsPlaced, IsSoundParty}
-use Rattle.vf_filestore.specs.State.{Docket, StandingParty, activity_of}
+use Rattle.vf_filestore.specs.Sound.{IsNested, IsPlaced}
 use Rattle.vf_filestore.specs.Tables.{staged_of}
-use Rattle.vf_filestore.specs.Transfers.{Movement, Reads, Writes, Transfer, happened, point, resumed, transferring, under_way, with_heard, with_said}
-use Rattle.vf_filestore.proofs.Alike.{AreAlike, alike_none}
-use Rattle.vf_filestore.proofs.Lists.{all_append}
+use Rattle.vf_filestore.specs.Transfers.{Movement, Reads, Writes, Transfer, happened, point, survivors, transferring, under_way}
+use Rattle.vf_filestore.proofs.Alike.{AreAlike}
+use Rattle.vf_filestore.proofs.Lasting.{Lasts, each_weaker}
 use Rattle.vf_filestore.proofs.Nested.{placed}
-use Rattle.vf_filestore.proofs.Retained.{alike_since, selected_at}
-use Rattle.vf_filestore.proofs.Soundness.{alike_resumed, moving_happens}
-use Rattle.vf_filestore.proofs.Views.{AtAssociation, Place, in_association, in_selection, in_regime, in_reading, in_shown, in_writing, in_written, in_regime_only, in_selection_only, view}
+use Rattle.vf_filestore.proofs.Soundness.{moving_happens}
+use Rattle.vf_filestore.proofs.Views.{Place, in_association, in_selection, in_regime, in_reading, in_shown, in_writing, in_written, in_regime_only, in_selection_only}
+use Rattle.vf_filestore.proofs.Written.{Goes, IsHeard, IsOfWrite, IsWrittenBy, IsWrittenEntry, all_written}
 
 -- ---- a transfer under way
 
@@ -50,7 +44,7 @@ pub record IsKeptMove (history : History) (transfer : Transfer) : Type 0 where
   pub few_octets : octets_staged (staged_of history (Some transfer)) ≤ MOST_SURVIVING_OCTETS
   pub few_elements : elements_staged (staged_of history (Some transfer)) ≤ MOST_SURVIVING_ELEMENTS
 
--- ---- histories that are alike
+-- ---- an entry after histories that are alike
 
 -- an element comes in a transfer
 element_moves : (element : Element) (selection : Option Selection) (regime : Option Regime) (moving : Option Transfer) → Place (messages.Element element) selection regime moving → IsSome moving
@@ -68,68 +62,12 @@ taken_alike earlier other (messages.Element element) alike at taken =
     ap (λ entries. passes_survivors (transfer.survivors 0 entries) element) (moving_happens earlier other alike moves) ∙ taken
 taken_alike earlier other message alike at taken = tt
 
-kept_alike : (earlier other : History) (entry : Entry) → AreAlike earlier other → IsPlaced earlier entry.message → IsKeptEntry earlier entry → IsKeptEntry other entry
-kept_alike earlier other entry alike at kept = record {
+pub kept_lasts : Lasts IsKeptEntry
+kept_lasts earlier other entry alike counted at kept = record {
   given = kept.given;
   taken = taken_alike earlier other entry.message alike at kept.taken;
   silent = subst (λ (moving : Option Transfer). IfSome (transferring entry.message entry.given moving) (λ (transfer : Transfer). IsSilentIn transfer.movement entry.said)) (sym alike.moves) kept.silent;
 }
-
--- ---- what is retained, and what is taken up again
-
-alike_first : (earlier : History) → AtAssociation (selection earlier) (regime earlier) (under_way earlier) → AreAlike earlier []
-alike_first earlier at = alike_none earlier [] at.no_selection at.no_regime at.no_transfer refl refl refl
-
-kept_since : (history : History) → IsNested history → AreKept history → AreKept (since_selection history)
-kept_since [] nested kept = tt
-kept_since (entry ∷ earlier) nested kept = by (kept_since earlier nested.1 kept.1) (is_selection entry.message) refl
-  where
-    by : AreKept (since_selection earlier) → (b : Bool) → is_selection entry.message ≡ b → AreKept (cond b (entry ∷ []) (entry ∷ since_selection earlier))
-    by rest true is = (kept_alike earlier [] entry (alike_first earlier (selected_at earlier entry.message (view entry.message) is nested.0)) nested.0 kept.0, tt)
-    by rest false is = (kept_alike earlier (since_selection earlier) entry (alike_since earlier nested.1) nested.0 kept.0, rest)
-
-kept_secured : (history : History) → AreKept history → AreKept (secured history)
-kept_secured [] kept = tt
-kept_secured (entry ∷ earlier) kept = by (secures entry.message) (kept_secured earlier kept.1)
-  where
-    by : (b : Bool) → AreKept (secured earlier) → AreKept (cond b (entry ∷ earlier) (secured earlier))
-    by true rest = kept
-    by false rest = rest
-
-nested_secured : (history : History) → IsNested history → IsNested (secured history)
-nested_secured [] nested = tt
-nested_secured (entry ∷ earlier) nested = by (secures entry.message) (nested_secured earlier nested.1)
-  where
-    by : (b : Bool) → IsNested (secured earlier) → IsNested (cond b (entry ∷ earlier) (secured earlier))
-    by true rest = nested
-    by false rest = rest
-
-pub kept_retained : (history : History) → IsNested history → AreKept history → AreKept (retained history)
-kept_retained history nested kept = by (is_some (under_way history))
-  where
-    by : (b : Bool) → AreKept (since_selection (cond b (secured history) history))
-    by true = kept_since (secured history) (nested_secured history nested) (kept_secured history kept)
-    by false = kept_since history nested kept
-
-pub kept_resumed : (docket party : History) → selection party ≡ None → regime party ≡ None → under_way party ≡ None → IsNested docket → AreKept docket → AreKept party → AreKept (docket ++ party)
-kept_resumed [] party s r t nested kept before = before
-kept_resumed (entry ∷ docket) party s r t nested kept before =
-    (kept_alike docket (docket ++ party) entry (alike_resumed docket party s r t) nested.0 kept.0, kept_resumed docket party s r t nested.1 kept.1 before)
-
--- the docket that a party leaves
-pub left_kept : (party : StandingParty) → IsNested party.history → AreKept party.history → AllByRecursion (λ (docket : Docket). AreKept docket.history) (docket_left_by party)
-left_kept party nested kept = by (activity_of party)
-  where
-    by : (activity : Option ℕ) → AllByRecursion (λ (docket : Docket). AreKept docket.history) (docket_by activity party)
-    by None = tt
-    by (Some activity) = (kept_retained party.history nested kept, tt)
-
--- those that all parties leave
-pub all_left_kept : (files : List File) (parties : List StandingParty) → AllByRecursion (IsSoundParty files) parties → AllByRecursion (λ (party : StandingParty). AreKept party.history) parties
-    → AllByRecursion (λ (docket : Docket). AreKept docket.history) (flat_map docket_left_by parties)
-all_left_kept files [] sound kept = tt
-all_left_kept files (party ∷ parties) sound kept =
-    all_append (λ (docket : Docket). AreKept docket.history) (docket_left_by party) (flat_map docket_left_by parties) (left_kept party sound.0.sound.nested kept.0) (all_left_kept files parties sound.1 kept.1)
 
 -- ---- what a transfer was given
 
@@ -252,6 +190,9 @@ pub record IsRoomy (values : List Element) : Type 0 where
   pub octets : octets_of_unit values ≤ most_survivor_octets
   pub elements : length values ≤ most_survivors
 
+abbrev IsRoomyIn : List transfer.Entry → Type 0
+IsRoomyIn entries = IsRoomy (transfer.survivors 0 entries)
+
 joined_append : (pieces : List (List Element)) (piece : List Element) → joined (pieces ++ piece ∷ []) ≡ joined pieces ++ piece
 joined_append [] piece = append-nil piece
 joined_append (first ∷ pieces) piece = ap (λ (rest : List Element). first ++ rest) (joined_append pieces piece) ∙ sym (append_assoc first (joined pieces) piece)
@@ -259,36 +200,13 @@ joined_append (first ∷ pieces) piece = ap (λ (rest : List Element). first ++ 
 check_survives : (entries : List transfer.Entry) → transfer.survivors 0 (transfer.Check ∷ entries) ≡ transfer.survivors 0 entries
 check_survives entries = append-nil (joined ((standing 0 entries).closed ++ (standing 0 entries).after ∷ [])) ∙ joined_append (standing 0 entries).closed (standing 0 entries).after
 
-silent_survives : (said : List Said) (entries : List transfer.Entry) → AllByRecursion IsNoElement said → transfer.survivors 0 (with_said said entries) ≡ transfer.survivors 0 entries
-silent_survives [] entries silent = refl
-silent_survives (answers.Element element ∷ later) entries silent = absurd silent.0
-silent_survives (answers.Check check ∷ later) entries silent = silent_survives later (transfer.Check ∷ entries) silent.1 ∙ check_survives entries
-silent_survives (answers.Acknowledge check ∷ later) entries silent = silent_survives later (transfer.Acknowledgement check ∷ entries) silent.1
-silent_survives (answers.Pdu pdu ∷ later) entries silent = silent_survives later entries silent.1
-silent_survives (answers.Abort number place ∷ later) entries silent = silent_survives later entries silent.1
-
-abbrev IsRoomyIn : List transfer.Entry → Movement → Type 0
-IsRoomyIn entries (Reads fadu context) = Unit {0}
-IsRoomyIn entries (Writes operation fadu) = IsRoomy (transfer.survivors 0 entries)
-
-abbrev HasRoom : List transfer.Entry → Transfer → Type 0
-HasRoom entries one = IsRoomyIn entries one.movement
-
-roomy_as : (entries others : List transfer.Entry) (movement : Movement) → (IsRoomy (transfer.survivors 0 entries) → IsRoomy (transfer.survivors 0 others)) → IsRoomyIn entries movement → IsRoomyIn others movement
-roomy_as entries others (Reads fadu context) onward roomy = tt
-roomy_as entries others (Writes operation fadu) onward roomy = onward roomy
-
-room_as : (entries others : List transfer.Entry) (one : Option Transfer) → (IsRoomy (transfer.survivors 0 entries) → IsRoomy (transfer.survivors 0 others)) → IfSome one (HasRoom entries) → IfSome one (HasRoom others)
-room_as entries others None onward roomy = tt
-room_as entries others (Some one) onward roomy = roomy_as entries others one.movement onward roomy
-
-roomy_restart : (entries : List transfer.Entry) (check : ℕ) → IsRoomy (transfer.survivors 0 entries) → IsRoomy (transfer.survivors 0 (transfer.Restart check ∷ entries))
+roomy_restart : (entries : List transfer.Entry) (check : ℕ) → IsRoomyIn entries → IsRoomyIn (transfer.Restart check ∷ entries)
 roomy_restart entries check roomy = record {
   octets = omega (arith, restart_size octets_of_unit octets_are (check - 0) entries, roomy.octets);
   elements = omega (arith, restart_size (λ values. length values) elements_are (check - 0) entries, roomy.elements);
 }
 
-roomy_value : (entries : List transfer.Entry) (element : Element) → passes_survivors (transfer.survivors 0 entries) element ≡ false → IsRoomy (transfer.survivors 0 (transfer.Value element ∷ entries))
+roomy_value : (entries : List transfer.Entry) (element : Element) → passes_survivors (transfer.survivors 0 entries) element ≡ false → IsRoomyIn (transfer.Value element ∷ entries)
 roomy_value entries element room =
     let values = transfer.survivors 0 entries in
     let parts = or_parts (nat_lt most_survivor_octets (octets_of_unit values + octets_of element)) (nat_le most_survivors (length values)) room in
@@ -302,60 +220,35 @@ roomy_value entries element room =
       elements = omega (arith, elements, length-append values (element ∷ []));
     })
 
-roomy_none : IsRoomy []
-roomy_none = record { octets = omega arith; elements = omega arith }
+-- an element came where there was room for it
+abbrev HasRoomFor : History → Element → Type 0
+HasRoomFor earlier element = passes_survivors (survivors earlier) element ≡ false
 
-resumed_room : (given : Given) (entries : List transfer.Entry) (before : Option Transfer) → IfSome before (HasRoom entries) → IfSome before (HasRoom (resumed given entries))
-resumed_room (Resumed true check) entries before roomy = room_as entries (transfer.Restart check ∷ entries) before (roomy_restart entries check) roomy
-resumed_room (Resumed false check) entries before roomy = roomy
-resumed_room Nothing entries before roomy = roomy
-resumed_room Made entries before roomy = roomy
-resumed_room (Refused version number) entries before roomy = roomy
-resumed_room (Showed version elements at) entries before roomy = roomy
-resumed_room (Placed at) entries before roomy = roomy
+roomy_goes : Goes HasRoomFor IsRoomyIn
+roomy_goes = record {
+  none = record { octets = omega arith; elements = omega arith };
+  takes = λ earlier element room roomy. roomy_value (happened earlier) element room;
+  checks = λ entries roomy. subst (λ (all : List Element). IsRoomy all) (sym (check_survives entries)) roomy;
+  acknowledges = λ entries check roomy. roomy;
+  restarts = roomy_restart;
+}
 
-room_request : (request : Pdu) (given : Given) (entries : List transfer.Entry) (before : Option Transfer) → IfSome before (HasRoom entries)
-    → IfSome (transferring (messages.Pdu request) given before) (HasRoom (with_heard (messages.Pdu request) given entries))
-room_request (ReadRequest fadu context) given entries before roomy = tt
-room_request (WriteRequest operation fadu) given entries before roomy = roomy_none
-room_request TransferEndRequest given entries before roomy = tt
-room_request (CancelRequest diagnostic) given entries before roomy = tt
-room_request (RestartRequest check) given entries before roomy = room_as entries (transfer.Restart check ∷ entries) before (roomy_restart entries check) roomy
-room_request (RecoverRequest activity number check) given entries before roomy = resumed_room given entries before roomy
-room_request request given entries before roomy = roomy
-
-room_message : (earlier : History) (message : Message) (given : Given) → IsTakenIn earlier message → IfSome (under_way earlier) (HasRoom (happened earlier))
-    → IfSome (transferring message given (under_way earlier)) (HasRoom (with_heard message given (happened earlier)))
-room_message earlier (messages.Pdu request) given taken roomy = room_request request given (happened earlier) (under_way earlier) roomy
-room_message earlier (messages.Element element) given taken roomy =
-    room_as (happened earlier) (transfer.Value element ∷ happened earlier) (under_way earlier) (λ roomy. roomy_value (happened earlier) element taken) roomy
-room_message earlier messages.Check given taken roomy =
-    room_as (happened earlier) (transfer.Check ∷ happened earlier) (under_way earlier) (λ roomy. subst (λ (all : List Element). IsRoomy all) (sym (check_survives (happened earlier))) roomy) roomy
-room_message earlier (messages.Acknowledge check) given taken roomy = room_as (happened earlier) (transfer.Acknowledgement check ∷ happened earlier) (under_way earlier) (λ roomy. roomy) roomy
-room_message earlier (messages.Restart check) given taken roomy = room_as (happened earlier) (transfer.Restart check ∷ happened earlier) (under_way earlier) (roomy_restart (happened earlier) check) roomy
-room_message earlier messages.Break given taken roomy = roomy
-
--- what is said after it adds nothing
-room_said : (said : List Said) (entries : List transfer.Entry) (one : Option Transfer) → IfSome one (λ (transfer : Transfer). IsSilentIn transfer.movement said) → IfSome one (HasRoom entries) → IfSome one (HasRoom (with_said said entries))
-room_said said entries None silent roomy = tt
-room_said said entries (Some one) silent roomy = by one.movement silent roomy
+written_entry : (earlier : History) (entry : Entry) → IsKeptEntry earlier entry → IsWrittenEntry HasRoomFor earlier entry
+written_entry earlier entry kept = record { heard = by entry.message kept.taken; silent = kept.silent }
   where
-    by : (movement : Movement) → IsSilentIn movement said → IsRoomyIn entries movement → IsRoomyIn (with_said said entries) movement
-    by (Reads fadu context) silent roomy = tt
-    by (Writes operation fadu) silent roomy = subst (λ (all : List Element). IsRoomy all) (sym (silent_survives said entries silent)) roomy
+    by : (message : Message) → IsTakenIn earlier message → IsHeard HasRoomFor earlier message
+    by (messages.Element element) taken = taken
+    by message taken = tt
 
-all_roomy : (history : History) → AreKept history → IfSome (under_way history) (HasRoom (happened history))
-all_roomy [] kept = tt
-all_roomy (entry ∷ earlier) kept =
-    room_said entry.said (with_heard entry.message entry.given (happened earlier)) (transferring entry.message entry.given (under_way earlier)) kept.0.silent
-    (room_message earlier entry.message entry.given kept.0.taken (all_roomy earlier kept.1))
+all_roomy : (history : History) → AreKept history → IfSome (under_way history) (IsOfWrite IsRoomyIn (happened history))
+all_roomy history kept = all_written HasRoomFor IsRoomyIn roomy_goes history (each_weaker IsKeptEntry (IsWrittenEntry HasRoomFor) history written_entry kept)
 
 -- ---- a transfer under way
 
 pub moving_kept : (history : History) → IsNested history → AreKept history → IfSome (under_way history) (IsKeptMove history)
 moving_kept history nested kept = by (under_way history) (all_earned history kept) (all_stand_there history nested kept) (all_roomy history kept)
   where
-    few : (movement : Movement) (given : Given) → IsRoomyIn (happened history) movement
+    few : (movement : Movement) (given : Given) → IsWrittenBy IsRoomyIn (happened history) movement
         → (octets_staged (staged_of history (Some (record { movement = movement; given = given }))) ≤ MOST_SURVIVING_OCTETS) × (elements_staged (staged_of history (Some (record { movement = movement; given = given }))) ≤ MOST_SURVIVING_ELEMENTS)
     few (Reads fadu context) given roomy = (omega arith, omega arith)
     few (Writes operation fadu) given roomy = (
@@ -363,7 +256,7 @@ moving_kept history nested kept = by (under_way history) (all_earned history kep
       omega (arith, staged_size (λ values. length values) elements_are (point history) (happened history), roomy.elements),
     )
 
-    by : (one : Option Transfer) → IfSome one HasEarned → IfSome one (StandsAt (position history)) → IfSome one (HasRoom (happened history)) → IfSome one (IsKeptMove history)
+    by : (one : Option Transfer) → IfSome one HasEarned → IfSome one (StandsAt (position history)) → IfSome one (IsOfWrite IsRoomyIn (happened history)) → IfSome one (IsKeptMove history)
     by None earned stands roomy = tt
     by (Some one) earned stands roomy =
         let within = few one.movement one.given roomy in

@@ -1,6 +1,7 @@
 -- Changes that are made one after another: what they name stands, and what they lead to.
 use Rattle.std.proofs.Common.{◌≡◌, Bool, true, ◌&&◌, List, [], ◌∷◌, ◌++◌, refl, ap, sym, subst, ◌∙◌}
 use Rattle.std.specs.Prelude.{fold}
+use Rattle.std.specs.List.{list_all}
 use Rattle.std.proofs.lemmas.Bool.{and_parts}
 use Rattle.std.proofs.lemmas.List.Sums.{fold-append}
 use Rattle.vf_tables.specs.Changes.{after, after_all}
@@ -12,6 +13,11 @@ use Rattle.vf_filestore.specs.Laws.{Lead}
 
 pub both : (a b : Bool) → a ≡ true → b ≡ true → (a && b) ≡ true
 both a b first second = λ i. first i && second i
+
+-- a test of all of two lists
+pub all_joined : {A : Type 0} (p : A → Bool) (xs ys : List A) → list_all p xs ≡ true → list_all p ys ≡ true → list_all p (xs ++ ys) ≡ true
+all_joined p [] ys first second = second
+all_joined p (x ∷ xs) ys first second = let parts = and_parts (p x) (list_all p xs) first in both (p x) (list_all p (xs ++ ys)) parts.0 (all_joined p xs ys parts.1 second)
 
 stand_joined : (xs ys : List Change) (from : Tables) → all_stand from xs ≡ true → all_stand (after_all from xs) ys ≡ true → all_stand from (xs ++ ys) ≡ true
 stand_joined [] ys from first second = second

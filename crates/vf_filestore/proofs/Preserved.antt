@@ -1,12 +1,13 @@
 -- What holds of states stays so with every message where it stays so with each that is granted, with breaks, and whatever
 -- stands in traces.
-use Rattle.std.proofs.Common.{◌≡◌, ℕ, Bool, true, false, cond, List, [], ◌∷◌, ◌++◌, Option, None, Some, refl, sym, subst}
+use Rattle.std.proofs.Common.{◌≡◌, ℕ, Bool, true, false, cond, List, [], ◌∷◌, ◌++◌, Option, None, Some, refl, sym, subst, ◌∙◌}
 use Rattle.std.specs.Prelude.{IfSome, count_by, flat_map, nat_le}
 use Rattle.std.specs.List.{AllByRecursion}
 use Rattle.vf_elements.specs.Stages.{takes}
 use Rattle.vf_elements.specs.declared.message.Message.{Message}
 use Rattle.vf_elements.specs.declared.message.Message.TheVariants as messages
 use Rattle.vf_elements.specs.declared.message.Said.{Said}
+use Rattle.vf_elements.specs.declared.stage.Stage.TheVariants as stages
 use Rattle.vf_pdu.specs.declared.pdu.Pdu.{Pdu}
 use Rattle.vf_pdu.specs.declared.pdu.Pdu.TheVariants.{BeginGroupRequest, EndGroupRequest}
 use Rattle.vf_filestore.specs.Aborts as aborting
@@ -21,7 +22,7 @@ use Rattle.vf_filestore.specs.Stage.{Group, grouping, pending, regime_stage}
 use Rattle.vf_filestore.specs.State.{State, StandingParty, party_of, with_party}
 use Rattle.vf_filestore.specs.Transition.{answered, associates, fault_of, leaves, met, refuses, superseded_by, taking_over, transition, transition_of, fault}
 use Rattle.vf_filestore.proofs.Broken.{broken_sound}
-use Rattle.vf_filestore.proofs.Concluded.{IsGranting, IsNoPdu, after_entry, concluded_is, concluded_sound, granting_request, grants_sound}
+use Rattle.vf_filestore.proofs.Concluded.{IsGranting, after_entry, concluded_is, concluded_sound, granting_request, grants_sound}
 use Rattle.vf_filestore.proofs.Decisions.{broken_same, decided_taken, granting, grouped_as, grouped_items, heard_sound, item_asks, party_sound, passed_alone, put_again, traced, trial_taken}
 use Rattle.vf_filestore.proofs.Lists.{all_append}
 use Rattle.vf_filestore.proofs.Parties.{located}
@@ -29,11 +30,11 @@ use Rattle.vf_filestore.proofs.Same.{with_parties, with_trace}
 use Rattle.vf_filestore.proofs.Transitions.{still_there}
 
 -- what is known of a message that is granted: its stage takes it, its rows grant it, and no abort refuses it where it is
--- no PDU
+-- no item of a group
 pub record IsDue (state : State) (party : StandingParty) (setting : Setting) (message : Message) (given : Given) : Type 0 where
   pub taken : takes (regime_stage party.history) message ≡ true
   pub decided : message_decision state party setting message ≡ Grants given
-  pub spared : IsNoPdu message → first_abort (aborting.aborts party setting message) ≡ None
+  pub spared : takes stages.Grouping message ≡ false → first_abort (aborting.aborts party setting message) ≡ None
 
 -- what stays: with breaks, under any trace of messages that are allowed, and with each one that is granted
 pub record Stays (Allowed : Message → Type 0) (P : State → Type 0) : Type 0 where
@@ -63,12 +64,15 @@ module _ (Allowed : Message → Type 0) where
   grouping_allowed pdu None allowed items = tt
   grouping_allowed pdu (Some group) allowed items = all_append (λ (item : Pdu). Allowed (messages.Pdu item)) group.items (pdu ∷ []) items (allowed, tt)
 
-  pending_allowed : (trace : List Message) → AllByRecursion Allowed trace → IfSome (pending trace) (λ (group : Group). AllByRecursion (λ (item : Pdu). Allowed (messages.Pdu item)) group.items)
+  pub pending_allowed : (trace : List Message) → AllByRecursion Allowed trace → IfSome (pending trace) (λ (group : Group). AllByRecursion (λ (item : Pdu). Allowed (messages.Pdu item)) group.items)
   pending_allowed [] all = tt
   pending_allowed (messages.Pdu pdu ∷ earlier) all = grouping_allowed pdu (pending earlier) all.0 (pending_allowed earlier all.1)
   pending_allowed (_ ∷ earlier) all = pending_allowed earlier all.1
 
 -- ---- every message
+
+no_item : (item : Pdu) → IsItem item → takes stages.Grouping (messages.Pdu item) ≡ false → ⊥
+no_item item is never = let wrong : true ≡ false = sym is ∙ never in cc
 
 module _ (Allowed : Message → Type 0) (P : State → Type 0) (stays : Stays Allowed P) where
   granted_stays : (state : State) (link : ℕ) (party : StandingParty) (setting : Setting) (message : Message) (given : Given) (parties : List StandingParty) (trace : List Message) → IsSound state → P state
@@ -103,7 +107,7 @@ module _ (Allowed : Message → Type 0) (P : State → Type 0) (stays : Stays Al
       keeps (grants state party setting (messages.Pdu item) given).state
       (grants_sound state link party setting (messages.Pdu item) given state.parties party.trace sound found again own.grouped granting)
       (granted_stays state link party setting (messages.Pdu item) given state.parties party.trace sound holds found again own.grouped allowed (stays.traces state link party holds found) granting
-      (record { taken = taken.0; decided = taken.1; spared = λ never. absurd never }))
+      (record { taken = taken.0; decided = taken.1; spared = λ never. absurd (no_item item is_item never) }))
   step_stays later keeps state link party setting item is_item allowed sound holds found (Refuses diagnostic) is = keeps state sound holds
   step_stays later keeps state link party setting item is_item allowed sound holds found (Aborts number) is = keeps state sound holds
   step_stays later keeps state link party setting item is_item allowed sound holds found Waits is = keeps state sound holds
@@ -111,7 +115,7 @@ module _ (Allowed : Message → Type 0) (P : State → Type 0) (stays : Stays Al
   step_stays later keeps state link party setting item is_item allowed sound holds found Ends is = keeps state sound holds
   step_stays later keeps state link party setting item is_item allowed sound holds found Leaves is = keeps state sound holds
 
-  trial_stays : (link : ℕ) (setting : Setting) (items : List Pdu) (state : State) → AllByRecursion IsItem items → AllByRecursion (λ (item : Pdu). Allowed (messages.Pdu item)) items → IsSound state → P state → P (trial link setting items state).state
+  pub trial_stays : (link : ℕ) (setting : Setting) (items : List Pdu) (state : State) → AllByRecursion IsItem items → AllByRecursion (λ (item : Pdu). Allowed (messages.Pdu item)) items → IsSound state → P state → P (trial link setting items state).state
   trial_stays link setting [] state are allowed sound holds = holds
   trial_stays link setting (item ∷ items) state are allowed sound holds =
       by (λ state sound holds. trial_stays link setting items state are.1 allowed.1 sound holds) (party_of link state.parties) refl
@@ -138,7 +142,7 @@ module _ (Allowed : Message → Type 0) (P : State → Type 0) (stays : Stays Al
       by true = gone
       by false = holds
 
-  answered_stays : (state : State) (link : ℕ) (party : StandingParty) (setting : Setting) (message : Message) → Allowed message → IsSound state → P state → party_of link state.parties ≡ Some party
+  pub answered_stays : (state : State) (link : ℕ) (party : StandingParty) (setting : Setting) (message : Message) → Allowed message → IsSound state → P state → party_of link state.parties ≡ Some party
       → P (answered state party setting message).state
   answered_stays state link party setting message allowed sound holds found = by (decision state party setting message) refl
     where

@@ -30,16 +30,16 @@ use Rattle.vf_filestore.proofs.Leading.{both}
 use Rattle.vf_filestore.proofs.Lists.{all-from_flat_map, all_append, all_left, all_map, all_right, all_unmap}
 use Rattle.vf_filestore.proofs.Recorded.{differences_lead}
 
-abbrev IsFine : Change → Type 0
+abbrev pub IsFine : Change → Type 0
 IsFine change = is_in_range change ≡ true
 
-abbrev AreSayable : List Element → Type 0
+abbrev pub AreSayable : List Element → Type 0
 AreSayable piece = list_all is_sayable piece ≡ true
 
-abbrev IsFineFile : File → Type 0
+abbrev pub IsFineFile : File → Type 0
 IsFineFile file = is_in_range (PutFile file) ≡ true
 
-abbrev IsFineDocket : Docket → Type 0
+abbrev pub IsFineDocket : Docket → Type 0
 IsFineDocket docket = is_regime docket.regime ≡ true
 
 all_of : {A : Type 0} (test : A → Bool) (xs : List A) → list_all test xs ≡ true → AllByRecursion (λ x. test x ≡ true) xs
@@ -103,7 +103,7 @@ said : (identity : List ℕ) (activity pieces : ℕ) (staged : List (List Elemen
 said identity activity pieces [] all = tt
 said identity activity pieces (piece ∷ staged) all = ((and_parts (is_activity activity) (list_all is_sayable piece) all.0).1, said identity activity (pieces + 1) staged all.1)
 
-stages_fine : (identity : List ℕ) (activity pieces : ℕ) (staged : List (List Element)) → is_activity activity ≡ true → AllByRecursion AreSayable staged
+pub stages_fine : (identity : List ℕ) (activity pieces : ℕ) (staged : List (List Element)) → is_activity activity ≡ true → AllByRecursion AreSayable staged
     → AllByRecursion IsFine (stages_after identity activity pieces staged)
 stages_fine identity activity pieces [] is all = tt
 stages_fine identity activity pieces (piece ∷ staged) is all = (both (is_activity activity) (list_all is_sayable piece) is all.0, stages_fine identity activity (pieces + 1) staged is all.1)
@@ -128,12 +128,12 @@ all_pieces_fine dockets (docket ∷ later) fine stages =
 
 -- ---- all of it
 
-record AreFine (tables : Tables) : Type 0 where
-  files : AllByRecursion IsFineFile tables.files
-  dockets : AllByRecursion IsFineDocket tables.dockets
-  stages : AllByRecursion (λ (docket : Docket). AllByRecursion IsFine (stages_of docket)) tables.dockets
+pub record AreFine (tables : Tables) : Type 0 where
+  pub files : AllByRecursion IsFineFile tables.files
+  pub dockets : AllByRecursion IsFineDocket tables.dockets
+  pub stages : AllByRecursion (λ (docket : Docket). AllByRecursion IsFine (stages_of docket)) tables.dockets
 
-kept_fine : (tables : Tables) → is_kept tables ≡ true → AreFine tables
+pub kept_fine : (tables : Tables) → is_kept tables ≡ true → AreFine tables
 kept_fine tables kept =
     let users = map (λ (user : User). PutUser user) tables.users in
     let files = map (λ (file : File). PutFile file) tables.files in
@@ -150,13 +150,13 @@ kept_fine tables kept =
       stages = all-from_flat_map stages_of IsFine tables.dockets (all_left IsFine stages tasks from_stages);
     }
 
-delta_fine : (before after : Tables) → AreFine before → AreFine after → AllByRecursion IsFine (delta before after)
+pub delta_fine : (before after : Tables) → AreFine before → AreFine after → AllByRecursion IsFine (delta before after)
 delta_fine before after fine fine_after =
     all_append IsFine (file_changes before.files after.files) (docket_changes before.dockets after.dockets ++ all_piece_changes before.dockets after.dockets) (files_fine before.files after.files fine_after.files)
     (all_append IsFine (docket_changes before.dockets after.dockets) (all_piece_changes before.dockets after.dockets) (dockets_fine before.dockets after.dockets fine.dockets fine_after.dockets)
     (all_pieces_fine before.dockets after.dockets fine_after.dockets fine_after.stages))
 
-all_fitting : (tables : Tables) (changes : List Change) → AllByRecursion IsFine changes → all_stand tables changes ≡ true → all_fit tables changes ≡ true
+pub all_fitting : (tables : Tables) (changes : List Change) → AllByRecursion IsFine changes → all_stand tables changes ≡ true → all_fit tables changes ≡ true
 all_fitting tables [] fine stand = refl
 all_fitting tables (change ∷ changes) fine stand =
     let parts = and_parts (stands_in tables change) (all_stand (after tables change) changes) stand in

@@ -61,7 +61,7 @@ selected_at history message (views.others one facts) is at = let never = facts.s
 
 -- ---- from the last selection on
 
-alike_first : (earlier : History) → AtAssociation (selection earlier) (regime earlier) (under_way earlier) → AreAlike earlier []
+pub alike_first : (earlier : History) → AtAssociation (selection earlier) (regime earlier) (under_way earlier) → AreAlike earlier []
 alike_first earlier at = alike_none earlier [] at.no_selection at.no_regime at.no_transfer refl refl refl
 
 pub alike_since : (history : History) → IsNested history → AreAlike history (since_selection history)

@@ -28,7 +28,7 @@ use Rattle.vf_pdu_fields.specs.declared.controls.ContentControls.{ContentControl
 use Rattle.vf_pdu_fields.specs.declared.operation.WriteOperation.{WriteOperation}
 use Rattle.vf_pdu_fields.specs.declared.operation.WriteOperation.TheVariants.{Insert, Replace, Extend}
 use Rattle.vf_tables.specs.Entries.{is_file}
-use Rattle.vf_tables.specs.Validity.{are_controlled, came_from, comes_to, includes, is_controlled, is_regime_on, is_shown, is_transfer, is_valid_docket, is_written, modes, pieces_of}
+use Rattle.vf_tables.specs.Validity.{are_controlled, came_from, comes_to, includes, is_controlled, is_regime_on, is_shown, is_transfer, is_valid_docket, is_written, pieces_of}
 use Rattle.vf_tables.specs.Validity as valid
 use Rattle.vf_tables.specs.declared.limits.TheConstants.{MOST_SURVIVING_ELEMENTS, MOST_SURVIVING_OCTETS}
 use Rattle.vf_transfer.specs.Transfer.{standing}
@@ -41,7 +41,7 @@ use Rattle.vf_tree.specs.TreeRefusal.{TreeRefusal, BadContext}
 use Rattle.vf_filestore.specs.Controls.{attributes_usable, contents_usable, is_usable, joined}
 use Rattle.vf_filestore.specs.Dockets.{docket_left_by}
 use Rattle.vf_filestore.specs.History.{Given, Nothing, Made, Refused, Showed, Placed, Resumed, History, Regime, Selection, position, regime, selection}
-use Rattle.vf_filestore.specs.Keeping.{AreHistoriesKept, AreKept, AreOpensKept, IsEarned, IsOpenIn, IsOpenOn}
+use Rattle.vf_filestore.specs.Keeping.{AreHistoriesKept, AreKept, AreOpensKept, IsEarned, IsKeptEntry, IsOpenIn, IsOpenOn}
 use Rattle.vf_filestore.specs.Opening.{action_of}
 use Rattle.vf_filestore.specs.Sound.{Holding, IsFaithful, IsInMode, IsMoving, IsShownIn, IsSound, IsSoundDocket, IsThere, IsUsable, file_of, holding_by, holding_of_docket}
 use Rattle.vf_filestore.specs.State.{Docket, State, activity_in}
@@ -49,8 +49,9 @@ use Rattle.vf_filestore.specs.Tables.{operation_of, regime_by, row_in, row_of, s
 use Rattle.vf_filestore.specs.Transfers.{Movement, Reads, Writes, Transfer, happened, point, under_way}
 use Rattle.vf_filestore.proofs.Broken.{stopped_sound}
 use Rattle.vf_filestore.proofs.Kept.{ordered}
-use Rattle.vf_filestore.proofs.KeptMoves.{IsAt, IsKeptMove, all_left_kept, moving_kept}
-use Rattle.vf_filestore.proofs.Leading.{both}
+use Rattle.vf_filestore.proofs.KeptMoves.{IsAt, IsKeptMove, kept_lasts, moving_kept}
+use Rattle.vf_filestore.proofs.Lasting.{each_left_by_all}
+use Rattle.vf_filestore.proofs.Leading.{all_joined, both}
 use Rattle.vf_filestore.proofs.Lists.{all-from_flat_map, all_append, all_both}
 use Rattle.vf_filestore.proofs.OpensKept.{all_left_open}
 use Rattle.vf_filestore.proofs.OrderedRows.{all_ordered}
@@ -294,10 +295,6 @@ docket_valid files docket sound usable kept open_in =
 rows_valid : (files : List File) (dockets : List Docket) → AllByRecursion (λ (docket : Docket). list_all (is_valid_docket files) (row_of docket) ≡ true) dockets → list_all (is_valid_docket files) (flat_map row_of dockets) ≡ true
 rows_valid files [] each = refl
 rows_valid files (docket ∷ dockets) each = all_joined (is_valid_docket files) (row_of docket) (flat_map row_of dockets) each.0 (rows_valid files dockets each.1)
-  where
-    all_joined : {A : Type 0} (p : A → Bool) (xs ys : List A) → list_all p xs ≡ true → list_all p ys ≡ true → list_all p (xs ++ ys) ≡ true
-    all_joined p [] ys first second = second
-    all_joined p (x ∷ xs) ys first second = let parts = and_parts (p x) (list_all p xs) first in both (p x) (list_all p (xs ++ ys)) parts.0 (all_joined p xs ys parts.1 second)
 
 pub dockets_valid : (state : State) → IsSound state → AreHistoriesKept state → AreOpensKept state → list_all (is_valid_docket state.files) (tables_of state).dockets ≡ true
 dockets_valid state sound kept opens =
@@ -305,7 +302,7 @@ dockets_valid state sound kept opens =
     let all = state.dockets ++ flat_map docket_left_by state.parties in
     let usable : AllByRecursion (λ (docket : Docket). AllByRecursion IsUsable (holding_of_docket docket)) all
     = all-from_flat_map holding_of_docket IsUsable all (subst (λ (holdings : List Holding). AllByRecursion IsUsable holdings) (append-nil (flat_map holding_of_docket all)) after.usable) in
-    let histories = all_append (λ (docket : Docket). AreKept docket.history) state.dockets (flat_map docket_left_by state.parties) kept.dockets (all_left_kept state.files state.parties sound.parties kept.parties) in
+    let histories = all_append (λ (docket : Docket). AreKept docket.history) state.dockets (flat_map docket_left_by state.parties) kept.dockets (each_left_by_all IsKeptEntry kept_lasts state.files state.parties sound.parties kept.parties) in
     let known = all_both (IsSoundDocket state.files) (λ (docket : Docket). AllByRecursion IsUsable (holding_of_docket docket))
     (λ (docket : Docket). IsSoundDocket state.files docket × AllByRecursion IsUsable (holding_of_docket docket)) all (λ docket sound usable. (sound, usable)) after.dockets usable in
     let open_in = all_append (λ (docket : Docket). IsOpenIn state.files docket.history) state.dockets (flat_map docket_left_by state.parties) opens.dockets (all_left_open state.files state.parties sound.parties opens.parties) in

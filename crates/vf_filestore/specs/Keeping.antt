@@ -3,6 +3,7 @@ use Rattle.std.specs.Prelude.{◌≡◌, ℕ, ◌≤◌, Bool, true, false, List
 use Rattle.std.specs.List.{AllByRecursion, list_all}
 use Rattle.vf_attr.specs.declared.file.File.{File}
 use Rattle.vf_base.specs.declared.element.Element.{Element}
+use Rattle.vf_base.specs.declared.term.Term.{Term}
 use Rattle.vf_doctype.specs.Checks.{fault as fault_of}
 use Rattle.vf_doctype.specs.DocumentTypes.{doc_type}
 use Rattle.vf_doctype.specs.declared.doc_type.DocType.{DocType}
@@ -82,14 +83,21 @@ pub record IsKeptEntry (earlier : History) (entry : Entry) : Type 0 where
   pub taken : IsTakenIn earlier entry.message
   pub silent : IfSome (transferring entry.message entry.given (under_way earlier)) (λ (transfer : Transfer). IsSilentIn transfer.movement entry.said)
 
+-- what holds of each entry of a history after those before it
+abbrev pub EachAfter : (History → Entry → Type 0) → History → Type 0
+EachAfter Holds [] = Unit {0}
+EachAfter Holds (entry ∷ earlier) = Holds earlier entry × EachAfter Holds earlier
+
 abbrev pub AreKept : History → Type 0
-AreKept [] = Unit {0}
-AreKept (entry ∷ earlier) = IsKeptEntry earlier entry × AreKept earlier
+AreKept = EachAfter IsKeptEntry
 
 -- of every history of a party and of a docket
-pub record AreHistoriesKept (state : State) : Type 0 where
-  pub parties : AllByRecursion (λ (party : StandingParty). AreKept party.history) state.parties
-  pub dockets : AllByRecursion (λ (docket : Docket). AreKept docket.history) state.dockets
+pub record AreHistoriesOf (Holds : History → Entry → Type 0) (state : State) : Type 0 where
+  pub parties : AllByRecursion (λ (party : StandingParty). EachAfter Holds party.history) state.parties
+  pub dockets : AllByRecursion (λ (docket : Docket). EachAfter Holds docket.history) state.dockets
+
+abbrev pub AreHistoriesKept : State → Type 0
+AreHistoriesKept = AreHistoriesOf IsKeptEntry
 
 -- FILES. The mode of an open regime is one of its file's constraint set.
 abbrev pub IsOpenOn : Regime → File → Type 0
@@ -102,19 +110,34 @@ pub record AreOpensKept (state : State) : Type 0 where
   pub parties : AllByRecursion (λ (party : StandingParty). IsOpenIn state.files party.history) state.parties
   pub dockets : AllByRecursion (λ (docket : Docket). IsOpenIn state.files docket.history) state.dockets
 
+-- a test of each string of each unit
+abbrev pub all_strings : (Element → Bool) → List (List Element) → Bool
+all_strings test units = list_all (λ (unit : List Element). list_all test unit) units
+
+-- a file whose terms are such, and each string of which passes a test for its document type
+pub record IsFileOf (Are : List Term → Type 0) (test : DocType → Element → Bool) (file : File) : Type 0 where
+  pub terms : Are file.terms
+  pub strings : IfSome (doc_type file.contents) (λ (doc : DocType). all_strings (test doc) file.tree.units ≡ true)
+
+abbrev pub AreFew : List Term → Type 0
+AreFew terms = length terms ≤ MOST_TERMS
+
+abbrev pub is_taken : DocType → Element → Bool
+is_taken doc element = is_none (fault_of doc element)
+
 -- Each string of a file is such as its document type takes, and its terms are few.
-abbrev pub fits_unit : DocType → List Element → Bool
-fits_unit doc unit = list_all (λ element. is_none (fault_of doc element)) unit
+abbrev pub IsFilled : File → Type 0
+IsFilled = IsFileOf AreFew is_taken
 
-pub record IsFilled (file : File) : Type 0 where
-  pub few : length file.terms ≤ MOST_TERMS
-  pub filled : IfSome (doc_type file.contents) (λ (doc : DocType). list_all (fits_unit doc) file.tree.units ≡ true)
+-- the terms of a message, where it has any
+abbrev pub HasTerms : (List Term → Type 0) → Message → Type 0
+HasTerms Are (messages.Pdu (CreateRequest over name contents permitted terms requested controls password)) = Are terms
+HasTerms Are (messages.Pdu (ChangeAttribRequest name permitted terms others)) = IfSome terms Are
+HasTerms Are message = Unit {0}
 
--- as the terms of each message are that is read
+-- as those of each message are that is read
 abbrev pub HasFewTerms : Message → Type 0
-HasFewTerms (messages.Pdu (CreateRequest over name contents permitted terms requested controls password)) = length terms ≤ MOST_TERMS
-HasFewTerms (messages.Pdu (ChangeAttribRequest name permitted terms others)) = IfSome terms (λ terms. length terms ≤ MOST_TERMS)
-HasFewTerms message = Unit {0}
+HasFewTerms = HasTerms AreFew
 
 pub record AreFilesKept (state : State) : Type 0 where
   pub files : AllByRecursion IsFilled state.files

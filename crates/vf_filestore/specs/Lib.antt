@@ -16,6 +16,7 @@ pub mod Laws
 pub mod Limits
 pub mod Opening
 pub mod Performed
+pub mod Ranges
 pub mod Records
 pub mod Recovering
 pub mod Replies

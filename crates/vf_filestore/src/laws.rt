@@ -1,6 +1,7 @@
 //! Laws of the definitions, each the contract of a function that does nothing.
 ghost use Rattle.vf_filestore.specs.Keeping.{BeginsKept, BreaksStayKept, DropsStayKept, FaultsStayKept, KeptIsValid, MessagesStayKept, RunsStayKept, StopsStayKept};
 ghost use Rattle.vf_filestore.specs.Laws.{BeginsSound, BreaksAreSound, BreaksKeep, DifferencesFit, DifferencesLead, DropsAreSound, DropsLead, FaultsAreSound, FaultsKeep, MakesNoChange, MessagesFit, MessagesLead, RunsAreSound, StopsAreSound, StopsBegin, StopsKeep, TransitionsAreSound};
+ghost use Rattle.vf_filestore.specs.Ranges.{BeginsReached, BreaksStayReached, DropsMake, DropsStayReached, FaultsStayReached, MessagesStayReached, ReachedIsKept, ReadMessagesFit, ReadMessagesMake, RunsMake, StopsStayReached};
 
 /// A filestore whose files have names of their own and are within their limits begins in a sound state.
 pub fn begins_sound()
@@ -51,10 +52,18 @@ pub fn changes_lead()
 {}
 
 /// Where a store may keep the tables before and those after, what they differ by fits, if what it names stands; so do the
-/// changes by any message but the end of a group.
+/// changes by any message but the end of a group. In a state that messages reach that were read, those by any message do.
 pub fn changes_fit()
     ensures differences { DifferencesFit }
     ensures messages { MessagesFit }
+    ensures reached { ReadMessagesFit }
+{}
+
+/// In such a state the changes by any message that was read, of a group or alone, make of what a store kept what it keeps
+/// after it; so do those by which a docket is dropped.
+pub fn changes_make()
+    ensures messages { ReadMessagesMake }
+    ensures drops { DropsMake }
 {}
 
 /// The tables of a sound state are valid, so that a store may keep them, where what they are made of is kept: its users
@@ -73,4 +82,27 @@ pub fn states_stay_kept()
     ensures stops { StopsStayKept }
     ensures drops { DropsStayKept }
     ensures runs { RunsStayKept }
+{}
+
+/// A store may keep the tables of a state that messages reach that were read: they are valid, and each field is in its
+/// range.
+pub fn reached_tables_are_kept()
+    ensures { ReachedIsKept }
+{}
+
+/// So it is at the begin, where what a filestore begins with is such, and stays so with each message that was read, and
+/// with each fault, break, stop and drop.
+pub fn states_stay_reached()
+    ensures begins { BeginsReached }
+    ensures messages { MessagesStayReached }
+    ensures faults { FaultsStayReached }
+    ensures breaks { BreaksStayReached }
+    ensures stops { StopsStayReached }
+    ensures drops { DropsStayReached }
+{}
+
+/// Along every run of links that are new where they arrive, and of messages that were read, each message's changes make
+/// what is kept after it, and no other event changes what is kept.
+pub fn runs_make()
+    ensures { RunsMake }
 {}

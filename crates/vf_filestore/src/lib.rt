@@ -6,9 +6,9 @@ mod laws;
 mod rows;
 
 pub use laws::{
-    begins_sound, changes_fit, changes_lead, ends_are_sound, ends_keep_tables, runs_are_sound,
-    states_stay_kept, stops_begin, tables_are_valid, the_same_makes_no_change,
-    transitions_are_sound,
+    begins_sound, changes_fit, changes_lead, changes_make, ends_are_sound, ends_keep_tables,
+    reached_tables_are_kept, runs_are_sound, runs_make, states_stay_kept, states_stay_reached,
+    stops_begin, tables_are_valid, the_same_makes_no_change, transitions_are_sound,
 };
 pub use rows::{
     attributes_compute, changes_compute, controls_compute, groups_compute, opens_compute,
