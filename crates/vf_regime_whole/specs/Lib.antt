@@ -1,0 +1,4 @@
+pub mod Filters
+pub mod Histories
+pub mod Messages
+pub mod States
