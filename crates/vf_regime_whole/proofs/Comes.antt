@@ -23,7 +23,7 @@ use Rattle.vf_filestore.specs.Replies.{refusal}
 use Rattle.vf_filestore.specs.Stage.{Group, grouping, pending, regime_stage, stage}
 use Rattle.vf_filestore.specs.State as filestore
 use Rattle.vf_filestore.specs.State.{with_party, without_party}
-use Rattle.vf_filestore.specs.Transition.{answered, associates, leaves, met, refuses}
+use Rattle.vf_filestore.specs.Transition.{answered, associates, leaves, met}
 use Rattle.vf_filestore.proofs.Same.{with_parties, with_trace}
 use Rattle.vf_pdu.specs.declared.pdu.Pdu.{Pdu}
 use Rattle.vf_pdu.specs.declared.pdu.Pdu.TheVariants.{BeginGroupRequest, EndGroupRequest}

@@ -2,6 +2,7 @@ pub mod Agreeing
 pub mod Comes
 pub mod Creating
 pub mod Ending
+pub mod Every
 pub mod Moving
 pub mod Opening
 pub mod Selecting

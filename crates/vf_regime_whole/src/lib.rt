@@ -4,4 +4,4 @@
 
 mod laws;
 
-pub use laws::{filters_agree, messages_agree};
+pub use laws::{answers_are_whole, filters_agree, messages_agree};
