@@ -1,11 +1,12 @@
-//! The program: the words of its command line, its standard input and output, and its status.
+//! The program: the words of its command line, its standard input and output, the disk of its store, and its status.
 #![tactic(auto)]
 
 use std::env;
 use std::io::ErrorKind;
 use std::process::ExitCode;
 use vf_base::{ReadSource, WriteSink};
-use vf_cli::{WordsError, ftam, wanted};
+use vf_cli::{Wanted, WordsError, ftam, wanted};
+use vf_disk::FileDisk;
 
 /// The status where memory is wanting.
 const NO_MEMORY: u8 = 9;
@@ -25,11 +26,32 @@ fn main(rt: HostRuntime) -> ExitCode {
         Err(_) => {}
     }
     // What the words want of the outside is opened here; standard input and output stand open.
-    match wanted(rt.alloc(), &words) {
-        Ok(_) | Err(WordsError::Usage) => {}
+    let wanted = match wanted(rt.alloc(), &words) {
+        Ok(wanted) => Some(wanted),
+        Err(WordsError::Usage) => None,
         Err(WordsError::NoMemory) => return ExitCode::from(NO_MEMORY),
-    }
+    };
+    let disk = disk_of(&rt, &wanted);
     let mut input = ReadSource::new(rt.stdin());
     let mut out = WriteSink::new(rt.stdout());
-    ExitCode::from(ftam(rt.alloc(), &words, &mut input, &mut out))
+    let (_disk, status) = ftam(rt.alloc(), &words, disk, &mut input, &mut out);
+    ExitCode::from(status)
+}
+
+/// The disk of the store that the words want, or one over no file.
+fn disk_of<'a>(rt: &HostRuntime, wanted: &'a Option<Wanted>) -> FileDisk<'a> {
+    let Some(
+        Wanted {
+            store: Some(path),
+            ..
+        },
+    ) = wanted
+    else {
+        return FileDisk::none(rt);
+    };
+    match str::from_utf8(path.as_slice()) {
+        Ok(path) => FileDisk::open(rt, path),
+        // No words want such a path.
+        Err(_) => FileDisk::none(rt),
+    }
 }

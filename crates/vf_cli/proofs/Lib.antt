@@ -1,15 +1,1 @@
-mod TopLemmas
-mod LineLemmas
-mod PrintedLemmas
-mod ScanLemmas
-mod StreamLemmas
-mod TakenLemmas
-mod ContinuesLemmas
-mod ReceivedLemmas
-mod ReadingLemmas
-mod ConsequenceLemmas
-pub mod HexLemmas
-pub mod HexLineLemmas
-pub mod BlockLemmas
-pub mod InputLemmas
-pub mod ReaderLemmas
+mod Completes

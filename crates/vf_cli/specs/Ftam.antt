@@ -1,37 +1,52 @@
--- What the program prints, by its words (profile).
-use Rattle.std.specs.Prelude.{◌≡◌, ℕ, ◌⊎◌, List, [], ◌∷◌, Option, None, Some}
-use Rattle.vf_cli.specs.Dialogue.{dialogue}
-use Rattle.vf_cli.specs.Lines.{usage_line}
-use Rattle.vf_cli.specs.Printed.{IsOneOf, Printed, Prints}
+-- What the program prints, by its words (profile), and what its call owes of it.
+use Rattle.std.specs.Prelude.{◌≡◌, ℕ, Bool, true, false, List, [], ◌∷◌, ◌++◌, Option, None, Some, codes}
+use Rattle.vf_cli_dialogue.specs.Dialogue.{MeetsDialogue, dialogue}
+use Rattle.vf_cli_printing.specs.Printed.{Printed, Prints, line_feed}
+use Rattle.vf_journal.specs.Image.{Refusal, refusal}
+use Rattle.vf_store_commands.specs.Listing.{EndsList, PrintsList}
+use Rattle.vf_store_commands.specs.Making.{EndsInit, printed_by_init}
 use Rattle.vf_cli.specs.declared.command.Command.{Command}
-use Rattle.vf_cli.specs.declared.command.Command.TheVariants.{Dialogue}
+use Rattle.vf_cli.specs.declared.command.Command.TheVariants.{Dialogue, InitStore, ListFiles}
 
 -- words outside the grammar, and they alone
+abbrev pub usage_line : List ℕ
+usage_line = codes "usage" ++ line_feed ∷ []
+
 abbrev pub usage : Printed
 usage = record { octets = usage_line; status = 2 }
 
--- what a command prints for its input
-abbrev pub printed_by : Command → List ℕ → Printed
-printed_by Dialogue input = dialogue input
+-- WHAT IS PRINTED. Of each command: by the octets of the disk and what the source had left before the call, and by what the
+-- sink had taken before and after it. Where the disk or the source don't tell what they have, only the statuses of the
+-- command are owed.
+abbrev pub MeetsInit : ℕ → (disk left old new : Option (List ℕ)) → Type 0
+MeetsInit status disk left old new =
+    EndsInit status
+    × ((octets lines : List ℕ) → disk ≡ Some octets → left ≡ Some lines → Prints (3 ∷ 4 ∷ 5 ∷ 9 ∷ []) (printed_by_init octets lines) status old new)
 
--- The faults of the outside that may keep a command from its end: of the input 3, of the output 4, of memory 9.
--- Where the words are outside the grammar the input isn't read.
-abbrev pub faults_of : Option Command → List ℕ
-faults_of None = 4 ∷ 9 ∷ []
-faults_of (Some Dialogue) = 3 ∷ 4 ∷ 9 ∷ []
+abbrev pub MeetsList : ℕ → (disk old new : Option (List ℕ)) → Type 0
+MeetsList status disk old new = EndsList status × ((image : List ℕ) → disk ≡ Some image → PrintsList image status old new)
 
--- the statuses with which a dialogue comes to its end
-abbrev pub EndsDialogue : ℕ → Type 0
-EndsDialogue status = (status ≡ 0) ⊎ (status ≡ 7) ⊎ (status ≡ 11)
+-- what a call with this command, or with words outside the grammar, owes of what it prints and of its status
+abbrev pub MeetsCommand : Option Command → ℕ → (disk left old new : Option (List ℕ)) → Type 0
+MeetsCommand None status disk left old new = Prints (4 ∷ []) usage status old new
+MeetsCommand (Some Dialogue) status disk left old new = MeetsDialogue status left old new
+MeetsCommand (Some InitStore) status disk left old new = MeetsInit status disk left old new
+MeetsCommand (Some ListFiles) status disk left old new = MeetsList status disk old new
 
--- the statuses with which a command may end
-abbrev pub EndsCommand : Command → ℕ → Type 0
-EndsCommand Dialogue status = EndsDialogue status ⊎ IsOneOf (faults_of (Some Dialogue)) status
+-- STATUSES. The status of a command where nothing of the outside fails, for a disk of these octets and for its input
+abbrev pub list_status : Option Refusal → ℕ
+list_status None = 0
+list_status (Some refused) = 8
 
--- What a call with this command, or with words outside the grammar, owes: of its status, by what the source had
--- left before it and what the sink had taken before and after it. Where a source doesn't tell what it has, only the
--- statuses of its command are owed.
-abbrev pub MeetsCommand : Option Command → ℕ → Option (List ℕ) → Option (List ℕ) → Option (List ℕ) → Type 0
-MeetsCommand None status left old new = Prints (faults_of None) usage status old new
-MeetsCommand (Some command) status None old new = EndsCommand command status
-MeetsCommand (Some command) status (Some input) old new = Prints (faults_of (Some command)) (printed_by command input) status old new
+abbrev pub status_of : Option Command → (disk input : List ℕ) → ℕ
+status_of None disk input = 2
+status_of (Some Dialogue) disk input = (dialogue input).status
+status_of (Some InitStore) disk input = (printed_by_init disk input).status
+status_of (Some ListFiles) disk input = list_status (refusal disk)
+
+-- whether a command uses its disk
+abbrev pub uses_disk : Option Command → Bool
+uses_disk None = false
+uses_disk (Some Dialogue) = false
+uses_disk (Some InitStore) = true
+uses_disk (Some ListFiles) = true

@@ -2,16 +2,20 @@
 use vf_base::Octets;
 
 /// What the command line asks for.
-#[derive(Drop)]
+#[derive(Clone, Copy, Debug, PartialEq, Eq)]
 pub enum Command {
-    /// One party's messages over an empty filestore in memory.
+    /// `dialogue`: one party's messages over an empty filestore in memory.
     Dialogue,
+    /// `init`: a store with the users whom the input tells, on an empty disk.
+    InitStore,
+    /// `list`: the files of a store.
+    ListFiles,
 }
 
 /// What the command wants of the outside: the values of its options, where it has them.
 #[derive(Drop)]
 pub struct Wanted {
-    /// The path of the store.
+    /// The path of the store, 1 to 255 octets, each a printable character of ASCII.
     pub store: Option<Octets>,
     pub host: Option<Octets>,
     /// 1 to 65535.

@@ -1,14 +1,7 @@
-//! The command line: its words, the lines that it reads and those that it writes.
+//! The command line: its words, and the top call, which runs the command that they ask for.
 #![tactic(auto)]
 
-mod block;
 mod command;
-mod conversation;
-mod dialogue;
-mod hex;
-mod lines;
-mod message;
-mod printed;
 mod top;
 mod words;
 

@@ -8,11 +8,15 @@ use std::os::unix::fs::FileExt;
 use std::{fs, io};
 use vf_base::Failed;
 
-/// A disk over a file that nobody else writes. Where the file couldn't be opened each call fails. After a sync that failed each later one fails too, since the system
+/// A disk over a file that nobody else writes. A file that isn't there is an empty disk, and the first write makes it.
+/// Where the file couldn't be opened each call fails. After a sync that failed each later one fails too, since the system
 /// may have dropped what it could not write.
 #[derive(Drop)]
-pub struct FileDisk {
+pub struct FileDisk<'a> {
+    rt: HostRuntime,
     file: Option<fs::File>,
+    /// The path of the file, where it isn't there.
+    missing: Option<&'a str>,
     length: u64,
     resized: bool,
     unsure: bool,
@@ -21,26 +25,53 @@ pub struct FileDisk {
     ghost bound: { length ≤ greatest_length },
 }
 
-impl FileDisk {
-    /// Opens the file, and makes it where it is missing; a file that was made stands in its folder on the disk.
-    pub fn open(rt: &HostRuntime, path: &str) -> FileDisk {
+impl<'a> FileDisk<'a> {
+    /// Opens the file for reading and writing, where it is there.
+    pub fn open(rt: &HostRuntime, path: &'a str) -> FileDisk<'a> {
         match open_measured(rt, path) {
-            Ok((file, length)) => FileDisk::over(Some(file), length),
-            Err(_) => FileDisk::over(None, 0),
+            Ok((file, length)) => FileDisk::over(rt, Some(file), None, length),
+            Err(error) if error.kind() == io::ErrorKind::NotFound => {
+                FileDisk::over(rt, None, Some(path), 0)
+            }
+            Err(_) => FileDisk::over(rt, None, None, 0),
         }
     }
 
-    fn over(file: Option<fs::File>, length: u64) -> FileDisk
+    /// A disk over no file, of which each call fails.
+    pub fn none(rt: &HostRuntime) -> FileDisk<'a> {
+        FileDisk::over(rt, None, None, 0)
+    }
+
+    fn over(
+        rt: &HostRuntime,
+        file: Option<fs::File>,
+        missing: Option<&'a str>,
+        length: u64,
+    ) -> FileDisk<'a>
         requires { length ≤ greatest_length }
     {
         FileDisk {
+            rt: *rt,
             file,
+            missing,
             length,
             resized: true,
             unsure: false,
             broken: false,
             faults: 0,
         }
+    }
+
+    /// Makes the file, where it isn't there.
+    fn make(&mut self) -> io::Result<()>
+        ensures length { self.new.length ≡ self.old.length }
+        ensures faults { self.new.faults ≡ self.old.faults }
+    {
+        if let Some(path) = self.missing {
+            self.file = Some(made(&self.rt, path)?);
+            self.missing = None;
+        }
+        Ok(())
     }
 
     fn fail(&mut self) -> Failed
@@ -66,6 +97,9 @@ impl FileDisk {
         ensures length { self.new.length ≡ self.old.length }
         ensures faults { self.new.faults ≡ self.old.faults }
     {
+        if self.missing.is_some() {
+            return Ok(());
+        }
         let Some(file) = &self.file else {
             return Err(io::ErrorKind::NotFound.into());
         };
@@ -87,7 +121,10 @@ impl FileDisk {
 fn open_measured(rt: &HostRuntime, path: &str) -> io::Result<(fs::File, u64)>
     ensures { IfOk result (λ opened. opened.1 ≤ greatest_length) }
 {
-    let file = open_or_make(rt, path)?;
+    let file = fs::OpenOptions::new()
+        .read(true)
+        .write(true)
+        .open(rt, path)?;
     let length = file.metadata()?.len();
     if length > GREATEST_LENGTH {
         return Err(io::ErrorKind::InvalidInput.into());
@@ -95,23 +132,16 @@ fn open_measured(rt: &HostRuntime, path: &str) -> io::Result<(fs::File, u64)>
     Ok((file, length))
 }
 
-fn open_or_make(rt: &HostRuntime, path: &str) -> io::Result<fs::File> {
-    match fs::OpenOptions::new()
+/// A new file, which stands in its folder on the disk.
+fn made(rt: &HostRuntime, path: &str) -> io::Result<fs::File> {
+    let file = fs::OpenOptions::new()
         .read(true)
         .write(true)
         .create_new(true)
-        .open(rt, path)
-    {
-        Ok(file) => {
-            file.sync_all()?;
-            folder_of(rt, path)?.sync_all()?;
-            Ok(file)
-        }
-        Err(error) if error.kind() == io::ErrorKind::AlreadyExists => {
-            fs::OpenOptions::new().read(true).write(true).open(rt, path)
-        }
-        Err(error) => Err(error),
-    }
+        .open(rt, path)?;
+    file.sync_all()?;
+    folder_of(rt, path)?.sync_all()?;
+    Ok(file)
 }
 
 fn folder_of(rt: &HostRuntime, path: &str) -> io::Result<fs::File> {
@@ -122,7 +152,7 @@ fn folder_of(rt: &HostRuntime, path: &str) -> io::Result<fs::File> {
     }
 }
 
-impl Disk for FileDisk {
+impl<'a> Disk for FileDisk<'a> {
     ghost shown = { λ disk. None };
 
     ghost size = { λ disk. disk.length };
@@ -150,13 +180,16 @@ impl Disk for FileDisk {
     ghost told = { λ disk now none. Prim.cc };
 
     fn len(&mut self) -> Result<u64, Failed> {
-        if self.file.is_none() {
+        if self.file.is_none() && self.missing.is_none() {
             return Err(self.fail());
         }
         Ok(self.length)
     }
 
     fn read(&mut self, at: u64, into: &mut [u8]) -> Result<(), Failed> {
+        if self.missing.is_some() {
+            return Ok(());
+        }
         let Some(file) = &self.file else {
             return Err(self.fail());
         };
@@ -169,6 +202,9 @@ impl Disk for FileDisk {
     fn write_at(&mut self, at: u64, octets: &[u8]) -> Result<(), Failed> {
         let count = octets.len() as u64;
         if count > GREATEST_LENGTH - at {
+            return Err(self.fail());
+        }
+        if self.make().is_err() {
             return Err(self.fail());
         }
         let Some(file) = &self.file else {
@@ -185,6 +221,10 @@ impl Disk for FileDisk {
     }
 
     fn cut(&mut self, to: u64) -> Result<(), Failed> {
+        if self.missing.is_some() {
+            self.length = to;
+            return Ok(());
+        }
         let Some(file) = &self.file else {
             return Err(self.fail());
         };

@@ -2,6 +2,7 @@
 use std::alloc::Global;
 use vf_base::{NoMemory, Source, VecSink};
 use vf_cli::ftam;
+use vf_disk::MemoryDisk;
 
 /// What a call printed, and its status.
 #[derive(Drop)]
@@ -10,19 +11,32 @@ pub(crate) struct Printed {
     pub(crate) status: u8,
 }
 
-/// Calls with these words, which spaces part, on a sink whose writes of these numbers fail, from 1.
+/// Calls with these words, which spaces part, on a sink whose writes of these numbers fail, from 1. The disk is empty.
 pub(crate) fn call<I: Source>(
     alloc: Global,
     words: &str,
     input: &mut I,
     failing: Vec<u64>,
 ) -> Result<Printed, NoMemory> {
+    let disk = MemoryDisk::of(alloc, b"", Vec::new(alloc))?;
+    let (_disk, found) = call_on(alloc, words, disk, input, failing)?;
+    Ok(found)
+}
+
+/// The same on a disk, which is answered.
+pub(crate) fn call_on<I: Source>(
+    alloc: Global,
+    words: &str,
+    disk: MemoryDisk,
+    input: &mut I,
+    failing: Vec<u64>,
+) -> Result<(MemoryDisk, Printed), NoMemory> {
     let given = words_of(alloc, words)?;
     let mut out = VecSink::new(alloc, failing);
-    let status = ftam(alloc, &given, input, &mut out);
+    let (disk, status) = ftam(alloc, &given, disk, input, &mut out);
     let mut octets = Vec::new(alloc);
     octets.extend_from_slice(out.octets())?;
-    Ok(Printed { octets, status })
+    Ok((disk, Printed { octets, status }))
 }
 
 /// The words, which spaces part.

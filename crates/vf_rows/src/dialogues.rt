@@ -1,8 +1,7 @@
-//! What `dialogue` prints, and what words outside the grammar print.
-use crate::call::{call, only, words_of};
+//! What `dialogue` prints.
+use crate::call::call;
 use crate::sips::sipped;
 use vf_base::{NoMemory, SliceSource};
-use vf_cli::{WordsError, wanted};
 
 #[test]
 fn lines_in_and_out(rt: HostRuntime) -> Result<(), NoMemory> {
@@ -162,37 +161,5 @@ fn messages_cut_anywhere(rt: HostRuntime) -> Result<(), NoMemory> {
         assert!(rt; found.status == 0, "{cut}");
         assert!(rt; found.octets.as_slice() == replies.as_bytes(), "{cut}");
     }
-    Ok(())
-}
-
-#[test]
-fn words_outside_the_grammar(rt: HostRuntime) -> Result<(), NoMemory> {
-    for words in [
-        "",
-        "--",
-        "serve",
-        "Dialogue",
-        "dialogues",
-        "dialogue x",
-        "dialogue --",
-        "dialogue --port=1",
-    ] {
-        let given = words_of(rt.alloc(), words)?;
-        let usage = wanted(rt.alloc(), &given).is_err_and(|error| error == WordsError::Usage);
-        assert!(rt; usage, "{words}");
-        // The input isn't read: its first read would fail.
-        let mut input = SliceSource::new(b"A2", only(rt.alloc(), 1)?);
-        let found = call(rt.alloc(), words, &mut input, Vec::new(rt.alloc()))?;
-        assert!(rt; found.status == 2, "{words}");
-        assert!(rt; found.octets.as_slice() == "usage\n".as_bytes(), "{words}");
-    }
-    Ok(())
-}
-
-#[test]
-fn what_dialogue_wants(rt: HostRuntime) -> Result<(), NoMemory> {
-    let given = words_of(rt.alloc(), "dialogue")?;
-    let idle = wanted(rt.alloc(), &given).map(|wanted| wanted.idle);
-    assert!(rt; idle == Ok(1_000_000));
     Ok(())
 }

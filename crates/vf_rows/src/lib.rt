@@ -1,9 +1,11 @@
-//! The worked dialogues: the top call over objects in memory, from its words and its input to what it prints and
-//! its status; and the calls of one party, message by message.
+//! The top call over objects in memory, from its words, its disk and its input to what it prints, its status and what the
+//! disk then holds: worked dialogues, and commands over a store; and the calls of one party, message by message.
 #![tactic(auto)]
 
 #[cfg(test)]
 mod call;
+#[cfg(test)]
+mod commands;
 #[cfg(test)]
 mod contents;
 #[cfg(test)]
@@ -14,3 +16,5 @@ mod faults;
 mod regime;
 #[cfg(test)]
 mod sips;
+#[cfg(test)]
+mod words;

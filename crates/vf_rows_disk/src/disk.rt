@@ -40,11 +40,28 @@ fn a_disk_over_a_file_gives_what_was_written(rt: HostRuntime) -> Result<(), Fail
 }
 
 #[test]
-fn a_disk_over_no_file_fails(rt: HostRuntime) -> Result<(), Fail> {
-    let mut disk = FileDisk::open(&rt, ".");
-    assert!(rt; disk.len().is_err() && disk.sync().is_err());
-    assert!(rt; disk.faults() == 2);
+fn a_file_that_is_not_there_is_made_by_the_first_write(rt: HostRuntime) -> Result<(), Fail> {
+    let path = "vf_disk_test_missing";
+    let _ = fs::remove_file(&rt, path);
+    let mut disk = FileDisk::open(&rt, path);
+    assert!(rt; disk.len() == Ok(0) && disk.sync() == Ok(()) && disk.cut(0) == Ok(()));
+    assert!(rt; fs::File::open(&rt, path).is_err());
+    assert!(rt; disk.write_at(0, b"a") == Ok(()) && disk.sync() == Ok(()));
+    assert!(rt; fs::File::open(&rt, path).is_ok() && disk.faults() == 0);
+    fs::remove_file(&rt, path)?;
     Ok(())
+}
+
+#[test]
+fn a_disk_over_no_file_fails(rt: HostRuntime) -> Result<(), Fail> {
+    assert!(rt; fails(FileDisk::open(&rt, ".")) && fails(FileDisk::none(&rt)));
+    Ok(())
+}
+
+/// Whether calls fail, and are counted.
+fn fails(disk: FileDisk<'_>) -> bool {
+    let mut disk = disk;
+    disk.len().is_err() && disk.sync().is_err() && disk.faults() == 2
 }
 
 /// Writes past the end, reads, syncs twice, since the first may be planned to fail, cuts and syncs.

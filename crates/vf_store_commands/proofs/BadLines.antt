@@ -6,7 +6,7 @@ use Rattle.std.proofs.lemmas.List.{append-nil, length-drop, length-take}
 use Rattle.std.specs.List.{position}
 use Rattle.vf_base.specs.Name.{is_name}
 use Rattle.vf_tables.specs.declared.user.User.{User}
-use Rattle.vf_store_commands.specs.Printed.{line_feed}
+use Rattle.vf_cli_printing.specs.Printed.{line_feed}
 use Rattle.vf_store_commands.specs.Reading.{IsInLine}
 use Rattle.vf_store_commands.specs.UserLines.{Parted, and_then, is_password, joined, lines_of, may_join, parted, parted_at, tab, told_after, user_told}
 use Rattle.vf_store_commands.proofs.Lines.{lines_begin, lines_end, lines_last}

@@ -5,7 +5,8 @@ use Rattle.vf_disk.proofs.Runs.{joined, leaves_after, leaves_at_first, leaves_oc
 use Rattle.vf_journal.specs.Image.{refusal}
 use Rattle.vf_tables.specs.declared.user.User.{User}
 use Rattle.vf_store_commands.specs.Making.{IsMaking, MayLeave, printed_by_init, printed_told}
-use Rattle.vf_store_commands.specs.Printed.{IsOneOf, Prints, no_store_line}
+use Rattle.vf_cli_printing.specs.Printed.{IsOneOf, Prints}
+use Rattle.vf_store_commands.specs.ErrorLines.{no_store_line}
 use Rattle.vf_store_commands.specs.Reading.{Tells}
 use Rattle.vf_store_commands.specs.UserLines.{users_told}
 use Rattle.vf_store_commands.specs.declared.user_lines.Told.{Told}

@@ -8,7 +8,8 @@ use Rattle.vf_journal.specs.declared.error.JournalError.TheVariants.{NotAStore, 
 use Rattle.vf_store.specs.Answers.{IsOpenError}
 use Rattle.vf_store_commands.specs.Listing.{PrintsOpened}
 use Rattle.vf_store_commands.specs.Making.{IsOutside}
-use Rattle.vf_store_commands.specs.Printed.{IsOneOf, Printed, Prints, PrintsError, Wrote, no_store_line}
+use Rattle.vf_cli_printing.specs.Printed.{IsOneOf, Printed, Prints, Wrote}
+use Rattle.vf_store_commands.specs.ErrorLines.{PrintsError, no_store_line}
 
 pub more_faults : (faults others : List ℕ) (printed : Printed) (status : ℕ) (old new : Option (List ℕ)) → (IsOneOf faults status → IsOneOf others status)
     → Prints faults printed status old new → Prints others printed status old new

@@ -3,7 +3,7 @@ use Rattle.std.specs.Prelude.{if◌then◌else◌}
 use Rattle.std.proofs.Common.{◌≡◌, ◌≢◌, ℕ, List, [], ◌∷◌, ◌++◌, ap, ◌∙◌, refl}
 use Rattle.std.proofs.lemmas.Bool.{ne_eqb}
 use Rattle.std.proofs.lemmas.List.Elements.{All-head, All-tail}
-use Rattle.vf_store_commands.specs.Printed.{line_feed}
+use Rattle.vf_cli_printing.specs.Printed.{line_feed}
 use Rattle.vf_store_commands.specs.Reading.{IsInLine}
 use Rattle.vf_store_commands.specs.UserLines.{lines_of, octet_before}
 

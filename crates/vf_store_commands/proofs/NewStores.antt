@@ -23,7 +23,7 @@ use Rattle.vf_tables.specs.declared.change.Change.{Change}
 use Rattle.vf_tables.specs.declared.tables.Tables.{Tables}
 use Rattle.vf_tables.specs.declared.user.User.{User}
 use Rattle.vf_store_commands.specs.Making.{AreUsers, IsMaking, IsNew, IsOutside, IsStoreOf, users_alone}
-use Rattle.vf_store_commands.specs.declared.status.TheConstants.{STORE_LIMIT}
+use Rattle.vf_store_commands.specs.declared.limits.TheConstants.{STORE_LIMIT}
 use Rattle.vf_store_commands.proofs.Bools.{first_of}
 
 new_starts : selected_start new_journal ≡ 33

@@ -1,4 +1,4 @@
-pub mod Printed
+pub mod ErrorLines
 pub mod UserLines
 pub mod Reading
 pub mod Making

@@ -13,7 +13,8 @@ use Rattle.vf_journal.specs.Image.{Refusal, records_of, refusal}
 use Rattle.vf_store.specs.Represented.{read_from}
 use Rattle.vf_tables.specs.Entries.{no_tables}
 use Rattle.vf_tree.specs.FileTree.{octets_in}
-use Rattle.vf_store_commands.specs.Printed.{IsOneOf, Prints, Wrote, line_feed, no_store_line}
+use Rattle.vf_cli_printing.specs.Printed.{IsOneOf, Prints, Wrote, line_feed}
+use Rattle.vf_store_commands.specs.ErrorLines.{no_store_line}
 use Rattle.vf_store_commands.specs.UserLines.{tab}
 
 abbrev pub kind_word : Kind → List ℕ

@@ -11,9 +11,10 @@ use Rattle.vf_tables.specs.Entries.{no_tables}
 use Rattle.vf_tables.specs.Snapshot.{is_kept, snapshot}
 use Rattle.vf_tables.specs.declared.tables.Tables.{Tables}
 use Rattle.vf_tables.specs.declared.user.User.{User}
-use Rattle.vf_store_commands.specs.Printed.{IsOneOf, Printed, bad_line, line_feed, no_store_line}
+use Rattle.vf_cli_printing.specs.Printed.{IsOneOf, Printed, bad_line, line_feed}
+use Rattle.vf_store_commands.specs.ErrorLines.{no_store_line}
 use Rattle.vf_store_commands.specs.UserLines.{users_told}
-use Rattle.vf_store_commands.specs.declared.status.TheConstants.{STORE_LIMIT}
+use Rattle.vf_store_commands.specs.declared.limits.TheConstants.{STORE_LIMIT}
 
 -- the tables of a filestore with these users and nothing else
 abbrev pub users_alone : List User → Tables

@@ -2,7 +2,7 @@
 use Rattle.std.specs.Prelude.{◌≡◌, ◌≢◌, ℕ, ◌+◌, ◌*◌, ◌≤◌, Bool, true, false, All, List, [], ◌++◌, length, Result, Ok, Err}
 use Rattle.vf_tables.specs.declared.limits.TheConstants.{MOST_USERS}
 use Rattle.vf_tables.specs.declared.user.User.{User}
-use Rattle.vf_store_commands.specs.Printed.{line_feed}
+use Rattle.vf_cli_printing.specs.Printed.{line_feed}
 use Rattle.vf_store_commands.specs.UserLines.{lines_of, told_after, users_told}
 use Rattle.vf_store_commands.specs.declared.user_lines.Told.{Told}
 use Rattle.vf_store_commands.specs.declared.user_lines.Told.TheVariants.{Users, Bad}

@@ -6,7 +6,7 @@ use Rattle.vf_base.specs.Name.{is_name}
 use Rattle.vf_tables.specs.Entries.{is_user}
 use Rattle.vf_tables.specs.declared.limits.TheConstants.{MOST_PASSWORD_OCTETS, MOST_USERS}
 use Rattle.vf_tables.specs.declared.user.User.{User}
-use Rattle.vf_store_commands.specs.Printed.{line_feed}
+use Rattle.vf_cli_printing.specs.Printed.{line_feed}
 
 -- an octet more at the begin of the first line
 abbrev pub octet_before : ℕ → List (List ℕ) → List (List ℕ)

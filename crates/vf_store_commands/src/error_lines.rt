@@ -3,12 +3,12 @@ ghost use Rattle.std.specs.Prelude.{◌≡◌, ◌++◌, [], ◌∷◌, IfOk};
 ghost use Rattle.std.specs.String.{string_bytes};
 ghost use Rattle.vf_base.specs.Faults.{HasRisen};
 ghost use Rattle.vf_journal.specs.declared.error.JournalError.TheVariants as errors;
-ghost use Rattle.vf_store_commands.specs.Printed.{IsOneOf, Prints, PrintsError, full_line, no_store_line};
+ghost use Rattle.vf_cli_printing.specs.Printed.{IsOneOf, Prints};
+ghost use Rattle.vf_store_commands.specs.ErrorLines.{PrintsError, full_line, no_store_line};
 
-use crate::printing::print;
-use crate::status::{DISK_FAULT, FULL, NO_MEMORY, NOT_A_STORE};
 use std::alloc::Global;
 use vf_base::{NoMemory, Sink};
+use vf_cli_printing::{DISK_FAULT, FULL, NO_MEMORY, NOT_A_STORE, print};
 use vf_store::StoreError;
 
 fn no_store_text(alloc: Global, place: u64) -> Result<String, NoMemory>

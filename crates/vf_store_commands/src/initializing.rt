@@ -5,17 +5,16 @@ ghost use Rattle.vf_base.specs.Faults.{HasRisen};
 ghost use Rattle.vf_base.specs.Streams.{IsAtEnd};
 ghost use Rattle.vf_disk.specs.Disk.{LeavesOnly, LeavesShown};
 ghost use Rattle.vf_store_commands.specs.Making.{AreUsers, EndsInit, IsAsBefore, IsMaking, IsStoreOf, Makes, MayLeave, printed_by_init, printed_told, users_alone, users_line};
-ghost use Rattle.vf_store_commands.specs.Printed.{IsOneOf, Prints, bad_line};
+ghost use Rattle.vf_cli_printing.specs.Printed.{IsOneOf, Prints, bad_line};
 ghost use Rattle.vf_store_commands.specs.UserLines.{users_told};
 ghost use Rattle.vf_tables.specs.Snapshot.{snapshot};
 
 use crate::error_lines::{print_error, print_no_store};
 use crate::making::{changes_for, store_with};
-use crate::printing::{append_bad_line, print};
-use crate::status::{BAD_LINE, DISK_FAULT, INPUT_FAULT, NO_MEMORY};
 use crate::user_lines::{ReadError, Told, read_users};
 use std::alloc::Global;
 use vf_base::{NoMemory, Sink, Source};
+use vf_cli_printing::{BAD_LINE, DISK_FAULT, INPUT_FAULT, NO_MEMORY, append_bad_line, print};
 use vf_disk::Disk;
 use vf_tables::{Changes, Users};
 

@@ -5,16 +5,16 @@ ghost use Rattle.vf_disk.specs.Disk.{LeavesOnly};
 ghost use Rattle.vf_journal.specs.Looking.{IsSyncedAndLookedAt};
 ghost use Rattle.vf_store.specs.Represented.{Represents};
 ghost use Rattle.vf_store_commands.specs.Listing.{EndsList, PrintsFiles, PrintsList};
-ghost use Rattle.vf_store_commands.specs.Printed.{IsOneOf};
+ghost use Rattle.vf_cli_printing.specs.Printed.{IsOneOf};
 ghost use Rattle.vf_tables.specs.declared.tables.Tables.{Tables as TablesMeant};
 
 use crate::error_lines::print_error;
 use crate::file_lines::text_of;
-use crate::printing::print;
-use crate::status::{NO_MEMORY, STORE_LIMIT};
+use crate::limits::STORE_LIMIT;
 use std::alloc::Global;
 use vf_attr::File;
 use vf_base::Sink;
+use vf_cli_printing::{NO_MEMORY, print};
 use vf_disk::Disk;
 use vf_store::Store;
 

@@ -9,7 +9,7 @@ ghost use Rattle.vf_store_commands.specs.Making.{AreUsers, IsMaking, IsNew, IsOu
 ghost use Rattle.vf_tables.specs.Snapshot.{snapshot};
 ghost use Rattle.vf_tables.specs.declared.user.User.{User as UserMeant};
 
-use crate::status::STORE_LIMIT;
+use crate::limits::STORE_LIMIT;
 use std::alloc::Global;
 use vf_base::NoMemory;
 use vf_disk::Disk;

@@ -1,6 +1,7 @@
 use Rattle.std.proofs.Common.{◌≡◌, ◌∙◌, ◌∷◌, [], List, ℕ, subst, sym}
 use Rattle.vf_journal.specs.declared.error.JournalError.{JournalError}
-use Rattle.vf_store_commands.specs.Printed.{Prints, PrintsError, full_line}
+use Rattle.vf_cli_printing.specs.Printed.{Prints}
+use Rattle.vf_store_commands.specs.ErrorLines.{PrintsError, full_line}
 use Rattle.vf_store_commands.proofs.Faults.{four_more, more_faults}
 use Rattle.vf_store_commands.proofs.error_lines.print_error.Goals as goal
 

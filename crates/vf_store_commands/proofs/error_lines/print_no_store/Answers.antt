@@ -1,5 +1,6 @@
 use Rattle.std.proofs.Common.{◌≡◌, ◌∙◌, ◌∷◌, [], List, ℕ, subst}
-use Rattle.vf_store_commands.specs.Printed.{Prints, no_store_line}
+use Rattle.vf_cli_printing.specs.Printed.{Prints}
+use Rattle.vf_store_commands.specs.ErrorLines.{no_store_line}
 use Rattle.vf_store_commands.proofs.Faults.{four_more, more_faults}
 use Rattle.vf_store_commands.proofs.error_lines.print_no_store.Goals as goal
 

@@ -1,6 +1,7 @@
 use Rattle.std.proofs.Common.{◌≡◌, ◌∙◌, ◌∷◌, [], ℕ, List, Some, length, ap, subst, sym}
 use Rattle.vf_store_commands.specs.Making.{MayLeave}
-use Rattle.vf_store_commands.specs.Printed.{Printed, Prints, no_store_line}
+use Rattle.vf_cli_printing.specs.Printed.{Printed, Prints}
+use Rattle.vf_store_commands.specs.ErrorLines.{no_store_line}
 use Rattle.vf_store_commands.proofs.Empty.{empty_may, is_nothing, look_leaves, on_empty_disk, on_other_disk, shown_still, then_leaves}
 use Rattle.vf_store_commands.proofs.Faults.{more_faults, three_five_more}
 use Rattle.vf_store_commands.proofs.initializing.init.Goals as goal

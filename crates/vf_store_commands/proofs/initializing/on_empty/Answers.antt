@@ -2,7 +2,7 @@ use Rattle.std.proofs.Common.{◌≡◌, ◌∷◌, [], ℕ, List, Result, Ok, l
 use Rattle.vf_disk.proofs.Runs.{weaker}
 use Rattle.vf_tables.specs.declared.user.User.{User}
 use Rattle.vf_store_commands.specs.Making.{IsMaking, MayLeave, printed_told, users_line}
-use Rattle.vf_store_commands.specs.Printed.{Prints}
+use Rattle.vf_cli_printing.specs.Printed.{Prints}
 use Rattle.vf_store_commands.specs.UserLines.{users_told}
 use Rattle.vf_store_commands.specs.declared.user_lines.Told.TheVariants.{Users}
 use Rattle.vf_store_commands.proofs.Empty.{empty_may, idle_leaves, making_may, tells_users, zero_alone}

@@ -1,0 +1,5 @@
+pub mod Conversation
+pub mod Dialogue
+pub mod Hex
+pub mod Lines
+pub mod Reader

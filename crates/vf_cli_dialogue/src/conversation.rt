@@ -1,0 +1,433 @@
+//! A conversation with one party.
+ghost use Rattle.std.specs.Prelude.{◌≡◌, ◌++◌, ◌+◌, ◌<◌, ◌≤◌, [], drop, false, true, if◌then◌else◌, IfOk, IfSome, OnOk, Some, length, List, ℕ};
+ghost use Rattle.std.specs.List.{AllByRecursion, flat_map, list_any};
+ghost use Rattle.vf_ber.specs.Reader.{reading};
+ghost use Rattle.vf_ber.specs.Reading.{Read, Short};
+ghost use Rattle.vf_ber.specs.Views.{tree_of};
+ghost use Rattle.vf_regime.specs.Represents.{Represents, with_tables};
+ghost use Rattle.vf_regime.specs.Sayable.{CanServe, IsSayable};
+ghost use Rattle.vf_regime.specs.State.{State, StandingParty};
+ghost use Rattle.vf_regime.specs.Transition.{transition};
+ghost use Rattle.vf_ber_scan.specs.Scanned.{HasTaken};
+ghost use Rattle.vf_files.specs.Files.{after_changes};
+ghost use Rattle.vf_files.specs.declared.tables.Tables.{Tables};
+ghost use Rattle.vf_cli_dialogue.specs.declared.conversation.After.TheVariants as ends;
+ghost use Rattle.vf_cli_dialogue.specs.Conversation.{Adds, Advances, Appends, Holds, IsRest, IsTaking, Makes, Stands, TakesFirst, TakesReady, is_ready as ready_test, left_in, octets_in, size_of};
+ghost use Rattle.vf_cli_dialogue.specs.Dialogue.{is_abort as abort_test, opened, outside, reply};
+
+use crate::message::{append_reply, fault_in_octets, fault_in_value};
+use crate::printed::Replies;
+use std::alloc::Global;
+use std::mem;
+use vf_base::{Moment, NoMemory, Octets};
+use vf_ber::Value;
+use vf_ber_scan::Scan;
+use vf_elements::{Message, Said, Stage};
+use vf_regime::{Changes, Outcome, Party, Tables};
+
+/// The octets of a stream that its party hasn't taken.
+#[derive(Drop)]
+pub(crate) enum Stream {
+    /// The party is gone.
+    Gone,
+    /// They are the begin of a message.
+    Waiting { pending: Vec<u8> },
+    /// They may begin with messages.
+    Ready { octets: Octets },
+}
+
+/// A conversation with one party over a filestore that starts empty. What is large stays where it is.
+#[derive(Drop)]
+pub(crate) struct Conversation {
+    /// An idle one where the party is gone.
+    party: Party,
+    stream: Stream,
+    /// Of the octets that wait.
+    scan: Scan,
+    tables: Tables,
+}
+
+impl Conversation {
+    pub(crate) fn new(alloc: Global) -> Conversation
+        ensures stands { Stands result opened }
+        ensures none { octets_in result.stream ≡ [] }
+    {
+        Conversation {
+            party: Party::idle(LINK),
+            stream: Stream::Waiting {
+                pending: Vec::new(alloc),
+            },
+            scan: Scan::new(),
+            tables: Tables::new(alloc),
+        }
+    }
+
+    /// Whether messages are to be taken before more octets come.
+    pub(crate) fn is_ready(&self) -> bool
+        ensures { result ≡ ready_test self.now.stream }
+    {
+        match &self.stream {
+            Stream::Gone => false,
+            Stream::Waiting { .. } => false,
+            Stream::Ready { .. } => true,
+        }
+    }
+
+    /// Adds the next piece to the stream, out of which it may be moved. A party that is gone takes nothing. Where memory is
+    /// wanting, the party is gone.
+    pub(crate) fn add(&mut self, alloc: Global, piece: &mut Vec<u8>) -> Result<(), NoMemory>
+        requires { ready_test self.old.stream ≡ false }
+        ensures adds { OnOk result ((state : State) → Stands self.old state → Adds state self.old piece.old.items self.new) }
+        ensures size { OnOk result (size_of self.new.stream ≤ size_of self.old.stream + length piece.old.items + 1) }
+    {
+        match mem::replace(&mut self.stream, Stream::Gone) {
+            Stream::Waiting { pending } => {
+                self.stream = added(alloc, pending, &mut self.scan, piece)?;
+                Ok(())
+            }
+            Stream::Ready { .. } => unreachable!(),
+            Stream::Gone => Ok(()),
+        }
+    }
+
+    /// Takes messages that are ready, until their replies have `MOST_REPLIES` octets or more. Appends these as lines, and says
+    /// whether an abort is among them. Where memory is wanting, the party is gone.
+    pub(crate) fn take(&mut self, alloc: Global, replies: &mut Replies) -> Result<bool, NoMemory>
+        requires ready { ready_test self.old.stream ≡ true }
+        requires stands { (state : State) × Stands self.old state }
+        ensures takes { IfOk result (λ aborted. (state : State) → Stands self.old state
+            → TakesReady state self.old replies.old.lines.items replies.new.lines.items self.new aborted) }
+        ensures size { IfOk result (λ aborted. size_of self.new.stream < size_of self.old.stream) }
+    {
+        match mem::replace(&mut self.stream, Stream::Gone) {
+            Stream::Ready { octets } => {
+                let Taken { after, rest, more } = take_messages(
+                    alloc,
+                    &mut self.party,
+                    &mut self.tables,
+                    octets,
+                    replies,
+                )?;
+                match after {
+                    After::Goes => {
+                        self.stream = rest_after(alloc, rest, more, &mut self.scan)?;
+                        Ok(false)
+                    }
+                    After::Gone => Ok(false),
+                    After::Aborted => Ok(true),
+                }
+            }
+            Stream::Waiting { .. } => unreachable!(),
+            Stream::Gone => unreachable!(),
+        }
+    }
+}
+
+/// A stream with a piece more. Where no octets are pending, the piece is looked at for messages as it is; else it is only
+/// scanned until a message is whole.
+fn added(
+    alloc: Global,
+    pending: Vec<u8>,
+    scan: &mut Scan,
+    piece: &mut Vec<u8>,
+) -> Result<Stream, NoMemory>
+    ensures octets { IfOk result (λ stream. octets_in stream ≡ pending.items ++ piece.old.items) }
+    ensures size { IfOk result (λ stream. size_of stream ≤ length pending.items + length piece.old.items + 1) }
+    ensures takes { IfOk result (λ stream. HasTaken scan.old pending.items → IsTaking stream scan.new) }
+{
+    if pending.is_empty() {
+        let octets = octets_of_piece(alloc, piece)?;
+        return Ok(Stream::Ready { octets });
+    }
+    let mut pending = pending;
+    let ended = scan.feed(piece.as_slice()).is_some();
+    pending.extend_from_slice(piece.as_slice())?;
+    if !ended {
+        return Ok(Stream::Waiting { pending });
+    }
+    let octets = Octets::from_vec(pending)?;
+    Ok(Stream::Ready { octets })
+}
+
+/// Pieces of so many octets and fewer are copied.
+const MOST_COPIED: usize = 256;
+
+/// The octets of a piece. A short one is copied, so that its room serves the next line too; a longer one is moved.
+fn octets_of_piece(alloc: Global, piece: &mut Vec<u8>) -> Result<Octets, NoMemory>
+    ensures { IfOk result (λ octets. octets ≡ piece.old.items) }
+{
+    let octets = if piece.len() <= MOST_COPIED {
+        Octets::of(alloc, piece.as_slice())?
+    } else {
+        Octets::from_vec(mem::replace(piece, Vec::new(alloc)))?
+    };
+    Ok(octets)
+}
+
+/// The stream of the octets that are left; `more` says that there may be messages among them.
+fn rest_after(
+    alloc: Global,
+    rest: Option<Octets>,
+    more: bool,
+    scan: &mut Scan,
+) -> Result<Stream, NoMemory>
+    requires { more ≡ false → reading (left_in rest) ≡ Short }
+    ensures octets { IfOk result (λ stream. octets_in stream ≡ left_in rest) }
+    ensures size { IfOk result (λ stream. size_of stream ≤ (if more then length (left_in rest) + 1 else length (left_in rest))) }
+    ensures takes { IfOk result (λ stream. IsTaking stream scan.new) }
+{
+    let mut pending = Vec::new(alloc);
+    scan.clear();
+    let Some(octets) = rest else {
+        return Ok(Stream::Waiting { pending });
+    };
+    if more {
+        return Ok(Stream::Ready { octets });
+    }
+    pending.extend_from_slice(octets.as_slice())?;
+    let _ = scan.feed(octets.as_slice());
+    Ok(Stream::Waiting { pending })
+}
+
+/// The octets from a place on.
+fn rest_of(octets: &Octets, place: usize) -> Result<Octets, NoMemory>
+    requires { place ≤ length octets.now }
+    ensures { IfOk result (λ rest. rest ≡ drop place octets.now) }
+{
+    let rest = octets.slice(place, octets.len() - place)?;
+    Ok(rest)
+}
+
+/// What became of a party after it received something.
+#[derive(Clone, Copy)]
+pub(crate) enum After {
+    /// It goes on.
+    Goes,
+    /// It is gone.
+    Gone,
+    /// It was told an abort, and is gone.
+    Aborted,
+}
+
+/// What came of messages.
+#[derive(Drop)]
+pub(crate) struct Taken {
+    pub(crate) after: After,
+    /// The octets that are left, where there are any.
+    pub(crate) rest: Option<Octets>,
+    /// There may be messages among them.
+    pub(crate) more: bool,
+}
+
+/// What came of the first octets.
+#[derive(Clone, Copy)]
+pub(crate) struct First {
+    pub(crate) after: After,
+    /// How many these are.
+    pub(crate) length: usize,
+}
+
+/// The number of the one link.
+const LINK: u32 = 1;
+
+/// So many octets of replies are written before more messages are taken.
+const MOST_REPLIES: usize = 65_536;
+
+/// What the party makes of the messages that the octets begin with. Its replies are appended as lines, and its changes made.
+/// Where memory is wanting, the party is gone.
+pub(crate) fn take_messages(
+    alloc: Global,
+    party: &mut Party,
+    tables: &mut Tables,
+    octets: Octets,
+    replies: &mut Replies,
+) -> Result<Taken, NoMemory>
+    requires { (state : State) × Holds party.old tables.old state }
+    ensures less { IfOk result (λ taken. (length (left_in taken.rest) ≤ length octets) × (taken.more ≡ true → length (left_in taken.rest) < length octets)) }
+    ensures rest { IfOk result (λ taken. IsRest taken.after taken.more (left_in taken.rest)) }
+    ensures took { IfOk result (λ taken. (state : State) → Holds party.old tables.old state
+        → Appends state octets replies.old.lines.items replies.new.lines.items party.new tables.new taken.after (left_in taken.rest)) }
+{
+    let mut rest = octets;
+    loop {
+        let Some(First { after, length }) = take_first(alloc, party, tables, &rest, replies)? else {
+            return Ok(Taken {
+                after: After::Goes,
+                rest: Some(rest),
+                more: false,
+            });
+        };
+        if length == rest.len() {
+            return Ok(Taken {
+                after,
+                rest: None,
+                more: false,
+            });
+        }
+        rest = rest_of(&rest, length)?;
+        match after {
+            After::Goes => {
+                let len = replies.lines.len();
+                if len >= MOST_REPLIES {
+                    return Ok(Taken {
+                        after,
+                        rest: Some(rest),
+                        more: true,
+                    });
+                }
+            }
+            ended => {
+                return Ok(Taken {
+                    after: ended,
+                    rest: Some(rest),
+                    more: false,
+                });
+            }
+        }
+    }
+}
+
+/// What the party makes of the message that the octets begin with, or of their fault; `None` where they are a proper prefix
+/// of a message, and nothing changes.
+fn take_first(
+    alloc: Global,
+    party: &mut Party,
+    tables: &mut Tables,
+    octets: &Octets,
+    replies: &mut Replies,
+) -> Result<Option<First>, NoMemory>
+    requires { (state : State) × Holds party.old tables.old state }
+    ensures advances { IfOk result (λ first. IfSome first (Advances octets.now)) }
+    ensures took { IfOk result (λ first. (state : State) → Holds party.old tables.old state
+        → TakesFirst state octets.now replies.old.lines.items replies.new.lines.items party.old tables.old party.new tables.new first) }
+{
+    let (value, length) = match vf_ber::read_shared(alloc, octets) {
+        Ok(read) => read,
+        Err(error) => {
+            let Some(place) = fault_in_octets(&error)? else {
+                return Ok(None);
+            };
+            let first = append_abort(alloc, place, replies)?;
+            return Ok(Some(first));
+        }
+    };
+    let first = take_value(alloc, party, tables, &value, length, replies)?;
+    Ok(Some(first))
+}
+
+/// What the party makes of a value of so many octets.
+fn take_value(
+    alloc: Global,
+    party: &mut Party,
+    tables: &mut Tables,
+    value: &Value,
+    length: usize,
+    replies: &mut Replies,
+) -> Result<First, NoMemory>
+    requires { (state : State) × Holds party.old tables.old state }
+    ensures advances { IfOk result (λ first. (octets : List ℕ) → reading octets ≡ Read (tree_of value.now) length → Advances octets first) }
+    ensures took { IfOk result (λ first. (octets : List ℕ) (state : State) → reading octets ≡ Read (tree_of value.now) length → Holds party.old tables.old state
+        → Appends state octets replies.old.lines.items replies.new.lines.items party.new tables.new first.after (drop first.length octets)) }
+{
+    match vf_elements::message_of(alloc, value) {
+        Ok(message) => {
+            let after = take_message(alloc, party, tables, message, replies)?;
+            Ok(First { after, length })
+        }
+        Err(error) => {
+            let place = fault_in_value(&error)?;
+            let first = append_abort(alloc, place, replies)?;
+            Ok(first)
+        }
+    }
+}
+
+fn take_message(
+    alloc: Global,
+    party: &mut Party,
+    tables: &mut Tables,
+    message: Message,
+    replies: &mut Replies,
+) -> Result<After, NoMemory>
+    requires { (state : State) × (standing : StandingParty) × Represents party.old standing × CanServe (with_tables tables.old state) standing }
+    ensures { IfOk result (λ rest. (state : State) (standing : StandingParty) → Represents party.old standing
+        → Makes (transition (with_tables tables.old state) standing 0 message) replies.old.lines.items replies.new.lines.items tables.old tables.new party.new rest) }
+{
+    let Ok(moment) = Moment::of(0) else {
+        unreachable!()
+    };
+    let one = mem::replace(party, Party::idle(LINK));
+    let Ok(outcome) = one.take(alloc, message, moment, 1, false, false, tables) else {
+        return Err(NoMemory);
+    };
+    let Outcome {
+        party: next,
+        said,
+        changes,
+    } = outcome;
+    *party = next;
+    make_changes(alloc, tables, changes)?;
+    if append_replies(alloc, said.as_slice(), replies)? {
+        return Ok(After::Aborted);
+    }
+    match party.stage() {
+        Stage::Idle => Ok(After::Gone),
+        _ => Ok(After::Goes),
+    }
+}
+
+/// Makes all of the changes or none. Most messages have none, for which the tables need no look.
+fn make_changes(alloc: Global, tables: &mut Tables, changes: Changes) -> Result<(), NoMemory>
+    ensures { OnOk result (tables.new.files ≡ after_changes changes tables.old.files) }
+{
+    if changes.as_slice().is_empty() {
+        return Ok(());
+    }
+    tables.apply(alloc, changes)?;
+    Ok(())
+}
+
+/// Appends the replies as lines, and says whether an abort is among them.
+fn append_replies(alloc: Global, said: &[Said], replies: &mut Replies) -> Result<bool, NoMemory>
+    requires { AllByRecursion IsSayable said.now }
+    ensures lines { IfOk result (λ _. replies.new.lines.items ≡ replies.old.lines.items ++ flat_map reply said.now) }
+    ensures abort { IfOk result (λ aborted. aborted ≡ list_any abort_test said.now) }
+{
+    let mut aborted = false;
+    for one in said {
+        append_reply(alloc, one, replies)?;
+        aborted = aborted || is_abort(one);
+    }
+    Ok(aborted)
+}
+
+fn is_abort(said: &Said) -> bool
+    ensures { result ≡ abort_test said.now }
+{
+    match said {
+        Said::Pdu(_) => false,
+        Said::Element(_) => false,
+        Said::Check { .. } => false,
+        Said::Acknowledge { .. } => false,
+        Said::Abort { .. } => true,
+    }
+}
+
+/// The abort of octets that are no message (profile).
+const OUTSIDE: u16 = 101;
+
+/// Appends the abort of octets with a fault at this place, and says that the party was told it.
+fn append_abort(alloc: Global, place: u32, replies: &mut Replies) -> Result<First, NoMemory>
+    ensures { IfOk result (λ first. (first.after ≡ ends.Aborted) × (first.length ≡ 0)
+        × (replies.new.lines.items ≡ replies.old.lines.items ++ reply (Said.Abort outside place))) }
+{
+    let abort = Said::Abort {
+        number: OUTSIDE,
+        place: u64::from(place),
+    };
+    append_reply(alloc, &abort, replies)?;
+    Ok(First {
+        after: After::Aborted,
+        length: 0,
+    })
+}

@@ -1,0 +1,119 @@
+//! Where octets have a fault, and replies as lines.
+ghost use Rattle.std.specs.Prelude.{◌≡◌, ◌++◌, Err, IfOk, List, OnOk, Result, ℕ};
+ghost use Rattle.vf_ber.specs.Limits.{IsTooLarge};
+ghost use Rattle.vf_ber.specs.Reader.{reading};
+ghost use Rattle.vf_ber.specs.Results.{IsAnswer};
+ghost use Rattle.vf_ber.specs.Spelling.{spell};
+ghost use Rattle.vf_ber.specs.Views.{tree_of};
+ghost use Rattle.vf_cli_dialogue.specs.Conversation.{IsFaultIn, IsUnread};
+ghost use Rattle.vf_cli_dialogue.specs.Dialogue.{reply};
+ghost use Rattle.vf_cli_dialogue.specs.Lines.{hex_line};
+ghost use Rattle.vf_elements.specs.ElementValue.{IsWritable, value as element_value};
+ghost use Rattle.vf_elements.specs.Sizes.{IsShort};
+ghost use Rattle.vf_pdu.specs.PduMeaning.{IsInRange};
+ghost use Rattle.vf_pdu.specs.PduValue.{value};
+ghost use Rattle.vf_pdu_fields.specs.Fault.{Fault};
+ghost use Rattle.vf_pdu_fields.specs.Results.{Fails};
+ghost use Rattle.vf_elements.specs.declared.message.Message.{Message};
+ghost use Rattle.vf_regime.specs.Sayable.{IsSayable};
+
+use crate::printed::{Replies, append_hex_line};
+use std::alloc::Global;
+use vf_base::{Element, NoMemory};
+use vf_ber::{BerError, Value, WriteError};
+use vf_elements::Said;
+use vf_pdu::Pdu;
+use vf_pdu_fields::PduError;
+
+/// Where octets that begin with no value have a fault; `None` where they are a proper prefix of one.
+pub(crate) fn fault_in_octets(error: &BerError) -> Result<Option<u32>, NoMemory>
+    ensures { IfOk result (λ place. (octets : List ℕ) → IsAnswer (Err error.now) octets → IsUnread (reading octets) place) }
+{
+    match error {
+        BerError::Short => Ok(None),
+        BerError::Bad { at } => Ok(Some(*at)),
+        BerError::Deep { at } => Ok(Some(*at)),
+        BerError::Long { at } => Ok(Some(*at)),
+        BerError::NoMemory => Err(NoMemory),
+    }
+}
+
+/// Where a value that means no message has its fault: the place of a part, or the number of a field (profile).
+pub(crate) fn fault_in_value(error: &PduError) -> Result<u32, NoMemory>
+    ensures { IfOk result (λ place. (read : Result Message Fault) → Fails error.now read → IsFaultIn read place) }
+{
+    match error {
+        PduError::Unknown { .. } => Ok(0),
+        PduError::Field { place } => Ok(*place),
+        PduError::Range { field } => Ok(u32::from(*field)),
+        PduError::Missing { field } => Ok(u32::from(*field)),
+        PduError::NoMemory => Err(NoMemory),
+    }
+}
+
+/// Appends the line that tells a reply.
+pub(crate) fn append_reply(
+    alloc: Global,
+    said: &Said,
+    replies: &mut Replies,
+) -> Result<(), NoMemory>
+    requires { IsSayable said.now }
+    ensures { OnOk result (replies.new.lines.items ≡ replies.old.lines.items ++ reply said.now) }
+{
+    match said {
+        Said::Pdu(pdu) => append_pdu(alloc, pdu, replies),
+        Said::Element(element) => append_element(alloc, element, replies),
+        Said::Check { .. } => Ok(()),
+        Said::Acknowledge { .. } => Ok(()),
+        Said::Abort { number, place } => append_provider_abort(alloc, *number, *place, replies),
+    }
+}
+
+// Of its own, since the room for its PDU costs each reply where both are one function.
+fn append_provider_abort(
+    alloc: Global,
+    number: u16,
+    place: u64,
+    replies: &mut Replies,
+) -> Result<(), NoMemory>
+    requires { IsSayable (Said.Abort number place) }
+    ensures { OnOk result (replies.new.lines.items ≡ replies.old.lines.items ++ reply (Said.Abort number place)) }
+{
+    let abort = Pdu::ProviderAbort { number, place };
+    append_pdu(alloc, &abort, replies)
+}
+
+fn append_pdu(alloc: Global, pdu: &Pdu, replies: &mut Replies) -> Result<(), NoMemory>
+    requires { IsInRange pdu.now }
+    ensures { OnOk result (replies.new.lines.items ≡ replies.old.lines.items ++ hex_line (spell (value pdu.now))) }
+{
+    let made = vf_pdu::to_value(alloc, pdu)?;
+    vf_pdu::value_is_within();
+    append_value(alloc, &made, replies)?;
+    Ok(())
+}
+
+fn append_element(alloc: Global, element: &Element, replies: &mut Replies) -> Result<(), NoMemory>
+    requires writable { IsWritable element.now }
+    requires short { IsShort element.now }
+    ensures { OnOk result (replies.new.lines.items ≡ replies.old.lines.items ++ hex_line (spell (element_value element.now))) }
+{
+    let made = vf_elements::to_value(alloc, element)?;
+    vf_elements::value_is_within();
+    append_value(alloc, &made, replies)?;
+    Ok(())
+}
+
+fn append_value(alloc: Global, value: &Value, replies: &mut Replies) -> Result<(), NoMemory>
+    requires { IsTooLarge (tree_of value.now) → ⊥ }
+    ensures { OnOk result (replies.new.lines.items ≡ replies.old.lines.items ++ hex_line (spell (tree_of value.now))) }
+{
+    replies.octets.clear();
+    match vf_ber::write(alloc, value, &mut replies.octets) {
+        Ok(()) => {}
+        Err(WriteError::TooLarge) => unreachable!(),
+        Err(WriteError::NoMemory) => return Err(NoMemory),
+    }
+    append_hex_line(replies.octets.as_slice(), &mut replies.lines)?;
+    Ok(())
+}
