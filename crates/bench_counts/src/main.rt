@@ -9,6 +9,7 @@ mod file;
 mod journal;
 mod locks;
 mod stack;
+mod store;
 mod transport;
 
 use bench_base::{Fault, end};
@@ -25,6 +26,7 @@ fn put_command(rt: &HostRuntime, command: &str, out: &mut Vec<u8>) -> Result<(),
         "disk" => disk::put(rt.alloc(), rest, out),
         "journal" => journal::put(rt, rest, out),
         "file" => file::put(rt.alloc(), rest, out),
+        "store" => store::put(rt, rest, out),
         _ => Err(Fault::Words),
     }
 }
