@@ -1,11 +1,18 @@
 //! Stores on a disk in memory.
+ghost use Rattle.std.specs.Prelude.{IsTrue};
+ghost use Rattle.vf_tables.specs.Snapshot.{HasFewPieces};
+
 use std::alloc::Global;
 use std::test::Fail;
-use vf_base::{Name, Octets, Sequence};
+use vf_base::{Name, NoMemory, Octets, Sequence};
 use vf_disk::MemoryDisk;
 use vf_store::{Store, StoreError};
-use vf_tables::{Change, Changes, User};
+use vf_store_record::write;
+use vf_tables::{Change, Changes, Tables, User};
 
+mod acts;
+mod drawn;
+mod grammar;
 mod model;
 mod stops;
 
@@ -21,6 +28,29 @@ pub fn opened(alloc: Global, disk: MemoryDisk, limit: u64) -> Result<Store<Memor
         Ok(store) => Ok(store),
         Err((_disk, error)) => Err(error)?,
     }
+}
+
+/// Whether a snapshot can number the pieces of each docket and each task.
+fn has_few_pieces(tables: &Tables) -> bool
+    ensures { IsTrue result → HasFewPieces tables.now }
+{
+    let dockets = tables.dockets.as_slice();
+    let tasks = tables.tasks.as_slice();
+    dockets
+        .iter()
+        .all(|docket| docket.staged.len() < 4_294_967_296)
+        && tasks.iter().all(|task| task.staged.len() < 4_294_967_296)
+}
+
+/// The record that makes all of the tables.
+pub fn whole_of(alloc: Global, tables: &Tables) -> Result<Vec<u8>, NoMemory> {
+    if !has_few_pieces(tables) {
+        return Err(NoMemory);
+    }
+    let changes = tables.snapshot(alloc)?;
+    let mut octets = Vec::new(alloc);
+    write(changes.as_slice(), &mut octets)?;
+    Ok(octets)
 }
 
 /// The change that puts the user `ann` with the password `pw`.
