@@ -10,6 +10,8 @@ mod ReadingLemmas
 mod ConsequenceLemmas
 pub mod HexLemmas
 pub mod HexLineLemmas
+pub mod HexTable
+pub mod RunLemmas
 pub mod BlockLemmas
 pub mod InputLemmas
 pub mod ReaderLemmas

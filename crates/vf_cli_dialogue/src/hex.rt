@@ -1,6 +1,6 @@
 //! Octets as text in hexadecimal: two digits an octet, the high half first, each 0 to 9 or A to F.
 ghost use Rattle.std.specs.Prelude.{◌≡◌, ◌+◌, ◌*◌, ◌/◌, ◌≤◌, ◌<◌, ◌++◌, [], length, take, vec_len, vec_capacity, slice_index, IfOk, IfSome, OnOk, OnErr};
-ghost use Rattle.vf_cli_dialogue.specs.Hex.{IsHalfOf, Spells, Takes, TakesOctets, TakesPairs, digit_of, first_half_of, half_of};
+ghost use Rattle.vf_cli_dialogue.specs.Hex.{IsHalfOf, Spells, Takes, TakesOctets, TakesPairs, digit_of, first_half_of, half_of, hex_of};
 ghost use Rattle.vf_cli_dialogue.specs.Lines.{IsInLine, hex_line};
 
 use std::alloc::Global;
@@ -8,16 +8,67 @@ use std::marker::Model;
 use std::mem;
 use vf_base::NoMemory;
 
+/// So many octets are written at once where there are as many, by a loop of fixed length without branches, which the
+/// compiler makes vector instructions of.
+const RUN: usize = 32;
+
+/// The digits of so many octets.
+const RUN_DIGITS: usize = 64;
+
 /// Appends the line that spells octets to a text that has room for it.
 pub(crate) fn put_hex_line(octets: &[u8], text: &mut Vec<u8>)
     requires { vec_len text.old + 2 * length octets.now < vec_capacity text.old }
     ensures { text.new.items ≡ text.old.items ++ hex_line octets.now }
 {
+    let done = put_runs(octets, text);
+    let (_, rest) = octets.split_at(done);
+    put_each(rest, text);
+    text.push_reserved(10);
+}
+
+/// Appends the digits of the octets that stand in whole runs, and says how many these are.
+fn put_runs(octets: &[u8], text: &mut Vec<u8>) -> usize
+    requires { vec_len text.old + 2 * length octets.now ≤ vec_capacity text.old }
+    ensures items { text.new.items ≡ text.old.items ++ hex_of (take result octets.now) }
+    ensures within { result ≤ length octets.now }
+    ensures len { vec_len text.new ≡ vec_len text.old + 2 * result }
+    ensures capacity { vec_capacity text.old ≤ vec_capacity text.new }
+{
+    let runs = octets.len() / RUN;
+    for run in 0..runs {
+        let at = RUN * run;
+        let digits = digits_of_run(&octets[at..at + RUN]);
+        text.extend_from_slice(&digits).unwrap();
+    }
+    RUN * runs
+}
+
+/// Appends the digits of octets one by one.
+fn put_each(octets: &[u8], text: &mut Vec<u8>)
+    requires { vec_len text.old + 2 * length octets.now ≤ vec_capacity text.old }
+    ensures items { text.new.items ≡ text.old.items ++ hex_of octets.now }
+    ensures len { vec_len text.new ≡ vec_len text.old + 2 * length octets.now }
+    ensures capacity { vec_capacity text.old ≤ vec_capacity text.new }
+{
     for octet in octets {
         text.push_reserved(digit(*octet / 16));
         text.push_reserved(digit(*octet % 16));
     }
-    text.push_reserved(10);
+}
+
+/// The digits of a run of octets.
+fn digits_of_run(octets: &[u8]) -> [u8; RUN_DIGITS]
+    requires { length octets.now ≡ 32 }
+    ensures value { result ≡ hex_of octets.now }
+    ensures len { length result ≡ 64 }
+{
+    let mut digits = [0; RUN_DIGITS];
+    for place in 0..RUN {
+        let octet = octets[place];
+        digits[2 * place] = digit(octet / 16);
+        digits[2 * place + 1] = digit(octet % 16);
+    }
+    digits
 }
 
 /// The digits of a line as far as it was read, which are kept as the octets that they spell.
@@ -123,13 +174,14 @@ fn append_pairs(octets: &mut Vec<u8>, text: &[u8]) -> usize
     ensures { TakesPairs octets.old.items octets.new.items text.now result }
 {
     for place in 0..text.len() / 2 {
-        let Some(high) = half(text[2 * place]) else {
+        let high = half_or_more(text[2 * place]);
+        let low = half_or_more(text[2 * place + 1]);
+        let octet = high * 16 + low;
+        // One test for both, since two digits make less.
+        if octet >= 256 {
             return place;
-        };
-        let Some(low) = half(text[2 * place + 1]) else {
-            return place;
-        };
-        octets.push_reserved(high * 16 + low);
+        }
+        octets.push_reserved(octet as u8);
     }
     text.len() / 2
 }
@@ -155,11 +207,34 @@ fn half(digit: u8) -> Option<u8>
     ensures value { result ≡ half_of digit }
     ensures digit { IfSome result (λ half. IsHalfOf half digit) }
 {
-    if 48 <= digit && digit <= 57 {
-        Some(digit - 48)
-    } else if 65 <= digit && digit <= 70 {
-        Some(digit - 55)
-    } else {
-        None
-    }
+    let half = half_or_more(digit);
+    if half < 16 { Some(half as u8) } else { None }
 }
+
+/// The half octet of a digit, and 256 of what is no digit. A table takes the fewest instructions.
+fn half_or_more(digit: u8) -> u16
+    ensures some { result < 256 → half_of digit ≡ Some result }
+    ensures digit { result < 256 → IsHalfOf result digit }
+    ensures none { 256 ≤ result → half_of digit ≡ None }
+    ensures most { result ≤ 256 }
+{
+    HALVES[digit as usize]
+}
+
+/// The half octet of each digit, and 256 at what is no digit.
+static HALVES: [u16; 256] = [
+    256, 256, 256, 256, 256, 256, 256, 256, 256, 256, 256, 256, 256, 256, 256, 256, 256, 256, 256,
+    256, 256, 256, 256, 256, 256, 256, 256, 256, 256, 256, 256, 256, 256, 256, 256, 256, 256, 256,
+    256, 256, 256, 256, 256, 256, 256, 256, 256, 256, 0, 1, 2, 3, 4, 5, 6, 7, 8, 9, 256, 256, 256,
+    256, 256, 256, 256, 10, 11, 12, 13, 14, 15, 256, 256, 256, 256, 256, 256, 256, 256, 256, 256,
+    256, 256, 256, 256, 256, 256, 256, 256, 256, 256, 256, 256, 256, 256, 256, 256, 256, 256, 256,
+    256, 256, 256, 256, 256, 256, 256, 256, 256, 256, 256, 256, 256, 256, 256, 256, 256, 256, 256,
+    256, 256, 256, 256, 256, 256, 256, 256, 256, 256, 256, 256, 256, 256, 256, 256, 256, 256, 256,
+    256, 256, 256, 256, 256, 256, 256, 256, 256, 256, 256, 256, 256, 256, 256, 256, 256, 256, 256,
+    256, 256, 256, 256, 256, 256, 256, 256, 256, 256, 256, 256, 256, 256, 256, 256, 256, 256, 256,
+    256, 256, 256, 256, 256, 256, 256, 256, 256, 256, 256, 256, 256, 256, 256, 256, 256, 256, 256,
+    256, 256, 256, 256, 256, 256, 256, 256, 256, 256, 256, 256, 256, 256, 256, 256, 256, 256, 256,
+    256, 256, 256, 256, 256, 256, 256, 256, 256, 256, 256, 256, 256, 256, 256, 256, 256, 256, 256,
+    256, 256, 256, 256, 256, 256, 256, 256, 256, 256, 256, 256, 256, 256, 256, 256, 256, 256, 256,
+    256, 256, 256, 256,
+];

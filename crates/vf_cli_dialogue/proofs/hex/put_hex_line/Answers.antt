@@ -1,16 +1,7 @@
-use Rattle.std.proofs.Common.{◌<◌, ◌++◌, ◌∷◌, [], List, ℕ, ap, arith, length, ◌∙◌}
-use Rattle.vf_cli_dialogue.proofs.HexLineLemmas.{put_next}
+use Rattle.vf_cli_dialogue.proofs.RunLemmas.{line_put}
 use Rattle.vf_cli_dialogue.proofs.hex.put_hex_line.Goals as goal
 
-pub loop-octet-preserved : goal.loop-octet-preserved
-loop-octet-preserved c =
-    let octets = c.args.octets.now in
-    let text : List ℕ = c.loop-octet.text.items in
-    let below : c.loop-octet.octet-index < length octets = omega arith in
-    let room = c.loop-octet.invariant.1 in (
-      c.push_reserved-in-loop-octet.ensures.items
-          ∙ ap (λ l. l ++ c.digit-in-loop-octet.result ∷ []) c.push_reserved.ensures.items
-          ∙ (λ i. (text ++ c.digit.ensures i ∷ []) ++ c.digit-in-loop-octet.ensures i ∷ [])
-          ∙ put_next octets c.args.text.now.items text c.loop-octet.octet-index below c.loop-octet.invariant.0,
-      omega (arith, room, below, c.push_reserved.ensures.len, c.push_reserved-in-loop-octet.ensures.len, c.push_reserved.ensures.capacity, c.push_reserved-in-loop-octet.ensures.capacity),
-    )
+pub returns : goal.returns
+returns c =
+    line_put c.args.octets.now c.split_at.result.1.now c.args.text.now.items c.put_runs-done.new.text.items c.put_each.new.text.items c.push_reserved.new.self.items
+    c.put_runs-done.result c.put_runs-done.ensures.items c.split_at.ensures.back c.put_each.ensures.items c.push_reserved.ensures.items
