@@ -3,6 +3,3 @@ pub mod Sizes
 mod Ranges
 mod Snapshots
 mod Shown
-mod Distinct
-mod Made
-mod Stays

@@ -1,8 +1,10 @@
 ghost use Rattle.std.specs.Prelude.{◌≡◌, IfOk};
 
-use crate::Pieces;
+use crate::Entries;
 use std::alloc::Global;
-use vf_base::{Actions, Context, Controls, Duplicate, FaduId, Name, NoMemory, Octets, copy_option};
+use vf_base::{
+    Actions, Context, Controls, Duplicate, Elements, FaduId, Name, NoMemory, Octets, copy_option,
+};
 
 /// What a write does at the FADU that it names (ISO 8571-3, F-WRITE; the numbers are profile).
 #[derive(Clone, Copy, Debug, PartialEq, Eq)]
@@ -94,7 +96,7 @@ impl Regime {
 #[derive(Drop)]
 pub struct Docket {
     pub regime: Regime,
-    pub staged: Pieces,
+    pub staged: Entries<Elements>,
 }
 
 impl Docket {
