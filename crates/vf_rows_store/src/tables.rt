@@ -1,10 +1,10 @@
-//! Entries of tables, copied.
+//! Entries of tables, copied, and tables that are changed.
 use std::alloc::Global;
 use std::test::Fail;
-use vf_base::{
-    Actions, BaseError, Control, Controls, Elements, FaduId, Name, NoMemory, Octets, Sequence,
+use vf_base::{Actions, BaseError, Control, Controls, FaduId, Name, NoMemory, Octets, Sequence};
+use vf_tables::{
+    Change, Changes, Direction, Docket, Doubled, Phase, Pieces, Plan, Regime, Task, User, Way,
 };
-use vf_tables::{Direction, Docket, Entries, Phase, Plan, Regime, Task, User, Way};
 
 fn user(alloc: Global) -> Result<User, BaseError> {
     let identity = Name::of(alloc, b"ann")?;
@@ -67,8 +67,8 @@ fn a_user_is_copied(rt: HostRuntime) -> Result<(), Fail> {
 }
 
 /// One empty piece.
-fn pieces(alloc: Global) -> Result<Entries<Elements>, NoMemory> {
-    let mut pieces = Entries::new(alloc);
+fn pieces(alloc: Global) -> Result<Pieces, NoMemory> {
+    let mut pieces = Pieces::new(alloc);
     pieces.push(Sequence::new(alloc))?;
     Ok(pieces)
 }
@@ -91,5 +91,27 @@ fn a_task_is_copied_with_its_pieces(rt: HostRuntime) -> Result<(), Fail> {
     let task = Task { plan, staged };
     let copy = task.copy(rt.alloc())?;
     assert!(rt; copy.plan.point == 2 && copy.staged.len() == 1);
+    Ok(())
+}
+
+fn one(alloc: Global, change: Change) -> Result<Changes, NoMemory> {
+    let mut changes = Sequence::new(alloc);
+    changes.push(change)?;
+    Ok(changes)
+}
+
+#[test]
+fn changes_that_do_not_fit_leave_the_tables(rt: HostRuntime) -> Result<(), Fail> {
+    let alloc = rt.alloc();
+    let ann = user(alloc)?;
+    let put = one(alloc, Change::PutUser { user: ann })?;
+    let name = Name::of(alloc, b"a")?;
+    let drop_file = one(alloc, Change::DropFile { name })?;
+    let mut tables = Doubled::new(alloc);
+    tables.apply(alloc, put.as_slice())?;
+    let is_made = tables.make(alloc, drop_file.as_slice())?;
+    assert!(rt; !is_made && tables.tables().users.len() == 1);
+    let is_made = tables.make(alloc, put.as_slice())?;
+    assert!(rt; is_made && tables.tables().users.len() == 1);
     Ok(())
 }

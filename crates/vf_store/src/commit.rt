@@ -23,7 +23,7 @@ use std::alloc::Global;
 use vf_base::NoMemory;
 use vf_disk::Disk;
 use vf_journal::{Journal, MOST_RECORD_OCTETS, built_area, built_entry};
-use vf_tables::{Changes, Tables, kept_stay, snapshot_makes};
+use vf_tables::{Changes, Doubled, Tables, kept_stay, snapshot_makes};
 
 /// What a commit makes before its first call of the disk.
 #[derive(Drop)]
@@ -63,7 +63,7 @@ fn has_few_pieces(tables: &Tables) -> bool
 fn place(
     alloc: Global,
     journal: &Journal,
-    tables: &Tables,
+    tables: &Doubled,
     count: u64,
 ) -> Result<(Option<Vec<u8>>, u64), NoMemory>
     requires { count ≤ longest }
@@ -77,6 +77,7 @@ fn place(
         let placing = journal.plan(count, 0);
         return Ok((None, placing.end));
     }
+    let tables = tables.tables();
     if !has_few_pieces(tables) {
         return Err(NoMemory);
     }
@@ -95,7 +96,7 @@ fn place(
 fn build(
     alloc: Global,
     journal: &Journal,
-    tables: &Tables,
+    tables: &Doubled,
     changes: &Changes,
 ) -> Result<Built, NoMemory>
     ensures built { IfOk result (λ built. IsBuilt journal.now tables.now changes.now built) }
@@ -118,7 +119,7 @@ pub(crate) fn commit_on<D: Disk>(
     alloc: Global,
     journal: &mut Journal,
     disk: &mut D,
-    tables: &mut Tables,
+    tables: &mut Doubled,
     changes: &Changes,
 ) -> Result<(), StoreError>
     requires { IsWithin journal.old (D.size disk.old) }

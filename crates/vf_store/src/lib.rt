@@ -2,9 +2,11 @@
 #![tactic(auto)]
 
 mod commit;
+mod counts;
 mod reading;
 mod store;
 mod writing;
 
+pub use counts::Counts;
 pub use store::Store;
 pub use vf_journal::JournalError as StoreError;

@@ -6,9 +6,10 @@ ghost use Rattle.vf_journal.specs.Image.{records_of};
 ghost use Rattle.vf_journal.specs.JournalState.{IsWithin};
 ghost use Rattle.vf_journal.specs.Looking.{IsSyncedAndLookedAt};
 ghost use Rattle.vf_store.specs.Answers.{OpenAnswers};
-ghost use Rattle.vf_store.specs.Represented.{Represents, after_record as after_record_meant, read_from};
+ghost use Rattle.vf_store.specs.Represented.{Represents, after_record, read_from};
 ghost use Rattle.vf_store.specs.StoreState.{TablesStand};
 ghost use Rattle.vf_tables.specs.Entries.{no_tables};
+ghost use Rattle.vf_tables.specs.Making.{IsMade};
 ghost use Rattle.vf_tables.specs.declared.tables.Tables.{Tables as TablesMeant};
 
 use crate::StoreError;
@@ -16,30 +17,29 @@ use std::alloc::Global;
 use vf_base::{NoMemory, Octets};
 use vf_disk::Disk;
 use vf_journal::{Journal, held_is_read};
-use vf_tables::Tables;
+use vf_tables::Doubled;
 
-/// The tables after a record; `None` exactly where it isn't of the grammar.
+/// Brings the tables on by a record; `false` exactly where it isn't of the grammar, and then they stay.
 #[tactic(auto, unfolding(crate::specs::Represented::after_record))]
-fn after_record(alloc: Global, tables: &Tables, octets: &[u8]) -> Result<Option<Tables>, NoMemory>
-    ensures { IfOk result (λ next. next ≡ after_record_meant tables.now octets.now) }
+fn take_record(alloc: Global, tables: &mut Doubled, octets: &[u8]) -> Result<bool, NoMemory>
+    ensures { IfOk result (λ is_made. IsMade (after_record tables.old octets.now) tables.old tables.new is_made) }
 {
     let Some(changes) = vf_store_record::read(alloc, octets)? else {
-        return Ok(None);
+        return Ok(false);
     };
-    let next = tables.made(alloc, changes.as_slice())?;
-    Ok(next)
+    let is_made = tables.make(alloc, changes.as_slice())?;
+    Ok(is_made)
 }
 
 /// The tables to which records lead, before the first one that isn't of the grammar.
-fn tables_of(alloc: Global, records: &[Octets]) -> Result<Tables, NoMemory>
+fn tables_of(alloc: Global, records: &[Octets]) -> Result<Doubled, NoMemory>
     ensures { IfOk result (λ tables. tables ≡ read_from records.now no_tables) }
 {
-    let mut tables = Tables::new(alloc);
+    let mut tables = Doubled::new(alloc);
     for record in records {
-        let Some(next) = after_record(alloc, &tables, record.as_slice())? else {
+        if !take_record(alloc, &mut tables, record.as_slice())? {
             return Ok(tables);
-        };
-        tables = next;
+        }
     }
     Ok(tables)
 }
@@ -49,7 +49,7 @@ pub(crate) fn read<D: Disk>(
     alloc: Global,
     disk: &mut D,
     limit: u64,
-) -> Result<(Journal, Tables), StoreError>
+) -> Result<(Journal, Doubled), StoreError>
     ensures answers { (image : List ℕ) → D.shown disk.old ≡ Some image → OpenAnswers image result }
     ensures tables { (image : List ℕ) → D.shown disk.old ≡ Some image → IfOk result (λ found. found.1 ≡ read_from (records_of image) no_tables) }
     ensures stands { (image : List ℕ) (tables : TablesMeant) → D.shown disk.old ≡ Some image → Represents image tables

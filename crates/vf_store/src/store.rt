@@ -10,29 +10,30 @@ ghost use Rattle.vf_journal.specs.Looking.{IsSyncedAndLookedAt};
 ghost use Rattle.vf_journal.specs.Writes.{Shows, create_steps};
 ghost use Rattle.vf_store.specs.Answers.{CommitAnswers, CommitSteps, OpenAnswers};
 ghost use Rattle.vf_store.specs.Commit.{AreFitting, commit_steps, placed};
+ghost use Rattle.vf_store.specs.Counts.{counts_of};
 ghost use Rattle.vf_store.specs.Represented.{IsNoneOrNew, Represents, RepresentsEither, read_from};
 ghost use Rattle.vf_store.specs.StoreState.{IsRepresented, answer_of, disk_of};
 ghost use Rattle.vf_tables.specs.Changes.{after_all};
 ghost use Rattle.vf_tables.specs.Entries.{docket_of, file_of, no_tables, task_of, user_of};
 ghost use Rattle.vf_tables.specs.declared.tables.Tables.{Tables as TablesMeant};
 
-use crate::StoreError;
 use crate::commit::commit_on;
 use crate::reading::read;
+use crate::{Counts, StoreError};
 use std::alloc::Global;
 use std::marker::Model;
 use vf_attr::File;
 use vf_base::Name;
 use vf_disk::{Disk, MemoryDisk};
 use vf_journal::{Journal, new_holds_none};
-use vf_tables::{Changes, Docket, Tables, Task, User};
+use vf_tables::{Changes, Docket, Doubled, Tables, Task, User};
 
 /// Tables on a disk. After `DiskFault` it is spent: the disk has to be opened again.
 #[derive(Drop)]
 pub struct Store<D: Disk> {
     disk: D,
     journal: Journal,
-    tables: Tables,
+    tables: Doubled,
 }
 
 impl<D: Disk> Model for Store<D> {
@@ -98,35 +99,49 @@ impl<D: Disk> Store<D> {
     pub fn tables(&self) -> &Tables
         ensures { result.now ≡ self.now.tables }
     {
-        &self.tables
+        self.tables.tables()
+    }
+
+    /// How much the tables have; the octets of files are kept in sum.
+    pub fn counts(&self) -> Counts
+        ensures { result ≡ counts_of self.now.tables }
+    {
+        let tables = self.tables.tables();
+        Counts {
+            files: tables.files.len() as u64,
+            octets: tables.files.octets(),
+            dockets: tables.dockets.len() as u64,
+            tasks: tables.tasks.len() as u64,
+            users: tables.users.len() as u64,
+        }
     }
 
     /// The user of this identity; `None` exactly where there is none.
     pub fn user(&self, identity: &Name) -> Option<&User>
         ensures { option_copied result ≡ user_of identity.now self.now.tables }
     {
-        self.tables.user(identity)
+        self.tables.tables().user(identity)
     }
 
     /// The file of this name; `None` exactly where there is none.
     pub fn file(&self, name: &Name) -> Option<&File>
         ensures { option_copied result ≡ file_of name.now self.now.tables }
     {
-        self.tables.file(name)
+        self.tables.tables().file(name)
     }
 
     /// The docket of this identity and activity; `None` exactly where there is none.
     pub fn docket(&self, identity: &Name, activity: u32) -> Option<&Docket>
         ensures { option_copied result ≡ docket_of identity.now activity self.now.tables }
     {
-        self.tables.docket(identity, activity)
+        self.tables.tables().docket(identity, activity)
     }
 
     /// The task of this activity; `None` exactly where there is none.
     pub fn task(&self, activity: u32) -> Option<&Task>
         ensures { option_copied result ≡ task_of activity self.now.tables }
     {
-        self.tables.task(activity)
+        self.tables.tables().task(activity)
     }
 
     /// Makes all of the changes or none, in one record, after a switch to another area where one is due and possible. A

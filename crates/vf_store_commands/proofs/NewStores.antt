@@ -1,5 +1,5 @@
 -- A store that is just made, and what a commit of users makes of it.
-use Rattle.std.proofs.Common.{◌≡◌, inl, inr, ⊎_elim, ℕ, true, List, [], Option, Some, None, Result, Ok, Err, refl, sym, ap, subst, ◌∙◌}
+use Rattle.std.proofs.Common.{◌≡◌, inl, inr, ⊎_elim, ℕ, true, List, [], ◌∷◌, length, Option, Some, None, Result, Ok, Err, refl, sym, ap, subst, ◌∙◌, arith}
 use Rattle.std.specs.Prelude.{IfOk, IfErr}
 use Rattle.vf_disk.specs.Disk.{LeavesOnly}
 use Rattle.vf_disk.proofs.Runs.{joined, weaker}
@@ -13,7 +13,7 @@ use Rattle.vf_store.specs.Answers.{IsOpenError, OpenAnswers}
 use Rattle.vf_store.specs.Commit.{AreFitting}
 use Rattle.vf_store.specs.Represented.{IsNoneOrNew, Represents, RepresentsEither}
 use Rattle.vf_store.specs.StoreState.{IsRepresented, StoreState, answer_of, disk_of}
-use Rattle.vf_store.proofs.Runs.{represented}
+use Rattle.vf_store.proofs.Runs.{idle, represented}
 use Rattle.vf_tables.specs.Changes.{after_all}
 use Rattle.vf_tables.specs.Entries.{no_tables}
 use Rattle.vf_tables.specs.Laws.{SnapshotMakes}
@@ -104,3 +104,15 @@ pub fits_here : (tables : Tables) (changes : List Change) (users : List User) �
 fits_here tables changes users makes are empty is =
     subst (λ (t : Tables). AreFitting t changes × (after_all t changes ≡ users_alone users)) (sym empty)
     (subst (λ (l : List Change). AreFitting no_tables l × (after_all no_tables l ≡ users_alone users)) (sym is) (fitting makes users are))
+
+-- WHERE THERE ARE NO CHANGES. There are no users, and the store stays as it is.
+pub no_users : (users : List User) (changes : List Change) → changes ≡ snapshot (users_alone users) → length changes ≡ 0 → users ≡ []
+no_users [] changes is none = refl
+no_users (user ∷ users) changes is none = absurd (omega (arith, ap length is, none))
+
+pub store_stays : {D : Type 0} (shown : D → Option (List ℕ)) (may_leave : D → List ℕ → Type 0) (moment : D → ℕ) (left_since : D → ℕ → List ℕ → Type 0)
+    → ((disk : D) (image : List ℕ) → left_since disk (moment disk) image → may_leave disk image) → (store : StoreState D) (users : List User)
+    → IsRepresented shown may_leave store → store.tables ≡ users_alone users → LeavesOnly moment left_since store.disk store.disk (IsMaking users)
+store_stays shown may_leave moment left_since only_now store users stands is =
+    weaker moment left_since store.disk store.disk (λ image. Represents image store.tables) (IsMaking users)
+    (idle shown may_leave moment left_since only_now store.disk store.journal store.tables stands) (λ image held. inr (subst (λ (t : Tables). Represents image t) is held))

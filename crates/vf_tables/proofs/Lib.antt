@@ -3,3 +3,6 @@ pub mod Sizes
 mod Ranges
 mod Snapshots
 mod Shown
+mod Distinct
+mod Made
+mod Stays

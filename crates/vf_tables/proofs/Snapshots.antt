@@ -34,7 +34,7 @@ NoneMeant meant entries = list_all (λ other. not (meant other)) entries ≡ tru
 
 module _ {A : Type 0} where
   -- entries that all differ from each other differ from those before them
-  none_before : (same : A → A → Bool) → ((x y : A) → same x y ≡ same y x) → (done : List A) (entry : A) (rest : List A) → all_differ same (done ++ entry ∷ rest) ≡ true → NoneMeant (same entry) done
+  pub none_before : (same : A → A → Bool) → ((x y : A) → same x y ≡ same y x) → (done : List A) (entry : A) (rest : List A) → all_differ same (done ++ entry ∷ rest) ≡ true → NoneMeant (same entry) done
   none_before same symmetric [] entry rest differ = refl
   none_before same symmetric (x ∷ done) entry rest differ =
       let others = list_all (λ other. not (same x other)) (done ++ entry ∷ rest) in
@@ -74,7 +74,7 @@ module _ {A : Type 0} where
   find_stops true x found is = refl
   find_stops false x found is = cc
 
-  found_at : (meant : A → Bool) (done : List A) (entry : A) (rest : List A) → NoneMeant meant done → meant entry ≡ true → find meant (done ++ entry ∷ rest) ≡ Some entry
+  pub found_at : (meant : A → Bool) (done : List A) (entry : A) (rest : List A) → NoneMeant meant done → meant entry ≡ true → find meant (done ++ entry ∷ rest) ≡ Some entry
   found_at meant [] entry rest none is = find_stops (meant entry) entry (find meant rest) is
   found_at meant (other ∷ done) entry rest none is =
       find_passes (meant other) other (find meant (done ++ entry ∷ rest)) (first_of (not (meant other)) (list_all (λ o. not (meant o)) done) none)
@@ -90,7 +90,7 @@ module _ {A : Type 0} where
 same_user : (x y : User) → is_user x.identity y ≡ is_user y.identity x
 same_user x y = nat_list_eq_equiv.symm x.identity y.identity
 
-same_file : (x y : File) → is_file x.name y ≡ is_file y.name x
+pub same_file : (x y : File) → is_file x.name y ≡ is_file y.name x
 same_file x y = nat_list_eq_equiv.symm x.name y.name
 
 same_number : (a b : ℕ) → nat_eq a b ≡ nat_eq b a

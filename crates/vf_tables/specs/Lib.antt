@@ -2,7 +2,9 @@ pub mod Entries
 pub mod Places
 pub mod Changes
 pub mod Fitting
+pub mod Sums
 pub mod Validity
 pub mod Making
+pub mod Staying
 pub mod Snapshot
 pub mod Laws

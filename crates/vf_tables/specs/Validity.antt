@@ -1,9 +1,10 @@
 -- Which tables are valid (profile): those that a filestore may keep. What each regime and each task has kept agrees
 -- with the files and with each other.
+pub use Rattle.vf_tables.specs.Sums.{octets_of_files, octets_staged, elements_staged}
 use Rattle.std.specs.Prelude.{ℕ, ◌+◌, ◌-◌, Bool, true, false, ◌&&◌, ◌||◌, not, nat_eq, nat_le, nat_lt, bit_and, List, [], ◌∷◌, length, find, Result, Ok, Err, is_none, if◌then◌else◌}
 use Rattle.std.specs.Cmp.Lexicographic.{pointwise}
 use Rattle.std.specs.Int.{bit_at}
-use Rattle.std.specs.List.{list_all, sum_by, zip}
+use Rattle.std.specs.List.{list_all, zip}
 use Rattle.std.specs.Option.{option_map_or}
 use Rattle.vf_attr.specs.declared.file.File.{File}
 use Rattle.vf_base.specs.declared.access.Constraint.{Constraint}
@@ -18,7 +19,7 @@ use Rattle.vf_doctype.specs.Checks.{fault}
 use Rattle.vf_doctype.specs.DocumentTypes.{constraint_of, doc_type}
 use Rattle.vf_doctype.specs.declared.doc_type.DocType.{DocType}
 use Rattle.vf_tree.specs.Contexts.{shown}
-use Rattle.vf_tree.specs.FileTree.{FileTree, octets_in, octets_of, octets_of_unit}
+use Rattle.vf_tree.specs.FileTree.{FileTree, octets_of}
 use Rattle.vf_tree.specs.TreeRefusal.{TreeRefusal}
 use Rattle.vf_tree.specs.declared.limits.TheConstants.{MOST_FILE_OCTETS, MOST_FILE_PARTS}
 use Rattle.vf_locks.specs.Clash.{clash, is_use}
@@ -53,9 +54,6 @@ is_file_of file doc =
 
 abbrev pub is_valid_file : File → Bool
 is_valid_file file = nat_le (length file.terms) MOST_TERMS && option_map_or (is_file_of file) (doc_type file.contents) false
-
-abbrev pub octets_of_files : List File → ℕ
-octets_of_files files = sum_by (λ (file : File). octets_in file.tree.units) files
 
 -- REGIMES. The actions that a constraint set has in a mode (ISO 8571-2; profile): read 1, insert 2, replace 4,
 -- extend 8, erase 16.
@@ -133,12 +131,6 @@ abbrev pub pieces_of : Regime → Direction → ℕ
 pieces_of regime (Write operation) = regime.point
 pieces_of regime (Read context) = 0
 pieces_of regime Idle = 0
-
-abbrev pub octets_staged : List (List Element) → ℕ
-octets_staged pieces = sum_by octets_of_unit pieces
-
-abbrev pub elements_staged : List (List Element) → ℕ
-elements_staged pieces = sum_by (λ (piece : List Element). length piece) pieces
 
 abbrev pub is_valid_docket : List File → Docket → Bool
 is_valid_docket files docket =

@@ -1,12 +1,11 @@
 //! Changes made: tables after a change, and after all of a list of changes.
-ghost use Rattle.std.specs.Prelude.{◌≡◌, ◌<◌, IfOk, IfSome, OnErr, OnOk, length};
+ghost use Rattle.std.specs.Prelude.{◌≡◌, IfOk, OnErr, OnOk};
 ghost use Rattle.vf_tables.specs.Changes.{after, after_all, cut_to, renamed, task_cut_to, with_piece, with_plan, with_regime, with_task_piece};
 ghost use Rattle.vf_tables.specs.Entries.{changed, dropped, is_docket, is_file, is_task, is_user, put};
 
-use crate::places::{place_of_docket, place_of_file, place_of_task, place_of_user};
+use crate::places::{place_of_docket, place_of_task};
 use crate::{
-    Change, Changes, Docket, Dockets, Entries, Files, Plan, Regime, Tables, Task, Tasks, User,
-    Users,
+    Change, Changes, Docket, Dockets, Files, Pieces, Plan, Regime, Tables, Task, Tasks, User, Users,
 };
 use std::alloc::Global;
 use vf_attr::{Attributes, File};
@@ -18,9 +17,7 @@ impl Tables {
         ensures { IfOk result (λ tables. tables ≡ after_all self.now changes.now) }
     {
         let mut tables = self.copy(alloc)?;
-        for change in changes {
-            tables.make(alloc, change)?;
-        }
+        tables.make_all(alloc, changes)?;
         Ok(tables)
     }
 
@@ -30,6 +27,16 @@ impl Tables {
         ensures err { OnErr result (self.new ≡ self.old) }
     {
         *self = self.with(alloc, changes)?;
+        Ok(())
+    }
+
+    /// Makes the changes in their order. Without memory they may be made in part.
+    pub(crate) fn make_all(&mut self, alloc: Global, changes: &[Change]) -> Result<(), NoMemory>
+        ensures { OnOk result (self.new ≡ after_all self.old changes.now) }
+    {
+        for change in changes {
+            self.make(alloc, change)?;
+        }
         Ok(())
     }
 
@@ -77,8 +84,11 @@ fn put_user(alloc: Global, users: &mut Users, user: &User) -> Result<(), NoMemor
     ensures { OnOk result (users.new ≡ put (is_user user.now.identity) user.now users.old) }
 {
     let user = user.copy(alloc)?;
-    let place = place_of_user(users.as_slice(), &user.identity);
-    users.put(place, user)?;
+    let Some(place) = users.place_of(&user.identity) else {
+        users.push(user)?;
+        return Ok(());
+    };
+    users.replace(place, user)?;
     Ok(())
 }
 
@@ -86,8 +96,11 @@ fn put_file(alloc: Global, files: &mut Files, file: &File) -> Result<(), NoMemor
     ensures { OnOk result (files.new ≡ put (is_file file.now.name) file.now files.old) }
 {
     let file = file.copy(alloc)?;
-    let place = place_of_file(files.as_slice(), &file.name);
-    files.put(place, file)?;
+    let Some(place) = files.place_of(&file.name) else {
+        files.push(file)?;
+        return Ok(());
+    };
+    files.replace(place, file)?;
     Ok(())
 }
 
@@ -120,6 +133,22 @@ fn rename(file: &mut File, name: Name, attributes: Attributes)
     file.name = name;
 }
 
+/// The file with this name and these attributes; octets are shared.
+fn renamed_copy(
+    alloc: Global,
+    file: &File,
+    name: &Name,
+    attributes: &Attributes,
+) -> Result<File, NoMemory>
+    ensures { IfOk result (λ made. made ≡ renamed name.now attributes.now file.now) }
+{
+    let mut made = file.copy(alloc)?;
+    let name = name.copy(alloc)?;
+    let attributes = copied(alloc, attributes)?;
+    rename(&mut made, name, attributes);
+    Ok(made)
+}
+
 fn put_attributes(
     alloc: Global,
     files: &mut Files,
@@ -129,20 +158,21 @@ fn put_attributes(
 ) -> Result<(), NoMemory>
     ensures { OnOk result (files.new ≡ changed (is_file old.now) (renamed name.now attributes.now) files.old) }
 {
-    let Some(place) = place_of_file(files.as_slice(), old) else {
+    let Some(place) = files.place_of(old) else {
         return Ok(());
     };
-    let name = name.copy(alloc)?;
-    let attributes = copied(alloc, attributes)?;
-    rename(&mut files.items[place], name, attributes);
+    let file = renamed_copy(alloc, &files.as_slice()[place], name, attributes)?;
+    files.replace(place, file)?;
     Ok(())
 }
 
 fn drop_file(files: &mut Files, name: &Name) -> Result<(), NoMemory>
     ensures { OnOk result (files.new ≡ dropped (is_file name.now) files.old) }
 {
-    let place = place_of_file(files.as_slice(), name);
-    files.drop_at(place);
+    let Some(place) = files.place_of(name) else {
+        return Ok(());
+    };
+    files.remove(place);
     Ok(())
 }
 
@@ -159,7 +189,7 @@ fn put_regime(alloc: Global, dockets: &mut Dockets, regime: &Regime) -> Result<(
     let Some(place) = place_of_docket(dockets.as_slice(), &regime.identity, regime.activity) else {
         dockets.push(Docket {
             regime: made,
-            staged: Entries::new(alloc),
+            staged: Pieces::new(alloc),
         })?;
         return Ok(());
     };
@@ -233,7 +263,7 @@ fn put_plan(alloc: Global, tasks: &mut Tasks, plan: &Plan) -> Result<(), NoMemor
     let Some(place) = place_of_task(tasks.as_slice(), plan.activity) else {
         tasks.push(Task {
             plan: made,
-            staged: Entries::new(alloc),
+            staged: Pieces::new(alloc),
         })?;
         return Ok(());
     };

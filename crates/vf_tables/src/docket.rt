@@ -1,10 +1,8 @@
 ghost use Rattle.std.specs.Prelude.{◌≡◌, IfOk};
 
-use crate::Entries;
+use crate::Pieces;
 use std::alloc::Global;
-use vf_base::{
-    Actions, Context, Controls, Duplicate, Elements, FaduId, Name, NoMemory, Octets, copy_option,
-};
+use vf_base::{Actions, Context, Controls, Duplicate, FaduId, Name, NoMemory, Octets, copy_option};
 
 /// What a write does at the FADU that it names (ISO 8571-3, F-WRITE; the numbers are profile).
 #[derive(Clone, Copy, Debug, PartialEq, Eq)]
@@ -96,7 +94,7 @@ impl Regime {
 #[derive(Drop)]
 pub struct Docket {
     pub regime: Regime,
-    pub staged: Entries<Elements>,
+    pub staged: Pieces,
 }
 
 impl Docket {

@@ -1,5 +1,5 @@
 ghost use Rattle.std.specs.Prelude.{◌≡◌, ◌++◌, ◌<◌, [], ◌∷◌, IfOk, IfSome, OnOk, OnErr, length, slice_get, option_copied, take};
-ghost use Rattle.vf_tables.specs.Places.{put_at, dropped_at};
+ghost use Rattle.vf_tables.specs.Places.{dropped_at};
 
 use std::alloc::Global;
 use std::marker::Model;
@@ -57,18 +57,6 @@ impl<T: Drop> Entries<T> {
         ensures err { OnErr result (self.new ≡ self.old) }
     {
         self.items.push(entry)?;
-        Ok(())
-    }
-
-    /// Puts an entry in the place of another, or after all others where there is no such place.
-    pub(crate) fn put(&mut self, place: Option<usize>, entry: T) -> Result<(), NoMemory>
-        requires { IfSome place (λ place. place < length self.old) }
-        ensures { OnOk result (self.new ≡ put_at place entry self.old) }
-    {
-        match place {
-            Some(place) => self.items[place] = entry,
-            None => self.items.push(entry)?,
-        }
         Ok(())
     }
 

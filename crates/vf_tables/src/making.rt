@@ -1,6 +1,10 @@
 //! What a record of changes makes of tables.
-ghost use Rattle.std.specs.Prelude.{◌≡◌, IfOk};
-ghost use Rattle.vf_tables.specs.Making.{fitted_by, made_of};
+ghost use Rattle.std.specs.Prelude.{◌≡◌, IfOk, true};
+ghost use Rattle.vf_tables.specs.Changes.{after_all};
+ghost use Rattle.vf_tables.specs.Making.{MayBeMade, fitted_by, made_of};
+ghost use Rattle.vf_tables.specs.Staying.{AreValid};
+ghost use Rattle.vf_tables.specs.Validity.{is_valid};
+ghost use Rattle.vf_tables.specs.declared.tables.Tables.{Tables as TablesMeant};
 
 use crate::{Change, Tables};
 use std::alloc::Global;
@@ -12,26 +16,55 @@ impl Tables {
     pub fn made(&self, alloc: Global, changes: &[Change]) -> Result<Option<Tables>, NoMemory>
         ensures { IfOk result (λ made. made ≡ made_of self.now changes.now) }
     {
-        let Some(tables) = self.fitted(alloc, changes)? else {
-            return Ok(None);
-        };
-        if !tables.is_valid() {
+        let mut tables = self.copy(alloc)?;
+        if !tables.make_record(alloc, changes, false)? {
             return Ok(None);
         }
         Ok(Some(tables))
     }
 
-    /// The tables after these changes; `None` exactly where one doesn't fit the tables before it.
-    fn fitted(&self, alloc: Global, changes: &[Change]) -> Result<Option<Tables>, NoMemory>
-        ensures { IfOk result (λ fitted. fitted ≡ fitted_by self.now changes.now) }
+    /// Makes the changes of a record; `false` exactly where one doesn't fit the tables before it, or the tables after all
+    /// of them aren't valid. Then they may be made in part, and so without memory. That the tables `were_valid` spares a
+    /// look at the files that stay.
+    pub(crate) fn make_record(
+        &mut self,
+        alloc: Global,
+        changes: &[Change],
+        were_valid: bool,
+    ) -> Result<bool, NoMemory>
+        requires { were_valid ≡ true → AreValid self.old }
+        ensures { IfOk result (λ is_made. MayBeMade (made_of self.old changes.now) self.new is_made) }
     {
-        let mut tables = self.copy(alloc)?;
-        for change in changes {
-            if !tables.fits(change) {
-                return Ok(None);
-            }
-            tables.make(alloc, change)?;
+        if !self.make_fitting(alloc, changes)? {
+            return Ok(false);
         }
-        Ok(Some(tables))
+        if !self.are_valid_after(changes, were_valid) {
+            return Ok(false);
+        }
+        Ok(true)
+    }
+
+    /// Whether these tables are valid, to which the changes led from others.
+    fn are_valid_after(&self, changes: &[Change], were_valid: bool) -> bool
+        requires { were_valid ≡ true → (before : TablesMeant) × AreValid before × (self.now ≡ after_all before changes.now) }
+        ensures { result ≡ is_valid self.now }
+    {
+        if were_valid {
+            return self.stay_valid(changes);
+        }
+        self.is_valid()
+    }
+
+    /// Makes the changes; `false` exactly where one doesn't fit the tables before it.
+    fn make_fitting(&mut self, alloc: Global, changes: &[Change]) -> Result<bool, NoMemory>
+        ensures { IfOk result (λ is_made. MayBeMade (fitted_by self.old changes.now) self.new is_made) }
+    {
+        for change in changes {
+            if !self.fits(change) {
+                return Ok(false);
+            }
+            self.make(alloc, change)?;
+        }
+        Ok(true)
     }
 }

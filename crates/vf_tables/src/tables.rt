@@ -1,17 +1,15 @@
 ghost use Rattle.std.specs.Prelude.{◌≡◌, IfOk, option_copied};
 ghost use Rattle.vf_tables.specs.Entries.{docket_of, file_of, no_tables, task_of, user_of};
 
-use crate::places::{docket_in, file_in, task_in, user_in};
-use crate::{Docket, Entries, Task, User};
+use crate::places::{docket_in, task_in};
+use crate::{Docket, Entries, Files, Task, User};
 use std::alloc::Global;
 use vf_attr::File;
 use vf_base::{Name, NoMemory};
+use vf_named::Named;
 
-/// The users, in the order in which they were made.
-pub type Users = Entries<User>;
-
-/// The files, in the order in which they were made.
-pub type Files = Entries<File>;
+/// The users, in the order in which they were made, found by their identities.
+pub type Users = Named<User>;
 
 /// The dockets of recoverable regimes, those of the regimes that stand among them, in the order of their opens.
 pub type Dockets = Entries<Docket>;
@@ -34,8 +32,8 @@ impl Tables {
         ensures { result ≡ no_tables }
     {
         Tables {
-            users: Entries::new(alloc),
-            files: Entries::new(alloc),
+            users: Named::new(alloc),
+            files: Files::new(alloc),
             dockets: Entries::new(alloc),
             tasks: Entries::new(alloc),
         }
@@ -45,14 +43,14 @@ impl Tables {
     pub fn user(&self, identity: &Name) -> Option<&User>
         ensures { option_copied result ≡ user_of identity.now self.now }
     {
-        user_in(self.users.as_slice(), identity)
+        self.users.with_name(identity)
     }
 
     /// The file of this name; `None` exactly where there is none.
     pub fn file(&self, name: &Name) -> Option<&File>
         ensures { option_copied result ≡ file_of name.now self.now }
     {
-        file_in(self.files.as_slice(), name)
+        self.files.with_name(name)
     }
 
     /// The docket of this identity and activity; `None` exactly where there is none.
@@ -90,7 +88,7 @@ impl Tables {
 fn copied(alloc: Global, files: &[File]) -> Result<Files, NoMemory>
     ensures { IfOk result (λ made. made ≡ files.now) }
 {
-    let mut made = Entries::new(alloc);
+    let mut made = Files::new(alloc);
     for file in files {
         let file = file.copy(alloc)?;
         made.push(file)?;

@@ -1,8 +1,8 @@
 ghost use Rattle.std.specs.Prelude.{◌≡◌, IfOk};
 
-use crate::Entries;
+use crate::Pieces;
 use std::alloc::Global;
-use vf_base::{Duplicate, Elements, Name, NoMemory};
+use vf_base::{Duplicate, Name, NoMemory};
 
 /// Whether a task fetches a file or sends one.
 #[derive(Clone, Copy, Debug, PartialEq, Eq)]
@@ -72,7 +72,7 @@ impl Plan {
 #[derive(Drop)]
 pub struct Task {
     pub plan: Plan,
-    pub staged: Entries<Elements>,
+    pub staged: Pieces,
 }
 
 impl Task {

@@ -2,6 +2,7 @@ ghost use Rattle.std.specs.Prelude.{◌≡◌, IfOk};
 
 use std::alloc::Global;
 use vf_base::{Duplicate, Name, NoMemory, Octets, copy_option};
+use vf_named::HasName;
 
 /// A user of the filestore (profile).
 #[derive(Drop)]
@@ -26,5 +27,13 @@ impl Duplicate for User {
     fn duplicate(&self, alloc: Global) -> Result<User, NoMemory> {
         let made = self.copy(alloc)?;
         Ok(made)
+    }
+}
+
+impl HasName for User {
+    ghost name_of = { λ user. user.identity };
+
+    fn name(&self) -> &Name {
+        &self.identity
     }
 }

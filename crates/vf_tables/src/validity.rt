@@ -1,26 +1,29 @@
 //! Whether tables are valid, which a filestore may keep.
-ghost use Rattle.std.specs.Prelude.{◌≡◌, ◌&&◌, ◌<◌, Bool, List, false, find, is_none, length, min, nat_le, not};
+ghost use Rattle.std.specs.Prelude.{◌≡◌, ◌&&◌, ◌<◌, Bool, List, false, find, is_none, length, nat_le, not, true};
 ghost use Rattle.std.specs.List.{list_all, zip};
 ghost use Rattle.std.specs.Option.{option_map_or};
+ghost use Rattle.vf_attr.specs.declared.file.File.{File as FileValue};
 ghost use Rattle.vf_base.specs.declared.action.Control.{Control as ControlValue};
 ghost use Rattle.vf_base.specs.declared.element.Element.{Element as ElementValue};
 ghost use Rattle.vf_doctype.specs.Checks.{fault};
 ghost use Rattle.vf_locks.specs.Clash.{clash, is_use as use_meant};
-ghost use Rattle.vf_tables.specs.Entries.{is_file};
-ghost use Rattle.vf_tables.specs.Validity.{action_of as action_meant, all_differ as differ_meant, are_controlled as controlled_meant, are_within as within_meant, came_from as came_meant, comes_to, elements_staged, exclude as exclude_meant, have_keys as keys_meant, includes as includes_meant, is_controlled as is_controlled_meant, is_file_of as file_of_meant, is_read as read_meant, is_regime_on as regime_on_meant, is_shown as shown_meant, is_transfer as transfer_meant, is_valid as valid_meant, is_valid_docket as valid_docket_meant, is_valid_file as valid_file_meant, is_valid_task as valid_task_meant, is_write as write_meant, is_written as written_meant, modes as modes_meant, octets_of_files, octets_staged, pieces_for as pieces_for_meant, pieces_of as pieces_meant};
+ghost use Rattle.vf_tables.specs.Entries.{is_file, is_user};
+ghost use Rattle.vf_tables.specs.Staying.{puts_valid as puts_meant, stay_valid as stay_meant};
+ghost use Rattle.vf_tables.specs.Validity.{action_of as action_meant, all_differ as differ_meant, are_controlled as controlled_meant, are_within as within_meant, came_from as came_meant, comes_to, exclude as exclude_meant, have_keys as keys_meant, includes as includes_meant, is_controlled as is_controlled_meant, is_file_of as file_of_meant, is_read as read_meant, is_regime_on as regime_on_meant, is_shown as shown_meant, is_transfer as transfer_meant, is_valid as valid_meant, is_valid_docket as valid_docket_meant, is_valid_file as valid_file_meant, is_valid_task as valid_task_meant, is_write as write_meant, is_written as written_meant, modes as modes_meant, pieces_for as pieces_for_meant, pieces_of as pieces_meant};
+ghost use Rattle.vf_tables.specs.declared.user.User.{User as UserValue};
 ghost use Rattle.vf_tree.specs.Contexts.{reading_flat};
-ghost use Rattle.vf_tree.specs.FileTree.{octets_of as octets_meant, octets_of_unit};
+ghost use Rattle.vf_tree.specs.FileTree.{octets_of as octets_meant};
 ghost use Rattle.vf_tree.specs.Identities.{standing};
 
-use crate::places::file_in;
 use crate::{
-    Direction, Docket, MOST_DOCKETS, MOST_FILES, MOST_FILESTORE_OCTETS, MOST_SURVIVING_ELEMENTS,
-    MOST_SURVIVING_OCTETS, MOST_TASKS, MOST_TERMS, MOST_USERS, Operation, Phase, Regime, Tables,
-    Task, User, Way,
+    Change, Direction, Docket, Files, MOST_DOCKETS, MOST_FILES, MOST_FILESTORE_OCTETS,
+    MOST_SURVIVING_ELEMENTS, MOST_SURVIVING_OCTETS, MOST_TASKS, MOST_TERMS, MOST_USERS, Operation,
+    Phase, Regime, Tables, Task, User, Users, Way,
 };
 use vf_attr::File;
 use vf_base::{
-    Constraint, Context, Control, Controls, DataUnit, Element, Elements, FaduId, MOST_STRING_OCTETS,
+    Constraint, Context, Control, Controls, DataUnit, Element, Elements, FaduId,
+    MOST_STRING_OCTETS, Name,
 };
 use vf_doctype::DocType;
 use vf_tree::{MOST_FILE_OCTETS, MOST_FILE_PARTS, Tree, octets_of};
@@ -101,6 +104,26 @@ fn all_differ<T: Keyed>(entries: &[T]) -> bool
     true
 }
 
+/// Whether no two users have one identity.
+fn users_differ(users: &Users) -> bool
+    ensures { result ≡ differ_meant (λ (user : UserValue). is_user user.identity) users.now }
+{
+    if users.are_distinct() {
+        return true;
+    }
+    all_differ(users.as_slice())
+}
+
+/// Whether no two files have one name.
+fn files_differ(files: &Files) -> bool
+    ensures { result ≡ differ_meant (λ (file : FileValue). is_file file.name) files.now }
+{
+    if files.are_distinct() {
+        return true;
+    }
+    all_differ(files.as_slice())
+}
+
 fn is_string_of(doc: &DocType, element: &Element) -> bool
     ensures { result ≡ is_none (fault doc.now element.now) }
 {
@@ -137,17 +160,6 @@ fn is_valid_file(file: &File) -> bool
         Some(doc) => is_file_of(file, &doc),
         None => false,
     }
-}
-
-/// The octets of all strings of files, or the type's end where they are more.
-fn octets_of_all(files: &[File]) -> u64
-    ensures { result ≡ min (octets_of_files files.now) 18446744073709551615 }
-{
-    let mut octets: u64 = 0;
-    for file in files {
-        octets = octets.saturating_add(file.tree.size());
-    }
-    octets
 }
 
 fn modes(constraint: Constraint) -> u8
@@ -303,56 +315,22 @@ fn pieces_of(regime: &Regime) -> u32
     }
 }
 
-/// The octets of a piece's strings, or the type's end where they are more.
-fn octets_of_piece(piece: &[Element]) -> u64
-    ensures { result ≡ min (octets_of_unit piece.now) 18446744073709551615 }
-{
-    let mut octets: u64 = 0;
-    for element in piece {
-        octets = octets.saturating_add(octets_of(element));
-    }
-    octets
-}
-
-/// The octets of all pieces, or the type's end where they are more.
-fn octets_of_pieces(pieces: &[Elements]) -> u64
-    ensures { result ≡ min (octets_staged pieces.now) 18446744073709551615 }
-{
-    let mut octets: u64 = 0;
-    for piece in pieces {
-        octets = octets.saturating_add(octets_of_piece(piece.as_slice()));
-    }
-    octets
-}
-
-/// The elements of all pieces, or the type's end where they are more.
-fn elements_of_pieces(pieces: &[Elements]) -> u64
-    ensures { result ≡ min (elements_staged pieces.now) 18446744073709551615 }
-{
-    let mut elements: u64 = 0;
-    for piece in pieces {
-        elements = elements.saturating_add(piece.len() as u64);
-    }
-    elements
-}
-
-fn is_regime_among(files: &[File], regime: &Regime) -> bool
+fn is_regime_among(files: &Files, regime: &Regime) -> bool
     ensures { result ≡ option_map_or (regime_on_meant regime.now) (find (is_file regime.now.file) files.now) false }
 {
-    match file_in(files, &regime.file) {
+    match files.with_name(&regime.file) {
         Some(file) => is_regime_on(regime, file),
         None => false,
     }
 }
 
-fn is_valid_docket(files: &[File], docket: &Docket) -> bool
+fn is_valid_docket(files: &Files, docket: &Docket) -> bool
     ensures { result ≡ valid_docket_meant files.now docket.now }
 {
-    let pieces = docket.staged.as_slice();
     is_regime_among(files, &docket.regime)
-        && pieces.len() == pieces_of(&docket.regime) as usize
-        && octets_of_pieces(pieces) <= MOST_SURVIVING_OCTETS as u64
-        && elements_of_pieces(pieces) <= MOST_SURVIVING_ELEMENTS as u64
+        && docket.staged.len() == pieces_of(&docket.regime) as usize
+        && docket.staged.octets() <= MOST_SURVIVING_OCTETS as u64
+        && docket.staged.elements() <= MOST_SURVIVING_ELEMENTS as u64
 }
 
 fn clashes(one: Control, other: Control) -> bool
@@ -430,11 +408,10 @@ fn have_short_strings(pieces: &[Elements]) -> bool
 fn is_valid_task(task: &Task) -> bool
     ensures { result ≡ valid_task_meant task.now }
 {
-    let pieces = task.staged.as_slice();
-    pieces.len() as u64 == pieces_for(task.plan.way, task.plan.point, task.plan.phase)
-        && have_short_strings(pieces)
-        && octets_of_pieces(pieces) <= MOST_FILE_OCTETS
-        && elements_of_pieces(pieces) <= MOST_FILE_PARTS as u64
+    task.staged.len() as u64 == pieces_for(task.plan.way, task.plan.point, task.plan.phase)
+        && have_short_strings(task.staged.as_slice())
+        && task.staged.octets() <= MOST_FILE_OCTETS
+        && task.staged.elements() <= MOST_FILE_PARTS as u64
 }
 
 fn are_valid_files(files: &[File]) -> bool
@@ -443,7 +420,34 @@ fn are_valid_files(files: &[File]) -> bool
     files.iter().all(|file| is_valid_file(file))
 }
 
-fn are_valid_dockets(files: &[File], dockets: &[Docket]) -> bool
+/// Whether the file of this name is valid, where there is one.
+fn is_valid_at(files: &Files, name: &Name) -> bool
+    ensures { result ≡ option_map_or valid_file_meant (find (is_file name.now) files.now) true }
+{
+    match files.with_name(name) {
+        Some(file) => is_valid_file(file),
+        None => true,
+    }
+}
+
+/// Whether the file that the change puts is valid, where it still stands among these.
+fn puts_valid(files: &Files, change: &Change) -> bool
+    ensures { result ≡ puts_meant files.now change.now }
+{
+    match change {
+        Change::PutFile { file } => is_valid_at(files, &file.name),
+        Change::PutAttributes { name, .. } => is_valid_at(files, name),
+        _ => true,
+    }
+}
+
+fn put_valid(files: &Files, changes: &[Change]) -> bool
+    ensures { result ≡ list_all (puts_meant files.now) changes.now }
+{
+    changes.iter().all(|change| puts_valid(files, change))
+}
+
+fn are_valid_dockets(files: &Files, dockets: &[Docket]) -> bool
     ensures { result ≡ list_all (valid_docket_meant files.now) dockets.now }
 {
     dockets.iter().all(|docket| is_valid_docket(files, docket))
@@ -460,8 +464,8 @@ impl Tables {
     fn have_keys(&self) -> bool
         ensures { result ≡ keys_meant self.now }
     {
-        all_differ(self.users.as_slice())
-            && all_differ(self.files.as_slice())
+        users_differ(&self.users)
+            && files_differ(&self.files)
             && all_differ(self.dockets.as_slice())
             && all_differ(self.tasks.as_slice())
     }
@@ -474,7 +478,21 @@ impl Tables {
             && self.files.len() <= MOST_FILES
             && self.dockets.len() <= MOST_DOCKETS
             && self.tasks.len() <= MOST_TASKS
-            && octets_of_all(self.files.as_slice()) <= MOST_FILESTORE_OCTETS
+            && self.files.octets() <= MOST_FILESTORE_OCTETS
+    }
+
+    /// Whether a filestore may keep these tables, to which the changes led from valid ones: of the files only those are
+    /// looked at that the changes put.
+    pub(crate) fn stay_valid(&self, changes: &[Change]) -> bool
+        ensures { result ≡ stay_meant self.now changes.now }
+    {
+        let dockets = self.dockets.as_slice();
+        self.have_keys()
+            && self.are_within()
+            && put_valid(&self.files, changes)
+            && are_valid_dockets(&self.files, dockets)
+            && none_exclude(dockets)
+            && are_valid_tasks(self.tasks.as_slice())
     }
 
     /// Whether a filestore may keep these tables: no two entries have one key, all limits hold, each file is of its
@@ -482,12 +500,11 @@ impl Tables {
     pub fn is_valid(&self) -> bool
         ensures { result ≡ valid_meant self.now }
     {
-        let files = self.files.as_slice();
         let dockets = self.dockets.as_slice();
         self.have_keys()
             && self.are_within()
-            && are_valid_files(files)
-            && are_valid_dockets(files, dockets)
+            && are_valid_files(self.files.as_slice())
+            && are_valid_dockets(&self.files, dockets)
             && none_exclude(dockets)
             && are_valid_tasks(self.tasks.as_slice())
     }

@@ -2,6 +2,9 @@ use Rattle.vf_store_commands.specs.Making.{disk_in}
 use Rattle.vf_store_commands.proofs.NewStores.{store_leaves}
 use Rattle.vf_store_commands.proofs.making.store_with.Goals as goal
 
+pub returns-clause-made : goal.returns-clause-made
+returns-clause-made g c = λ users are is shows. c.commit_users.ensures.made users are is (c.in_ok-store.ensures.new shows)
+
 pub returns-clause-errors : goal.returns-clause-errors
 returns-clause-errors g c = λ users are is shows. c.commit_users.ensures.errors users are is (c.in_ok-store.ensures.new shows)
 

@@ -1,6 +1,0 @@
-use Rattle.std.proofs.Common.{◌≡◌, min, take}
-use Rattle.vf_tree.specs.FileTree.{octets_of_unit}
-use Rattle.vf_tables.proofs.validity.octets_of_piece.Given as goal
-
-abbrev pub invariant-loop-element : goal.invariant-loop-element
-invariant-loop-element l = l.octets ≡ min (octets_of_unit (take l.element-index l.piece)) 18446744073709551615
