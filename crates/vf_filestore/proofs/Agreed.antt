@@ -35,12 +35,12 @@ use Rattle.vf_pdu_fields.specs.declared.controls.ContentControls.{ContentControl
 use Rattle.vf_filestore.specs.Aborts.{Setting}
 use Rattle.vf_filestore.specs.Conclusion.{concluding_entry, dockets_after, history_of, taken_up}
 use Rattle.vf_filestore.specs.Controls.{attribute_controls, attributes_usable, content_controls, contents_usable, joined, not_opened}
-use Rattle.vf_filestore.specs.Decision.{Grants, made_unless, open_decision, opened_by, request_decision, units_for, wanted_by}
+use Rattle.vf_filestore.specs.Decision.{Grants, made_unless, open_decision, opened_by, opening_rows, request_decision, units_for, wanted_by}
 use Rattle.vf_filestore.specs.Diagnostics.{attribute_unsupported, contents_mismatch, first_row, name_exists, not_permitted, outside_constraint_set, row, store_full}
 use Rattle.vf_filestore.specs.Ending.{stamp_of}
 use Rattle.vf_filestore.specs.History.{Given, Nothing, History, Regime, Selection, regime, renamed, selection}
-use Rattle.vf_filestore.specs.Holders.{clash_row, controls_by, held_by, held_by_docket, held_by_party, held_in, holders, opened_controls}
-use Rattle.vf_filestore.specs.Opening.{activity_rows, is_mismatch, open_rows}
+use Rattle.vf_filestore.specs.Holders.{clash_row, controls_by, held_by, held_by_docket, held_by_party, held_files, held_in, holders, opened_controls}
+use Rattle.vf_filestore.specs.Opening.{activity_rows, is_mismatch}
 use Rattle.vf_filestore.specs.Selecting.{Wanted, create_by, create_rows, is_taken, rename_row, rows_on, select_rows, selection_rows, typed_rows}
 use Rattle.vf_filestore.specs.Sound.{IsSoundDocket, IsSoundIn, IsSoundParty, IsThere, Use, are_clashing, do_clash, use_by, use_in, use_of_docket, use_of_party}
 use Rattle.vf_filestore.specs.Stage.{regime_stage}
@@ -106,7 +106,7 @@ pub record IsLet (state : State) (link : ℕ) (file : List ℕ) (wanted : Contro
   pub parties : AllByRecursion (λ (party : StandingParty). IsOff link party → AllByRecursion (Fits file wanted) (use_of_party party)) state.parties
   pub dockets : AllByRecursion (λ (docket : states.Docket). AllByRecursion (Fits file wanted) (use_of_docket docket)) state.dockets
 
-let_through : (state : State) (link : ℕ) (file : List ℕ) (wanted : Controls) → length wanted.each ≤ 8 → clash_row state link file wanted ≡ None → IsLet state link file wanted
+let_through : (state : State) (link : ℕ) (file : List ℕ) (wanted : Controls) → length wanted.each ≤ 8 → clash_row (holders state file) link wanted ≡ None → IsLet state link file wanted
 let_through state link file wanted short row_is =
     let none = none_mapped _ (conflict (Party link) wanted (holders state file)) row_is in
     let lets = all_unfiltered (λ (held : Held). lowest_clash wanted held.controls ≡ None) (λ (held : Held). not (is_same held.holder (Party link))) (holders state file)
@@ -134,7 +134,7 @@ pub record IsAmong (state : State) (party : StandingParty) (before after : List 
   pub absent : AllByRecursion (IsOff party.link) before
   pub off : AllByRecursion (IsOff party.link) after
 
-abbrev rest_of : State → (before after : List StandingParty) → List Use
+abbrev pub rest_of : State → (before after : List StandingParty) → List Use
 rest_of state before after = flat_map use_of_docket state.dockets ++ (flat_map use_of_party before ++ flat_map use_of_party after)
 
 all_fit : (state : State) (party : StandingParty) (before after : List StandingParty) (P : Use → Type 0) → IsAmong state party before after
@@ -166,41 +166,41 @@ added state before after file wanted fit agreed =
 
 -- ---- selections
 
-select_let : (state : State) (wanted : Wanted) (name : List ℕ) → first_row (select_rows state wanted name) ≡ None → clash_row state wanted.link name (joined not_opened wanted.controls) ≡ None
+select_let : (state : State) (wanted : Wanted) (name : List ℕ) → first_row (select_rows (held_files state) wanted name) ≡ None → clash_row (holders state name) wanted.link (joined not_opened wanted.controls) ≡ None
 select_let state wanted name passed = by (file_named name state.files) refl passed
   where
-    by : (found : Option File) → file_named name state.files ≡ found → first_row (rows_on found (selection_rows state wanted)) ≡ None → clash_row state wanted.link name (joined not_opened wanted.controls) ≡ None
+    by : (found : Option File) → file_named name state.files ≡ found → first_row (rows_on found (selection_rows (held_files state) wanted)) ≡ None → clash_row (holders state name) wanted.link (joined not_opened wanted.controls) ≡ None
     by None is passed = absurd cc
     by (Some file) is passed =
         let first = row (not (attributes_usable wanted.requested wanted.controls)) not_permitted in
         let second = access_row (may file wanted.identity wanted.password wanted.requested) in
-        let third = clash_row state wanted.link file.name (joined not_opened wanted.controls) in
-        ap (λ name. clash_row state wanted.link name (joined not_opened wanted.controls)) (found_name name state.files file is)
+        let third = clash_row (holders state file.name) wanted.link (joined not_opened wanted.controls) in
+        ap (λ name. clash_row (holders state name) wanted.link (joined not_opened wanted.controls)) (found_name name state.files file is)
         ∙ first_passed third [] (later_passed second (third ∷ []) (later_passed first (second ∷ third ∷ []) passed))
 
-selection_let : (state : State) (wanted : Wanted) (file : File) → first_row (selection_rows state wanted file) ≡ None → clash_row state wanted.link file.name (joined not_opened wanted.controls) ≡ None
+selection_let : (state : State) (wanted : Wanted) (file : File) → first_row (selection_rows (held_files state) wanted file) ≡ None → clash_row (holders state file.name) wanted.link (joined not_opened wanted.controls) ≡ None
 selection_let state wanted file passed =
     let first = row (not (attributes_usable wanted.requested wanted.controls)) not_permitted in
     let second = access_row (may file wanted.identity wanted.password wanted.requested) in
-    let third = clash_row state wanted.link file.name (joined not_opened wanted.controls) in
+    let third = clash_row (holders state file.name) wanted.link (joined not_opened wanted.controls) in
     first_passed third [] (later_passed second (third ∷ []) (later_passed first (second ∷ third ∷ []) passed))
 
-create_let : (state : State) (wanted : Wanted) (over : ℕ) (stamp : Stamp) (new : NewFile) (found : Option File) → file_named new.name state.files ≡ found → first_row (create_by state wanted over stamp new found) ≡ None
-    → clash_row state wanted.link new.name (joined not_opened wanted.controls) ≡ None
+create_let : (state : State) (wanted : Wanted) (over : ℕ) (stamp : Stamp) (new : NewFile) (found : Option File) → file_named new.name state.files ≡ found → first_row (create_by (held_files state) wanted over stamp new found) ≡ None
+    → clash_row (holders state new.name) wanted.link (joined not_opened wanted.controls) ≡ None
 create_let state wanted over stamp new (Some file) is passed =
-    ap (λ name. clash_row state wanted.link name (joined not_opened wanted.controls)) (found_name new.name state.files file is)
-    ∙ selection_let state wanted file (later_passed (row (nat_eq over 0) name_exists) (selection_rows state wanted file) passed)
+    ap (λ name. clash_row (holders state name) wanted.link (joined not_opened wanted.controls)) (found_name new.name state.files file is)
+    ∙ selection_let state wanted file (later_passed (row (nat_eq over 0) name_exists) (selection_rows (held_files state) wanted file) passed)
 create_let state wanted over stamp new None is passed = by (doc_type new.contents) passed
   where
-    by : (doc : Option DocType) → first_row (typed_rows state wanted stamp new doc) ≡ None → clash_row state wanted.link new.name (joined not_opened wanted.controls) ≡ None
+    by : (doc : Option DocType) → first_row (typed_rows (held_files state) wanted stamp new doc) ≡ None → clash_row (holders state new.name) wanted.link (joined not_opened wanted.controls) ≡ None
     by None passed = absurd cc
     by (Some doc) passed =
         selection_let state wanted (made new stamp doc)
-        (later_passed (row (not (nat_lt (length state.files) MOST_FILES)) store_full) (selection_rows state wanted (made new stamp doc)) passed)
+        (later_passed (row (not (nat_lt (length state.files) MOST_FILES)) store_full) (selection_rows (held_files state) wanted (made new stamp doc)) passed)
 
 -- what is selected has no open yet
 selected_agreed : (state : State) (party : StandingParty) (before after : List StandingParty) (file : List ℕ) (one : Option Regime) (attributes : AttributeControls) → one ≡ None → IsAmong state party before after
-    → clash_row state party.link file (joined not_opened attributes) ≡ None → IsDistinct do_clash (uses_around state before after [])
+    → clash_row (holders state file) party.link (joined not_opened attributes) ≡ None → IsDistinct do_clash (uses_around state before after [])
     → IsDistinct do_clash (uses_around state before after (record { file = file; controls = joined (opened_controls one) attributes } ∷ []))
 selected_agreed state party before after file one attributes none among lets agreed =
     subst (λ (one : Option Regime). IsDistinct do_clash (uses_around state before after (record { file = file; controls = joined (opened_controls one) attributes } ∷ []))) (sym none)
@@ -210,15 +210,15 @@ selected_agreed state party before after file one attributes none among lets agr
 -- ---- opens
 
 open_let : (state : State) (party : StandingParty) (mode : Actions) (contents : Option Contents) (controls : Option ContentControls) (activity : Option ℕ) (selected : Selection) (given : Given) → selection party.history ≡ Some selected
-    → open_decision state party mode contents controls activity (Some selected) ≡ Grants given → clash_row state party.link selected.file (joined (content_controls mode controls) selected.controls) ≡ None
+    → open_decision state party mode contents controls activity (Some selected) ≡ Grants given → clash_row (holders state selected.file) party.link (joined (content_controls mode controls) selected.controls) ≡ None
 open_let state party mode contents controls activity selected given same is =
     let asked = opened_by party selected mode contents controls activity in
     let unit = unit_row (units_of party) (units_for activity) in
-    let passed = rows_passed (unit ∷ rows_on (selected_file state party.history) (open_rows state asked)) Nothing given is in
-    by (selected_file state party.history) refl (later_passed unit (rows_on (selected_file state party.history) (open_rows state asked)) passed.passed)
+    let passed = rows_passed (unit ∷ rows_on (selected_file state party.history) (opening_rows state asked)) Nothing given is in
+    by (selected_file state party.history) refl (later_passed unit (rows_on (selected_file state party.history) (opening_rows state asked)) passed.passed)
   where
-    by : (found : Option File) → selected_file state party.history ≡ found → first_row (rows_on found (open_rows state (opened_by party selected mode contents controls activity))) ≡ None
-        → clash_row state party.link selected.file (joined (content_controls mode controls) selected.controls) ≡ None
+    by : (found : Option File) → selected_file state party.history ≡ found → first_row (rows_on found (opening_rows state (opened_by party selected mode contents controls activity))) ≡ None
+        → clash_row (holders state selected.file) party.link (joined (content_controls mode controls) selected.controls) ≡ None
     by None is rows = absurd cc
     by (Some file) is rows =
         let asked = opened_by party selected mode contents controls activity in
@@ -226,10 +226,10 @@ open_let state party mode contents controls activity selected given same is =
         let first = row (not (includes asked.selection.requested.value asked.mode.value) || not (contents_usable asked.mode asked.controls)) not_permitted in
         let second = row (is_mismatch asked.contents file.contents) contents_mismatch in
         let third = row (not (includes (modes file.tree.constraint) asked.mode.value)) outside_constraint_set in
-        let fourth = clash_row state asked.link file.name (joined asked.controls asked.selection.controls) in
+        let fourth = clash_row (holders state file.name) asked.link (joined asked.controls asked.selection.controls) in
         let lets = first_passed fourth last (later_passed third (fourth ∷ last) (later_passed second (third ∷ fourth ∷ last) (later_passed first (second ∷ third ∷ fourth ∷ last) rows))) in
         let name : selected.file ≡ file.name = sym (ap file_in same) ∙ found_name (name_in party.history) state.files file is in
-        ap (λ name. clash_row state party.link name (joined (content_controls mode controls) selected.controls)) name ∙ lets
+        ap (λ name. clash_row (holders state name) party.link (joined (content_controls mode controls) selected.controls)) name ∙ lets
 
 -- ---- renaming
 
@@ -247,7 +247,7 @@ there_fits files name controls history none sound = by (selection history) sound
         other false is = is
 
 renamed_agreed : (state : State) (party : StandingParty) (before after : List StandingParty) (name : Option (List ℕ)) (open_one : Option Regime) (one : Option Selection) → IsAmong state party before after
-    → AllByRecursion (IsSoundDocket state.files) state.dockets → AllByRecursion (IsSoundParty state.files) state.parties → is_taken state (file_in one) name ≡ false
+    → AllByRecursion (IsSoundDocket state.files) state.dockets → AllByRecursion (IsSoundParty state.files) state.parties → is_taken state.files (file_in one) name ≡ false
     → IsDistinct do_clash (uses_around state before after (use_by open_one one)) → IsDistinct do_clash (uses_around state before after (use_by open_one (option_map (renamed name) one)))
 renamed_agreed state party before after name open_one None among dockets parties free agreed = agreed
 renamed_agreed state party before after None open_one (Some one) among dockets parties free agreed = agreed
@@ -270,7 +270,7 @@ renamed_agreed state party before after (Some new) open_one (Some one) among doc
 
 -- ---- closing
 
-closed_agreed : (state : State) (before after : List StandingParty) (opened : Regime) (one : Option Selection) → IsDistinct do_clash (uses_around state before after (use_by (Some opened) one))
+pub closed_agreed : (state : State) (before after : List StandingParty) (opened : Regime) (one : Option Selection) → IsDistinct do_clash (uses_around state before after (use_by (Some opened) one))
     → IsDistinct do_clash (uses_around state before after (use_by None one))
 closed_agreed state before after opened None agreed = agreed
 closed_agreed state before after opened (Some one) agreed =
@@ -306,7 +306,7 @@ pub request_agreed : (state : State) (party : StandingParty) (setting : Setting)
 request_agreed state party setting (SelectRequest name requested controls password) given before after is taken among dockets parties agreed =
     let message = messages.Pdu (SelectRequest name requested controls password) in
     let there = in_association_only message (record { reading = refl; shown = refl; writing = refl; written = refl }) refl refl (placed message party.history (placed_request party.history (SelectRequest name requested controls password) taken)) in
-    let passed = rows_passed (select_rows state (wanted_by party requested controls password) name) Nothing given is in
+    let passed = rows_passed (select_rows (held_files state) (wanted_by party requested controls password) name) Nothing given is in
     selected_agreed state party before after name (regime party.history) (attribute_controls requested controls) there.no_regime among (select_let state (wanted_by party requested controls password) name passed.passed)
     (subst (λ (one : Option Selection). IsDistinct do_clash (uses_around state before after (use_by (regime party.history) one))) there.no_selection agreed)
 request_agreed state party setting (CreateRequest over name contents permitted terms requested controls password) given before after is taken among dockets parties agreed =
@@ -316,7 +316,7 @@ request_agreed state party setting (CreateRequest over name contents permitted t
     let wanted = wanted_by party requested controls password in
     let new : NewFile = record { name = name; contents = contents; permitted = permitted; terms = terms } in
     let unit = unit_row (units_of party) limited_management in
-    let rows = create_rows state wanted over (stamp_of party setting.moment) new in
+    let rows = create_rows (held_files state) wanted over (stamp_of party setting.moment) new in
     let passed = rows_passed (unit ∷ rows) (made_unless (file_named name state.files)) given is in
     selected_agreed state party before after name (regime party.history) (attribute_controls requested controls) there.no_regime among
     (create_let state wanted over (stamp_of party setting.moment) new (file_named name state.files) refl (later_passed unit rows passed.passed))
@@ -326,11 +326,11 @@ request_agreed state party setting (ChangeAttribRequest name permitted terms num
     let unit = unit_row (units_of party) enhanced_management in
     let first = row (not (has (requested_in (selection party.history)) actions.ChangeAttribute)) not_permitted in
     let second = row (not (nat_eq number 0)) attribute_unsupported in
-    let third = row (is_taken state old name) name_exists in
-    let fourth = rename_row state party.link old name in
+    let third = row (is_taken state.files old name) name_exists in
+    let fourth = rename_row (holders state old) party.link old name in
     let passed = rows_passed (unit ∷ first ∷ second ∷ third ∷ fourth ∷ []) Nothing given is in
     let left = later_passed second (third ∷ fourth ∷ []) (later_passed first (second ∷ third ∷ fourth ∷ []) (later_passed unit (first ∷ second ∷ third ∷ fourth ∷ []) passed.passed)) in
-    renamed_agreed state party before after name (regime party.history) (selection party.history) among dockets parties (row_passed (is_taken state old name) name_exists (first_passed third (fourth ∷ []) left)) agreed
+    renamed_agreed state party before after name (regime party.history) (selection party.history) among dockets parties (row_passed (is_taken state.files old name) name_exists (first_passed third (fourth ∷ []) left)) agreed
 request_agreed state party setting DeselectRequest given before after is taken among dockets parties agreed =
     gone (IsDistinct do_clash) agreed_stays (flat_map use_of_docket state.dockets) (flat_map use_of_party before) (use_of_party party) (flat_map use_of_party after) agreed
 request_agreed state party setting DeleteRequest given before after is taken among dockets parties agreed =

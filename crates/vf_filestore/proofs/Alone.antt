@@ -58,7 +58,7 @@ none_found {A} test (x ∷ xs) is = by (test x) refl is (none_found test xs)
 abbrev IsOwn : ℕ → Held → Type 0
 IsOwn link held = not (is_same held.holder (Party link)) ≡ false
 
-own_holders : (state : State) (link : ℕ) (file : List ℕ) (action : Action) → alone_row state link file action ≡ None → AllByRecursion (IsOwn link) (holders state file)
+own_holders : (state : State) (link : ℕ) (file : List ℕ) (action : Action) → alone_row (holders state file) link action ≡ None → AllByRecursion (IsOwn link) (holders state file)
 own_holders state link file action alone =
     let first = none_mapped (conflict_with action) (first_other (Party link) (holders state file)) alone in
     none_found (λ (held : Held). not (is_same held.holder (Party link))) (holders state file)
@@ -88,7 +88,7 @@ pub record IsAlone (state : State) (link : ℕ) (file : List ℕ) : Type 0 where
   pub parties : AllByRecursion (λ (party : StandingParty). IsOff link party → IsNotOn file party.history) state.parties
   pub dockets : AllByRecursion (λ (docket : states.Docket). IsNotOn file docket.history) state.dockets
 
-pub alone : (state : State) (link : ℕ) (file : List ℕ) (action : Action) → alone_row state link file action ≡ None → IsAlone state link file
+pub alone : (state : State) (link : ℕ) (file : List ℕ) (action : Action) → alone_row (holders state file) link action ≡ None → IsAlone state link file
 alone state link file action row =
     let all = all_folded (IsOwn link) (flat_map (held_by_party file) state.parties ++ flat_map (held_by_docket file) state.dockets) [] (own_holders state link file action row) in
     let parties = all_left (IsOwn link) (flat_map (held_by_party file) state.parties) (flat_map (held_by_docket file) state.dockets) all.1 in

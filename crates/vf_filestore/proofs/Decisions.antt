@@ -26,12 +26,13 @@ use Rattle.vf_tree.specs.Acts.{does, Locates, Erases}
 use Rattle.vf_filestore.specs.Diagnostics.{Row, first_row}
 use Rattle.vf_filestore.specs.Ending.{stamp_of}
 use Rattle.vf_filestore.specs.History.{Selection, guest, position, regime, selection}
-use Rattle.vf_filestore.specs.Opening.{erase_rows, locate_rows, open_rows, placed}
+use Rattle.vf_filestore.specs.Holders.{held_files}
+use Rattle.vf_filestore.specs.Opening.{erase_rows, locate_rows, placed}
 use Rattle.vf_filestore.specs.Recovering.{is_read_in, recover_rows, resumed}
 use Rattle.vf_filestore.specs.Selecting.{change_attrib_rows, create_rows, delete_rows, initialize_rows, read_attrib_rows, rows_on, select_rows}
 use Rattle.vf_filestore.specs.State.{Docket, docket_of, mode_in, selected_file, is_of_link}
 use Rattle.vf_filestore.specs.Units.{enhanced_management, file_access, limited_management, recovery_unit}
-use Rattle.vf_filestore.specs.Decision.{decided, erase_decision, granted_unless, locate_decision, made_unless, open_decision, opened_by, units_for, unless_without_token, wanted_by}
+use Rattle.vf_filestore.specs.Decision.{decided, erase_decision, granted_unless, locate_decision, made_unless, open_decision, opened_by, opening_rows, units_for, unless_without_token, wanted_by}
 use Rattle.vf_filestore.specs.Decision.{Decision, Aborts, Refuses, Grants, Waits, Groups, Ends, Leaves, decision, decision_in, grouped_decision, grouped_request, item_decision, message_decision, request_decision, trial_decision, unless_aborted}
 use Rattle.vf_filestore.specs.Diagnostics.{plain, wrong_regime, wrong_state}
 use Rattle.vf_filestore.specs.Dockets.{broken, docket_by, docket_left_by}
@@ -329,7 +330,7 @@ no_groups_open : (state : State) (party : StandingParty) (mode : Actions) (conte
     → open_decision state party mode contents controls activity one ≡ Groups other → ⊥
 no_groups_open state party mode contents controls activity None other is = cc
 no_groups_open state party mode contents controls activity (Some one) other is =
-    no_groups_rows (unit_row (units_of party) (units_for activity) ∷ rows_on (selected_file state party.history) (open_rows state (opened_by party one mode contents controls activity))) Nothing other is
+    no_groups_rows (unit_row (units_of party) (units_for activity) ∷ rows_on (selected_file state party.history) (opening_rows state (opened_by party one mode contents controls activity))) Nothing other is
 
 no_groups_locate : (party : StandingParty) (fadu : FaduId) (found : Option File) (other : Group) → locate_decision party fadu found ≡ Groups other → ⊥
 no_groups_locate party fadu None other is = cc
@@ -343,14 +344,14 @@ no_groups_erase party fadu (Some file) other is =
 
 no_groups : (state : State) (party : StandingParty) (setting : Setting) (request : Pdu) (other : Group) → request_decision state party setting request ≡ Groups other → ⊥
 no_groups state party setting (InitializeRequest units identity password window) other is = no_groups_rows (initialize_rows state.users (unwrap_or identity guest) password) Nothing other is
-no_groups state party setting (SelectRequest name requested controls password) other is = no_groups_rows (select_rows state (wanted_by party requested controls password) name) Nothing other is
+no_groups state party setting (SelectRequest name requested controls password) other is = no_groups_rows (select_rows (held_files state) (wanted_by party requested controls password) name) Nothing other is
 no_groups state party setting (CreateRequest over name contents permitted terms requested controls password) other is =
     let new : NewFile = record { name = name; contents = contents; permitted = permitted; terms = terms } in
-    no_groups_rows (unit_row (units_of party) limited_management ∷ create_rows state (wanted_by party requested controls password) over (stamp_of party setting.moment) new) (made_unless (file_named name state.files)) other is
-no_groups state party setting DeleteRequest other is = no_groups_rows (unit_row (units_of party) limited_management ∷ delete_rows state party.link (selection party.history)) Nothing other is
+    no_groups_rows (unit_row (units_of party) limited_management ∷ create_rows (held_files state) (wanted_by party requested controls password) over (stamp_of party setting.moment) new) (made_unless (file_named name state.files)) other is
+no_groups state party setting DeleteRequest other is = no_groups_rows (unit_row (units_of party) limited_management ∷ delete_rows (held_files state) party.link (selection party.history)) Nothing other is
 no_groups state party setting (ReadAttribRequest names) other is = no_groups_rows (unit_row (units_of party) limited_management ∷ read_attrib_rows (selection party.history) names) Nothing other is
 no_groups state party setting (ChangeAttribRequest name permitted terms number) other is =
-    no_groups_rows (unit_row (units_of party) enhanced_management ∷ change_attrib_rows state party.link (selection party.history) name number) Nothing other is
+    no_groups_rows (unit_row (units_of party) enhanced_management ∷ change_attrib_rows (held_files state) party.link (selection party.history) name number) Nothing other is
 no_groups state party setting (OpenRequest mode contents controls activity) other is = no_groups_open state party (record { value = mode }) contents controls activity (selection party.history) other is
 no_groups state party setting (RecoverRequest activity number point) other is =
     let docket = docket_of (identity_of party) activity state.dockets in

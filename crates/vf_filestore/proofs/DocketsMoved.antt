@@ -72,7 +72,7 @@ later_other [] later docket distinct =
     (λ other off. nat_eq_flips (number_of_open other) (number_of_open docket) ∙ off) distinct.0
 later_other (one ∷ first) later docket distinct = later_other first later docket distinct.1
 
-other_keys : (first later : List Docket) (docket : Docket) → IsDistinct is_same_key (first ++ docket ∷ later) → AllByRecursion (λ (other : Docket). is_same_key docket other ≡ false) (first ++ later)
+pub other_keys : (first later : List Docket) (docket : Docket) → IsDistinct is_same_key (first ++ docket ∷ later) → AllByRecursion (λ (other : Docket). is_same_key docket other ≡ false) (first ++ later)
 unfolding IsDistinct
 other_keys [] later docket distinct = distinct.0
 other_keys (one ∷ first) later docket distinct = (
@@ -215,14 +215,14 @@ party_step next later dockets before after one other nested nested_other was is 
 
 -- ---- a docket that is taken up again
 
-record Found (identity : List ℕ) (activity : ℕ) (dockets : List Docket) (docket : Docket) : Type 0 where
-  first : List Docket
-  later : List Docket
-  is : dockets ≡ first ++ docket ∷ later
-  off : AllByRecursion (λ (other : Docket). is_docket_of identity activity other ≡ false) first
-  here : is_docket_of identity activity docket ≡ true
+pub record Found (identity : List ℕ) (activity : ℕ) (dockets : List Docket) (docket : Docket) : Type 0 where
+  pub first : List Docket
+  pub later : List Docket
+  pub is : dockets ≡ first ++ docket ∷ later
+  pub off : AllByRecursion (λ (other : Docket). is_docket_of identity activity other ≡ false) first
+  pub here : is_docket_of identity activity docket ≡ true
 
-found_among : (identity : List ℕ) (activity : ℕ) (dockets : List Docket) (docket : Docket) → docket_of identity activity dockets ≡ Some docket → Found identity activity dockets docket
+pub found_among : (identity : List ℕ) (activity : ℕ) (dockets : List Docket) (docket : Docket) → docket_of identity activity dockets ≡ Some docket → Found identity activity dockets docket
 found_among identity activity [] docket found = absurd cc
 found_among identity activity (one ∷ dockets) docket found = by (is_docket_of identity activity one) refl found (found_among identity activity dockets docket)
   where
@@ -235,12 +235,12 @@ found_among identity activity (one ∷ dockets) docket found = by (is_docket_of 
         let more = rest found in
         record { first = one ∷ more.first; later = more.later; is = ap (λ (ds : List Docket). one ∷ ds) more.is; off = (is, more.off); here = more.here }
 
-all_stay : (identity : List ℕ) (activity : ℕ) (dockets : List Docket) → AllByRecursion (λ (other : Docket). is_docket_of identity activity other ≡ false) dockets → without_docket identity activity dockets ≡ dockets
+pub all_stay : (identity : List ℕ) (activity : ℕ) (dockets : List Docket) → AllByRecursion (λ (other : Docket). is_docket_of identity activity other ≡ false) dockets → without_docket identity activity dockets ≡ dockets
 all_stay identity activity [] off = refl
 all_stay identity activity (one ∷ dockets) off =
     (λ i. cond (not (off.0 i)) (one ∷ without_docket identity activity dockets) (without_docket identity activity dockets)) ∙ ap (λ (ds : List Docket). one ∷ ds) (all_stay identity activity dockets off.1)
 
-without_found : (identity : List ℕ) (activity : ℕ) (first later : List Docket) (docket : Docket) → AllByRecursion (λ (other : Docket). is_docket_of identity activity other ≡ false) first
+pub without_found : (identity : List ℕ) (activity : ℕ) (first later : List Docket) (docket : Docket) → AllByRecursion (λ (other : Docket). is_docket_of identity activity other ≡ false) first
     → is_docket_of identity activity docket ≡ true → AllByRecursion (λ (other : Docket). is_docket_of identity activity other ≡ false) later
     → without_docket identity activity (first ++ docket ∷ later) ≡ first ++ later
 without_found identity activity [] later docket off here off_later =
@@ -250,7 +250,7 @@ without_found identity activity (one ∷ first) later docket off here off_later 
     ∙ ap (λ (ds : List Docket). one ∷ ds) (without_found identity activity first later docket off.1 here off_later)
 
 -- those that aren't of a docket's key aren't the one that is asked for
-off_key : (identity : List ℕ) (activity : ℕ) (docket other : Docket) → is_docket_of identity activity docket ≡ true → is_same_key docket other ≡ false → is_docket_of identity activity other ≡ false
+pub off_key : (identity : List ℕ) (activity : ℕ) (docket other : Docket) → is_docket_of identity activity docket ≡ true → is_same_key docket other ≡ false → is_docket_of identity activity other ≡ false
 off_key identity activity docket other here off =
     let parts = and_parts (bytes_eq docket.identity identity) (nat_eq docket.activity activity) here in
     let name = same_name docket.identity identity parts.0 in
@@ -290,7 +290,7 @@ recover_step next later identity activity dockets docket before after one other 
 
 -- ---- a docket that is dropped
 
-none_asked : (identity : List ℕ) (activity : ℕ) (dockets : List Docket) → docket_of identity activity dockets ≡ None → AllByRecursion (λ (other : Docket). is_docket_of identity activity other ≡ false) dockets
+pub none_asked : (identity : List ℕ) (activity : ℕ) (dockets : List Docket) → docket_of identity activity dockets ≡ None → AllByRecursion (λ (other : Docket). is_docket_of identity activity other ≡ false) dockets
 none_asked identity activity [] none = tt
 none_asked identity activity (one ∷ dockets) none = by (is_docket_of identity activity one) refl none (none_asked identity activity dockets)
   where

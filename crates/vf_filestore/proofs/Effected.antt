@@ -35,7 +35,7 @@ use Rattle.vf_filestore.specs.Diagnostics.{Row, first_row, row, attribute_unsupp
 use Rattle.vf_filestore.specs.Effects.{changed, created, created_where, erased, files_by, in_place, put_where}
 use Rattle.vf_filestore.specs.Ending.{Ending, after_act, cancel_ending, cancel_in, cancel_of, ending_in, ending_of, ending_unless, file_after, in_silence, performed_by, read_ending, stamp_of, transfer_ending, unchanged, was_given_up, write_of, written, written_in, units_or_none}
 use Rattle.vf_filestore.specs.History.{Given, Nothing, position, selection}
-use Rattle.vf_filestore.specs.Holders.{alone_row}
+use Rattle.vf_filestore.specs.Holders.{alone_row, held_files, holders}
 use Rattle.vf_filestore.specs.Selecting.{Wanted, create_by, create_rows, delete_rows, is_taken, rename_row, typed_rows}
 use Rattle.vf_filestore.specs.Sound.{name_of}
 use Rattle.vf_filestore.specs.State.{State, StandingParty, name_in, requested_in, selected_file, units_of}
@@ -161,14 +161,14 @@ put_keeps name files (Some after) filed next = by (file_named name files) refl n
 -- ---- creations
 
 create_keeps : (state : State) (wanted : Wanted) (over : ℕ) (stamp : Stamp) (new : NewFile) (found : Option File) (given : Given) → file_named new.name state.files ≡ found
-    → IsDistinct bytes_eq (map name_of state.files) → first_row (create_by state wanted over stamp new found) ≡ None → made_unless found ≡ given
+    → IsDistinct bytes_eq (map name_of state.files) → first_row (create_by (held_files state) wanted over stamp new found) ≡ None → made_unless found ≡ given
     → KeepsAll state.files (created_where given new stamp state.files)
 create_keeps state wanted over stamp new (Some file) given is filed rows made_is =
     subst (λ given. KeepsAll state.files (created_where given new stamp state.files)) made_is (kept_all state.files filed)
 create_keeps state wanted over stamp new None given is filed rows made_is =
     subst (λ given. KeepsAll state.files (created_where given new stamp state.files)) made_is (by (doc_type new.contents) rows)
   where
-    by : (doc : Option DocType) → first_row (typed_rows state wanted stamp new doc) ≡ None → KeepsAll state.files (created doc new stamp state.files)
+    by : (doc : Option DocType) → first_row (typed_rows (held_files state) wanted stamp new doc) ≡ None → KeepsAll state.files (created doc new stamp state.files)
     by None rows = absurd cc
     by (Some doc) rows = record {
       filed = filed_added (made new stamp doc) state.files is filed;
@@ -177,7 +177,7 @@ create_keeps state wanted over stamp new None given is filed rows made_is =
 
 -- ---- changes of attributes
 
-pub not_taken : (state : State) (old name : List ℕ) → bytes_eq name old ≡ false → is_taken state old (Some name) ≡ false → file_named name state.files ≡ None
+pub not_taken : (state : State) (old name : List ℕ) → bytes_eq name old ≡ false → is_taken state.files old (Some name) ≡ false → file_named name state.files ≡ None
 not_taken state old name other free = by (bytes_eq name old) (file_named name state.files) other free
   where
     by : (b : Bool) (found : Option File) → b ≡ false → (not b && not (is_none found)) ≡ false → found ≡ None
@@ -189,7 +189,7 @@ changed_next : (file : File) (stamp : Stamp) (change : AttributeChange) → IsNe
 changed_next file stamp change = record { rises = omega arith; same = λ is. refl; typed = refl }
 
 change_effect : (state : State) (party : StandingParty) (stamp : Stamp) (name : Option (List ℕ)) (change : AttributeChange) → change.name ≡ name
-    → IsDistinct bytes_eq (map name_of state.files) → is_taken state (name_in party.history) name ≡ false → rename_row state party.link (name_in party.history) name ≡ None
+    → IsDistinct bytes_eq (map name_of state.files) → is_taken state.files (name_in party.history) name ≡ false → rename_row (holders state (name_in party.history)) party.link (name_in party.history) name ≡ None
     → Effect state party (put_where (name_in party.history) (changed (selected_file state party.history) stamp change) state.files)
 change_effect state party stamp name change named filed free alone_is = by (selected_file state party.history) refl
   where
@@ -210,7 +210,7 @@ change_effect state party stamp name change named filed free alone_is = by (sele
           goes = continues_in_place (name_in party.history) file (after_change file stamp change) state.files is here (changed_next file stamp change);
         })
 
-        of : (name : Option (List ℕ)) → change.name ≡ name → is_taken state (name_in party.history) name ≡ false → rename_row state party.link (name_in party.history) name ≡ None
+        of : (name : Option (List ℕ)) → change.name ≡ name → is_taken state.files (name_in party.history) name ≡ false → rename_row (holders state (name_in party.history)) party.link (name_in party.history) name ≡ None
             → Effect state party (in_place (name_in party.history) (after_change file stamp change) state.files)
         of None named free alone_is = same (ap (λ name. unwrap_or name file.name) named ∙ sym (found_name (name_in party.history) state.files file is))
         of (Some new) named free alone_is = test (bytes_eq new (name_in party.history)) refl alone_is
@@ -218,7 +218,7 @@ change_effect state party stamp name change named filed free alone_is = by (sele
             now : (after_change file stamp change).name ≡ new
             now = ap (λ name. unwrap_or name file.name) named
 
-            test : (b : Bool) → bytes_eq new (name_in party.history) ≡ b → cond b None (alone_row state party.link (name_in party.history) actions.ChangeAttribute) ≡ None
+            test : (b : Bool) → bytes_eq new (name_in party.history) ≡ b → cond b None (alone_row (holders state (name_in party.history)) party.link actions.ChangeAttribute) ≡ None
                 → Effect state party (in_place (name_in party.history) (after_change file stamp change) state.files)
             test true e alone_is = same (now ∙ same_name new (name_in party.history) e)
             test false e alone_is =
@@ -236,29 +236,29 @@ effect_of state party setting (CreateRequest over name contents permitted terms 
     let wanted = wanted_by party requested controls password in
     let new : NewFile = record { name = name; contents = contents; permitted = permitted; terms = terms } in
     let one = unit_row (units_of party) limited_management in
-    let rows = create_rows state wanted over (stamp_of party setting.moment) new in
+    let rows = create_rows (held_files state) wanted over (stamp_of party setting.moment) new in
     let passed = rows_passed (one ∷ rows) (made_unless (file_named name state.files)) given is in
     keeps (create_keeps state wanted over (stamp_of party setting.moment) new (file_named name state.files) given refl filed (later_passed one rows passed.passed) passed.is)
 effect_of state party setting DeleteRequest given is filed =
     let name = name_in party.history in
     let one = unit_row (units_of party) limited_management in
     let permitted = row (not (has (requested_in (selection party.history)) actions.Delete)) not_permitted in
-    let rows = delete_rows state party.link (selection party.history) in
+    let rows = delete_rows (held_files state) party.link (selection party.history) in
     let passed = rows_passed (one ∷ rows) Nothing given is in
-    let last = later_passed permitted (alone_row state party.link name actions.Delete ∷ []) (later_passed one rows passed.passed) in
+    let last = later_passed permitted (alone_row (holders state name) party.link actions.Delete ∷ []) (later_passed one rows passed.passed) in
     parts (record { filed = filed_left name state.files filed; goes = continues_left name state.files })
-    (alone state party.link name actions.Delete (first_passed (alone_row state party.link name actions.Delete) [] last))
+    (alone state party.link name actions.Delete (first_passed (alone_row (holders state name) party.link actions.Delete) [] last))
 effect_of state party setting (ChangeAttribRequest name permitted terms number) given is filed =
     let old = name_in party.history in
     let one = unit_row (units_of party) enhanced_management in
     let first = row (not (has (requested_in (selection party.history)) actions.ChangeAttribute)) not_permitted in
     let second = row (not (nat_eq number 0)) attribute_unsupported in
-    let third = row (is_taken state old name) name_exists in
-    let fourth = rename_row state party.link old name in
+    let third = row (is_taken state.files old name) name_exists in
+    let fourth = rename_row (holders state old) party.link old name in
     let passed = rows_passed (one ∷ first ∷ second ∷ third ∷ fourth ∷ []) Nothing given is in
     let left = later_passed second (third ∷ fourth ∷ []) (later_passed first (second ∷ third ∷ fourth ∷ []) (later_passed one (first ∷ second ∷ third ∷ fourth ∷ []) passed.passed)) in
     change_effect state party (stamp_of party setting.moment) name (record { name = name; permitted = permitted; terms = terms; others = number }) refl filed
-    (row_passed (is_taken state old name) name_exists (first_passed third (fourth ∷ []) left))
+    (row_passed (is_taken state.files old name) name_exists (first_passed third (fourth ∷ []) left))
     (first_passed fourth [] (later_passed third (fourth ∷ []) left))
 effect_of state party setting (EraseRequest fadu) given is filed =
     keeps (put_keeps (name_in party.history) state.files (erased (selected_file state party.history) (stamp_of party setting.moment) (position party.history) fadu) filed

@@ -26,6 +26,7 @@ use Rattle.vf_filestore.specs.Diagnostics.{first_row, row, attribute_unsupported
 use Rattle.vf_filestore.specs.Effects.{changed, created, created_where, erased, files_by, in_place, put_where, without_file}
 use Rattle.vf_filestore.specs.Ending.{cancel_ending, stamp_of, transfer_ending}
 use Rattle.vf_filestore.specs.History.{Given, Nothing, position, selection}
+use Rattle.vf_filestore.specs.Holders.{held_files, holders}
 use Rattle.vf_filestore.specs.Selecting.{Wanted, create_by, create_rows, is_taken, rename_row, typed_rows}
 use Rattle.vf_filestore.specs.Sound.{AreLimited, IsLimited, name_of}
 use Rattle.vf_filestore.specs.State.{State, StandingParty, name_in, requested_in, selected_file, units_of}
@@ -129,7 +130,7 @@ put_step name files (Some new) limited later next = by (file_named name files) r
 
 -- ---- attributes
 
-change_step : (state : State) (old : List ℕ) (stamp : Stamp) (name : Option (List ℕ)) (change : AttributeChange) → change.name ≡ name → is_taken state old name ≡ false
+change_step : (state : State) (old : List ℕ) (stamp : Stamp) (name : Option (List ℕ)) (change : AttributeChange) → change.name ≡ name → is_taken state.files old name ≡ false
     → FileStep state.files (put_where old (changed (file_named old state.files) stamp change) state.files)
 change_step state old stamp name change named free = by (file_named old state.files) refl
   where
@@ -151,7 +152,7 @@ change_step state old stamp name change named free = by (file_named old state.fi
             let at = located old state.files file is in
             steps.changed at.first at.later file (after_change file stamp change) at.is now (here ∙ same_name old file.name at.here) refl
 
-        of : (name : Option (List ℕ)) → change.name ≡ name → is_taken state old name ≡ false → FileStep state.files (in_place old (after_change file stamp change) state.files)
+        of : (name : Option (List ℕ)) → change.name ≡ name → is_taken state.files old name ≡ false → FileStep state.files (in_place old (after_change file stamp change) state.files)
         of None named free = kept (ap (λ name. unwrap_or name file.name) named ∙ sym (found_name old state.files file is))
         of (Some new) named free = test (bytes_eq new old) refl
           where
@@ -168,13 +169,13 @@ change_step state old stamp name change named free = by (file_named old state.fi
 -- ---- creations
 
 create_step : (state : State) (wanted : Wanted) (over : ℕ) (stamp : Stamp) (new : NewFile) (found : Option File) (given : Given) → file_named new.name state.files ≡ found
-    → first_row (create_by state wanted over stamp new found) ≡ None → made_unless found ≡ given → FileStep state.files (created_where given new stamp state.files)
+    → first_row (create_by (held_files state) wanted over stamp new found) ≡ None → made_unless found ≡ given → FileStep state.files (created_where given new stamp state.files)
 create_step state wanted over stamp new (Some file) given is rows made_is =
     subst (λ given. FileStep state.files (created_where given new stamp state.files)) made_is (steps.same refl)
 create_step state wanted over stamp new None given is rows made_is =
     subst (λ given. FileStep state.files (created_where given new stamp state.files)) made_is (by (doc_type new.contents) rows)
   where
-    by : (doc : Option DocType) → first_row (typed_rows state wanted stamp new doc) ≡ None → FileStep state.files (created doc new stamp state.files)
+    by : (doc : Option DocType) → first_row (typed_rows (held_files state) wanted stamp new doc) ≡ None → FileStep state.files (created doc new stamp state.files)
     by None rows = absurd cc
     by (Some doc) rows = steps.added (made new stamp doc) (with_file-new (made new stamp doc) state.files is) (none_named new.name state.files is)
 
@@ -187,7 +188,7 @@ request_files state party setting (CreateRequest over name contents permitted te
     let wanted = wanted_by party requested controls password in
     let new : NewFile = record { name = name; contents = contents; permitted = permitted; terms = terms } in
     let one = unit_row (units_of party) limited_management in
-    let rows = create_rows state wanted over (stamp_of party setting.moment) new in
+    let rows = create_rows (held_files state) wanted over (stamp_of party setting.moment) new in
     let passed = rows_passed (one ∷ rows) (made_unless (file_named name state.files)) given is in
     create_step state wanted over (stamp_of party setting.moment) new (file_named name state.files) given refl (later_passed one rows passed.passed) passed.is
 request_files state party setting DeleteRequest given is filed limited later = gone_step (name_in party.history) state.files filed
@@ -196,12 +197,12 @@ request_files state party setting (ChangeAttribRequest name permitted terms numb
     let one = unit_row (units_of party) enhanced_management in
     let first = row (not (has (requested_in (selection party.history)) actions.ChangeAttribute)) not_permitted in
     let second = row (not (nat_eq number 0)) attribute_unsupported in
-    let third = row (is_taken state old name) name_exists in
-    let fourth = rename_row state party.link old name in
+    let third = row (is_taken state.files old name) name_exists in
+    let fourth = rename_row (holders state old) party.link old name in
     let passed = rows_passed (one ∷ first ∷ second ∷ third ∷ fourth ∷ []) Nothing given is in
     let left = later_passed second (third ∷ fourth ∷ []) (later_passed first (second ∷ third ∷ fourth ∷ []) (later_passed one (first ∷ second ∷ third ∷ fourth ∷ []) passed.passed)) in
     change_step state old (stamp_of party setting.moment) name (record { name = name; permitted = permitted; terms = terms; others = number }) refl
-    (row_passed (is_taken state old name) name_exists (first_passed third (fourth ∷ []) left))
+    (row_passed (is_taken state.files old name) name_exists (first_passed third (fourth ∷ []) left))
 request_files state party setting (EraseRequest fadu) given is filed limited later =
     put_step (name_in party.history) state.files (erased (selected_file state party.history) (stamp_of party setting.moment) (position party.history) fadu) limited later
     (erased_next (selected_file state party.history) (stamp_of party setting.moment) (position party.history) fadu)

@@ -38,13 +38,14 @@ use Rattle.vf_tree.specs.TreeRefusal.{TreeRefusal, Outside, NotFound, BadContext
 use Rattle.vf_filestore.specs.Aborts as aborting
 use Rattle.vf_filestore.specs.Aborts.{Setting, abort_where, first_abort, passes_survivors}
 use Rattle.vf_filestore.specs.Conclusion.{concluding_entry, entry_of, taken_up}
-use Rattle.vf_filestore.specs.Decision.{Grants, decided, made_unless, message_decision, open_decision, opened_by, request_decision, units_for, wanted_by}
+use Rattle.vf_filestore.specs.Decision.{Grants, decided, made_unless, message_decision, open_decision, opened_by, opening_rows, request_decision, units_for, wanted_by}
 use Rattle.vf_filestore.specs.Diagnostics.{Row, first_row, plain, not_permitted, too_long, unit_not_agreed}
 use Rattle.vf_filestore.specs.Due.{due_after, next_serial}
 use Rattle.vf_filestore.specs.Ending.{stamp_of}
 use Rattle.vf_filestore.specs.History.{Given, Nothing, Resumed, History, Selection, guest, position, regime, selection}
+use Rattle.vf_filestore.specs.Holders.{held_files}
 use Rattle.vf_filestore.specs.Keeping.{IsEarned, IsGiven, IsGivenTo, IsKeptEntry, IsNoElement, IsSilentIn, IsTakenIn, IsUnplaced}
-use Rattle.vf_filestore.specs.Opening.{act_of, act_row, action_of, action_row, given_unless, open_rows, read_given, read_rows, showing, write_given, write_rows}
+use Rattle.vf_filestore.specs.Opening.{act_of, act_row, action_of, action_row, given_unless, read_given, read_rows, showing, write_given, write_rows}
 use Rattle.vf_filestore.specs.Recovering.{resumed}
 use Rattle.vf_filestore.specs.Replies.{replies, request_replies}
 use Rattle.vf_filestore.specs.Selecting.{change_attrib_rows, create_rows, delete_rows, initialize_rows, read_attrib_rows, rows_on, select_rows}
@@ -163,7 +164,7 @@ opened_unplaced : (state : State) (party : StandingParty) (mode : Actions) (cont
     → open_decision state party mode contents controls activity one ≡ Grants given → IsUnplaced given
 opened_unplaced state party mode contents controls activity None given is = absurd cc
 opened_unplaced state party mode contents controls activity (Some one) given is =
-    rows_nothing (unit_row (units_of party) (units_for activity) ∷ rows_on (selected_file state party.history) (open_rows state (opened_by party one mode contents controls activity))) given is
+    rows_nothing (unit_row (units_of party) (units_for activity) ∷ rows_on (selected_file state party.history) (opening_rows state (opened_by party one mode contents controls activity))) given is
 
 resumed_unplaced : (docket : Docket) (asked : ℕ) (given : Given) → resumed (Some docket) asked ≡ given → IsUnplaced given
 resumed_unplaced docket asked given is = subst IsUnplaced is (by (is_some (under_way docket.history)))
@@ -174,16 +175,16 @@ resumed_unplaced docket asked given is = subst IsUnplaced is (by (is_some (under
 
 given_request : (state : State) (party : StandingParty) (setting : Setting) (request : Pdu) (given : Given) → request_decision state party setting request ≡ Grants given → IsGivenTo request given
 given_request state party setting (InitializeRequest units identity password window) given is = rows_nothing (initialize_rows state.users (unwrap_or identity guest) password) given is
-given_request state party setting (SelectRequest name requested controls password) given is = rows_nothing (select_rows state (wanted_by party requested controls password) name) given is
+given_request state party setting (SelectRequest name requested controls password) given is = rows_nothing (select_rows (held_files state) (wanted_by party requested controls password) name) given is
 given_request state party setting (CreateRequest over name contents permitted terms requested controls password) given is =
     let new : NewFile = record { name = name; contents = contents; permitted = permitted; terms = terms } in
-    let rows = unit_row (units_of party) limited_management ∷ create_rows state (wanted_by party requested controls password) over (stamp_of party setting.moment) new in
+    let rows = unit_row (units_of party) limited_management ∷ create_rows (held_files state) (wanted_by party requested controls password) over (stamp_of party setting.moment) new in
     made_unplaced (file_named name state.files) given (rows_passed rows (made_unless (file_named name state.files)) given is).is
 given_request state party setting DeselectRequest given is = grants_nothing given is
-given_request state party setting DeleteRequest given is = rows_nothing (unit_row (units_of party) limited_management ∷ delete_rows state party.link (selection party.history)) given is
+given_request state party setting DeleteRequest given is = rows_nothing (unit_row (units_of party) limited_management ∷ delete_rows (held_files state) party.link (selection party.history)) given is
 given_request state party setting (ReadAttribRequest names) given is = rows_nothing (unit_row (units_of party) limited_management ∷ read_attrib_rows (selection party.history) names) given is
 given_request state party setting (ChangeAttribRequest name permitted terms number) given is =
-    rows_nothing (unit_row (units_of party) enhanced_management ∷ change_attrib_rows state party.link (selection party.history) name number) given is
+    rows_nothing (unit_row (units_of party) enhanced_management ∷ change_attrib_rows (held_files state) party.link (selection party.history) name number) given is
 given_request state party setting (OpenRequest mode contents controls activity) given is = opened_unplaced state party (record { value = mode }) contents controls activity (selection party.history) given is
 given_request state party setting CloseRequest given is = grants_nothing given is
 given_request state party setting (RecoverRequest activity number asked) given is =

@@ -17,7 +17,15 @@ pub mod FilesKept
 pub mod FilesLater
 pub mod FilesMoved
 pub mod FilesOf
+pub mod HeldAfter
+pub mod HeldCalls
+pub mod HeldClosed
+pub mod HeldGone
+pub mod HeldLists
+pub mod HeldOf
+pub mod HeldParty
 pub mod HistoriesStay
+pub mod HolderOrder
 pub mod Holdings
 pub mod Kept
 pub mod KeptEntries

@@ -44,6 +44,7 @@ use Rattle.vf_filestore.specs.Diagnostics.{Row, cancelled, file_full, first_row,
 use Rattle.vf_filestore.specs.Effects.{changed, created, created_where, erased, files_by, in_place, put_where, without_file}
 use Rattle.vf_filestore.specs.Ending.{Ending, after_act, after_read, cancel_ending, cancel_in, cancel_of, element_row, ending_in, ending_of, ending_unless, file_after, in_silence, performed_by, read_ending, room_rows, stamp_of, transfer_ending, unchanged, units_or_none, was_given_up, write_of, written, written_in}
 use Rattle.vf_filestore.specs.History.{Given, position, regime}
+use Rattle.vf_filestore.specs.Holders.{held_files}
 use Rattle.vf_filestore.specs.Limits.{most_version}
 use Rattle.vf_filestore.specs.Opening.{act_of, act_row, action_row, placed, version_row}
 use Rattle.vf_filestore.specs.Selecting.{Wanted, create_by, create_rows, selection_rows, typed_rows}
@@ -355,17 +356,17 @@ changed_limited name files stamp change (Some file) is limited =
 -- ---- creations
 
 created_limited : (state : State) (wanted : Wanted) (over : ℕ) (stamp : Stamp) (new : NewFile) (found : Option File) (given : Given) → file_named new.name state.files ≡ found
-    → first_row (create_by state wanted over stamp new found) ≡ None → made_unless found ≡ given → AreLimited state.files → AreLimited (created_where given new stamp state.files)
+    → first_row (create_by (held_files state) wanted over stamp new found) ≡ None → made_unless found ≡ given → AreLimited state.files → AreLimited (created_where given new stamp state.files)
 created_limited state wanted over stamp new (Some file) given is rows made_is limited = subst (λ given. AreLimited (created_where given new stamp state.files)) made_is limited
 created_limited state wanted over stamp new None given is rows made_is limited =
     subst (λ given. AreLimited (created_where given new stamp state.files)) made_is (by (doc_type new.contents) refl rows)
   where
-    by : (doc : Option DocType) → doc_type new.contents ≡ doc → first_row (typed_rows state wanted stamp new doc) ≡ None → AreLimited (created doc new stamp state.files)
+    by : (doc : Option DocType) → doc_type new.contents ≡ doc → first_row (typed_rows (held_files state) wanted stamp new doc) ≡ None → AreLimited (created doc new stamp state.files)
     by None typed rows = absurd cc
     by (Some doc) typed rows =
         let file = made new stamp doc in
         let few = ltb-true (length state.files) MOST_FILES (not-false (nat_lt (length state.files) MOST_FILES)
-        (row_passed (not (nat_lt (length state.files) MOST_FILES)) store_full (first_passed (row (not (nat_lt (length state.files) MOST_FILES)) store_full) (selection_rows state wanted file) rows))) in
+        (row_passed (not (nat_lt (length state.files) MOST_FILES)) store_full (first_passed (row (not (nat_lt (length state.files) MOST_FILES)) store_full) (selection_rows (held_files state) wanted file) rows))) in
         let small = new_small (constraint_of doc.kind) in
         let none = small.1 in
         let own : IsLimited file = record { typed = ap (option_map (λ (doc : DocType). constraint_of doc.kind)) typed ∙ ap Some (sym small.2); shaped = small.0; counted = omega arith } in
@@ -383,7 +384,7 @@ request_limited state party setting (CreateRequest over name contents permitted 
     let wanted = wanted_by party requested controls password in
     let new : NewFile = record { name = name; contents = contents; permitted = permitted; terms = terms } in
     let unit = unit_row (units_of party) limited_management in
-    let rows = create_rows state wanted over (stamp_of party setting.moment) new in
+    let rows = create_rows (held_files state) wanted over (stamp_of party setting.moment) new in
     let passed = rows_passed (unit ∷ rows) (made_unless (file_named name state.files)) given is in
     created_limited state wanted over (stamp_of party setting.moment) new (file_named name state.files) given refl (later_passed unit rows passed.passed) passed.is limited
 request_limited state party setting DeleteRequest given is limited =

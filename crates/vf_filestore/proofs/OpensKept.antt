@@ -22,15 +22,15 @@ use Rattle.vf_tables.specs.Validity.{includes, modes}
 use Rattle.vf_filestore.specs.Aborts.{Setting}
 use Rattle.vf_filestore.specs.Conclusion.{concluding_entry, dockets_after, history_of, taken_up}
 use Rattle.vf_filestore.specs.Controls.{contents_usable, joined}
-use Rattle.vf_filestore.specs.Decision.{Grants, open_decision, opened_by, request_decision, units_for}
+use Rattle.vf_filestore.specs.Decision.{Grants, open_decision, opened_by, opening_rows, request_decision, units_for}
 use Rattle.vf_filestore.specs.Diagnostics.{contents_mismatch, first_row, not_permitted, outside_constraint_set, row}
 use Rattle.vf_filestore.specs.Dockets.{broken, docket_by, docket_left_by, dockets_left, dropped, retained, stopped}
 use Rattle.vf_filestore.specs.Effects.{erased, files_after, files_by, put_where}
 use Rattle.vf_filestore.specs.Ending.{cancel_ending, stamp_of, transfer_ending}
 use Rattle.vf_filestore.specs.History.{Given, Nothing, History, Regime, Selection, position, regime, selection}
-use Rattle.vf_filestore.specs.Holders.{clash_row}
+use Rattle.vf_filestore.specs.Holders.{clash_row, holders}
 use Rattle.vf_filestore.specs.Keeping.{AreOpensKept, IsOpenIn, IsOpenOn}
-use Rattle.vf_filestore.specs.Opening.{activity_rows, is_mismatch, open_rows}
+use Rattle.vf_filestore.specs.Opening.{activity_rows, is_mismatch}
 use Rattle.vf_filestore.specs.Selecting.{rows_on}
 use Rattle.vf_filestore.specs.Sound.{AreLimited, IsNested, IsSound, IsSoundDocket, IsSoundParty, IsThere, file_of, link_of}
 use Rattle.vf_filestore.specs.Stage.{regime_stage}
@@ -92,7 +92,7 @@ modes_same Unstructured = refl
 modes_same SequentialFlat = refl
 
 mode_passed : (state : State) (party : StandingParty) (one : Selection) (mode : Actions) (contents : Option Contents) (controls : Option ContentControls) (activity : Option ℕ) (found : Option File)
-    → first_row (rows_on found (open_rows state (opened_by party one mode contents controls activity))) ≡ None → IfSome found (λ (file : File). includes (modes file.tree.constraint) mode.value ≡ true)
+    → first_row (rows_on found (opening_rows state (opened_by party one mode contents controls activity))) ≡ None → IfSome found (λ (file : File). includes (modes file.tree.constraint) mode.value ≡ true)
 mode_passed state party one mode contents controls activity None passed = tt
 mode_passed state party one mode contents controls activity (Some file) passed =
     let asked = opened_by party one mode contents controls activity in
@@ -100,7 +100,7 @@ mode_passed state party one mode contents controls activity (Some file) passed =
     let first = row (not (includes asked.selection.requested.value asked.mode.value) || not (contents_usable asked.mode asked.controls)) not_permitted in
     let second = row (is_mismatch asked.contents file.contents) contents_mismatch in
     let third = row (not (includes (rows.modes file.tree.constraint) asked.mode.value)) outside_constraint_set in
-    let fourth = clash_row state asked.link file.name (joined asked.controls asked.selection.controls) in
+    let fourth = clash_row (holders state file.name) asked.link (joined asked.controls asked.selection.controls) in
     let left = later_passed second (third ∷ fourth ∷ last) (later_passed first (second ∷ third ∷ fourth ∷ last) passed) in
     sym (ap (λ set. includes set mode.value) (modes_same file.tree.constraint))
     ∙ not-false (includes (rows.modes file.tree.constraint) mode.value) (row_passed (not (includes (rows.modes file.tree.constraint) mode.value)) outside_constraint_set (first_passed third (fourth ∷ last) left))
@@ -110,7 +110,7 @@ open_begun : (state : State) (party : StandingParty) (mode : Actions) (contents 
 open_begun state party mode contents controls activity given None same is = tt
 open_begun state party mode contents controls activity given (Some one) same is =
     let unit = unit_row (units_of party) (units_for activity) in
-    let later = rows_on (selected_file state party.history) (open_rows state (opened_by party one mode contents controls activity)) in
+    let later = rows_on (selected_file state party.history) (opening_rows state (opened_by party one mode contents controls activity)) in
     let passed = rows_passed (unit ∷ later) Nothing given is in
     let own : selected_file state party.history ≡ file_named one.file state.files = ap (λ (selected : Option Selection). file_named (file_in selected) state.files) same in
     subst (λ (found : Option File). IfSome found (λ (file : File). includes (modes file.tree.constraint) mode.value ≡ true)) own

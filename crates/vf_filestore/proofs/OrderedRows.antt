@@ -120,7 +120,7 @@ distinct_unmap f e (x ∷ xs) distinct = (all_unmap f (λ y. e (f x) y ≡ false
 abbrev pub is_same_key : Docket → Docket → Bool
 is_same_key one other = bytes_eq one.identity other.identity && nat_eq one.activity other.activity
 
-key_flips : (one other : Docket) → is_same_key one other ≡ is_same_key other one
+pub key_flips : (one other : Docket) → is_same_key one other ≡ is_same_key other one
 key_flips one other = λ i. names_flip one.identity other.identity i && nat_eq_flips one.activity other.activity i
 
 abbrev pub is_same_open_number : Docket → Docket → Bool

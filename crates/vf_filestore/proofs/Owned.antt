@@ -37,6 +37,7 @@ use Rattle.vf_filestore.specs.Diagnostics.{Row, first_row, row, docket_unknown, 
 use Rattle.vf_filestore.specs.Due.{due_after, next_serial}
 use Rattle.vf_filestore.specs.Effects.{changed, created, created_where, in_place, put_where}
 use Rattle.vf_filestore.specs.History.{Association, Entry, Given, Nothing, Resumed, History, Regime, Selection, association, regime, selection}
+use Rattle.vf_filestore.specs.Holders.{held_files}
 use Rattle.vf_filestore.specs.Opening.{given_unless, read_given, read_rows, showing}
 use Rattle.vf_filestore.specs.Recovering.{is_read_in, recover_rows, resumed}
 use Rattle.vf_filestore.specs.Selecting.{Wanted, create_by, is_taken, rows_on, select_rows, selection_rows, typed_rows}
@@ -129,25 +130,25 @@ ended_sound files history entry there none at nested = record {
 
 -- ---- what is selected is there
 
-pub select_there : (state : State) (wanted : Wanted) (name : List ℕ) → first_row (select_rows state wanted name) ≡ None → IsSome (file_named name state.files)
+pub select_there : (state : State) (wanted : Wanted) (name : List ℕ) → first_row (select_rows (held_files state) wanted name) ≡ None → IsSome (file_named name state.files)
 select_there state wanted name passed = by (file_named name state.files) passed
   where
-    by : (found : Option File) → first_row (rows_on found (selection_rows state wanted)) ≡ None → IsSome found
+    by : (found : Option File) → first_row (rows_on found (selection_rows (held_files state) wanted)) ≡ None → IsSome found
     by None passed = absurd cc
     by (Some file) passed = refl
 
 pub create_there : (state : State) (wanted : Wanted) (over : ℕ) (stamp : Stamp) (new : NewFile) (found : Option File) (given : Given) → file_named new.name state.files ≡ found
-    → first_row (create_by state wanted over stamp new found) ≡ None → made_unless found ≡ given → IsSome (file_named new.name (created_where given new stamp state.files))
+    → first_row (create_by (held_files state) wanted over stamp new found) ≡ None → made_unless found ≡ given → IsSome (file_named new.name (created_where given new stamp state.files))
 create_there state wanted over stamp new (Some file) given is rows made_is =
     subst (λ given. IsSome (file_named new.name (created_where given new stamp state.files))) made_is (ap is_some is)
 create_there state wanted over stamp new None given is rows made_is =
     subst (λ given. IsSome (file_named new.name (created_where given new stamp state.files))) made_is (by (doc_type new.contents) rows)
   where
-    by : (doc : Option DocType) → first_row (typed_rows state wanted stamp new doc) ≡ None → IsSome (file_named new.name (created doc new stamp state.files))
+    by : (doc : Option DocType) → first_row (typed_rows (held_files state) wanted stamp new doc) ≡ None → IsSome (file_named new.name (created doc new stamp state.files))
     by None rows = absurd cc
     by (Some doc) rows = ap is_some (named_added (made new stamp doc) state.files)
 
-pub change_there : (state : State) (stamp : Stamp) (old : List ℕ) (name : Option (List ℕ)) (change : AttributeChange) → change.name ≡ name → is_taken state old name ≡ false
+pub change_there : (state : State) (stamp : Stamp) (old : List ℕ) (name : Option (List ℕ)) (change : AttributeChange) → change.name ≡ name → is_taken state.files old name ≡ false
     → (found : Option File) → file_named old state.files ≡ found → IsSome found → IsSome (file_named (unwrap_or name old) (put_where old (changed found stamp change) state.files))
 change_there state stamp old name change named free None is there = absurd cc
 change_there state stamp old None change named free (Some file) is there =

@@ -18,13 +18,13 @@ use Rattle.vf_pdu_fields.proofs.Plain.{some_is}
 use Rattle.vf_pdu_fields.specs.declared.controls.ContentControls.{ContentControls}
 use Rattle.vf_filestore.specs.Aborts.{Setting}
 use Rattle.vf_filestore.specs.Conclusion.{concluding_entry, dockets_after, history_of, taken_up}
-use Rattle.vf_filestore.specs.Decision.{Grants, open_decision, opened_by, request_decision, units_for}
+use Rattle.vf_filestore.specs.Decision.{Grants, open_decision, opened_by, opening_rows, request_decision, units_for}
 use Rattle.vf_filestore.specs.Controls.{contents_usable, joined}
 use Rattle.vf_filestore.specs.Diagnostics.{activity_in_use, contents_mismatch, first_row, not_permitted, outside_constraint_set, row, too_many_dockets}
-use Rattle.vf_filestore.specs.Holders.{clash_row}
+use Rattle.vf_filestore.specs.Holders.{clash_row, holders}
 use Rattle.vf_filestore.specs.History.{Given, Nothing, History, Regime, Selection, association, regime, selection}
 use Rattle.vf_filestore.specs.Limits.{most_dockets}
-use Rattle.vf_filestore.specs.Opening.{activity_rows, has_activity, is_at, is_in_use, is_mismatch, open_rows, recoverable_opens}
+use Rattle.vf_filestore.specs.Opening.{activity_rows, has_activity, is_at, is_in_use, is_mismatch, recoverable_opens}
 use Rattle.vf_filestore.specs.Selecting.{rows_on}
 use Rattle.vf_filestore.specs.Sound.{AreNumbered, IsNested, IsSoundDocket, Standing, is_recoverable, is_same_activity, standing_by, standing_of_docket, standing_of_party}
 use Rattle.vf_filestore.specs.Stage.{regime_stage}
@@ -136,10 +136,10 @@ open_passed state party mode contents controls activity None given is = absurd c
 open_passed state party mode contents controls activity (Some one) given is =
     let asked = opened_by party one mode contents controls activity in
     let unit = unit_row (units_of party) (units_for activity) in
-    let passed = rows_passed (unit ∷ rows_on (selected_file state party.history) (open_rows state asked)) Nothing given is in
-    by (selected_file state party.history) (later_passed unit (rows_on (selected_file state party.history) (open_rows state asked)) passed.passed)
+    let passed = rows_passed (unit ∷ rows_on (selected_file state party.history) (opening_rows state asked)) Nothing given is in
+    by (selected_file state party.history) (later_passed unit (rows_on (selected_file state party.history) (opening_rows state asked)) passed.passed)
   where
-    by : (found : Option File) → first_row (rows_on found (open_rows state (opened_by party one mode contents controls activity))) ≡ None → first_row (activity_rows state (identity_of party) activity) ≡ None
+    by : (found : Option File) → first_row (rows_on found (opening_rows state (opened_by party one mode contents controls activity))) ≡ None → first_row (activity_rows state (identity_of party) activity) ≡ None
     by None rows = absurd cc
     by (Some file) rows =
         let asked = opened_by party one mode contents controls activity in
@@ -147,7 +147,7 @@ open_passed state party mode contents controls activity (Some one) given is =
         let first = row (not (includes asked.selection.requested.value asked.mode.value) || not (contents_usable asked.mode asked.controls)) not_permitted in
         let second = row (is_mismatch asked.contents file.contents) contents_mismatch in
         let third = row (not (includes (modes file.tree.constraint) asked.mode.value)) outside_constraint_set in
-        let fourth = clash_row state asked.link file.name (joined asked.controls asked.selection.controls) in
+        let fourth = clash_row (holders state file.name) asked.link (joined asked.controls asked.selection.controls) in
         later_passed fourth last (later_passed third (fourth ∷ last) (later_passed second (third ∷ fourth ∷ last) (later_passed first (second ∷ third ∷ fourth ∷ last) rows)))
 
 -- what the rows of a recoverable open tell

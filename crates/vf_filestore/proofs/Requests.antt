@@ -23,6 +23,7 @@ use Rattle.vf_filestore.specs.Diagnostics.{attribute_unsupported, name_exists, n
 use Rattle.vf_filestore.specs.Effects.{changed, erased, files_by, put_where, without_file}
 use Rattle.vf_filestore.specs.Ending.{cancel_ending, stamp_of, transfer_ending}
 use Rattle.vf_filestore.specs.History.{Given, Nothing, History, Selection, position, regime, renamed, selection}
+use Rattle.vf_filestore.specs.Holders.{held_files, holders}
 use Rattle.vf_filestore.specs.Opening.{read_given}
 use Rattle.vf_filestore.specs.Selecting.{create_rows, is_taken, rename_row, select_rows}
 use Rattle.vf_filestore.specs.Sound.{IsSoundDocket, IsSoundIn, IsShownIn, IsThere, file_of, name_of}
@@ -43,7 +44,7 @@ pub given_is : (would given : Given) → Grants would ≡ Grants given → would
 given_is would given is = cc
 
 renamed_there : (state : State) (party : StandingParty) (setting : Setting) (name : Option (List ℕ)) (change : AttributeChange) → change.name ≡ name → (one : Option Selection)
-    → IfSome one (IsThere state.files) → is_taken state (file_in one) name ≡ false
+    → IfSome one (IsThere state.files) → is_taken state.files (file_in one) name ≡ false
     → IfSome (option_map (renamed name) one) (IsThere (put_where (file_in one) (changed (file_named (file_in one) state.files) (stamp_of party setting.moment) change) state.files))
 renamed_there state party setting name change named None there free = tt
 renamed_there state party setting name change named (Some selection) there free =
@@ -65,7 +66,7 @@ own_request state party setting (SelectRequest name requested controls password)
     let message = messages.Pdu (SelectRequest name requested controls password) in
     let at = placed_request party.history (SelectRequest name requested controls password) taken in
     let there = in_association_only message (record { reading = refl; shown = refl; writing = refl; written = refl }) refl refl (placed message party.history at) in
-    let passed = rows_passed (select_rows state (wanted_by party requested controls password) name) Nothing given is in
+    let passed = rows_passed (select_rows (held_files state) (wanted_by party requested controls password) name) Nothing given is in
     ended_sound state.files party.history (concluding_entry state party setting message given) (select_there state (wanted_by party requested controls password) name passed.passed) there.no_transfer at sound.nested
 own_request state party setting (CreateRequest over name contents permitted terms requested controls password) given is taken asks filed dockets sound =
     let message = messages.Pdu (CreateRequest over name contents permitted terms requested controls password) in
@@ -74,7 +75,7 @@ own_request state party setting (CreateRequest over name contents permitted term
     let wanted = wanted_by party requested controls password in
     let new : NewFile = record { name = name; contents = contents; permitted = permitted; terms = terms } in
     let one = unit_row (units_of party) limited_management in
-    let rows = create_rows state wanted over (stamp_of party setting.moment) new in
+    let rows = create_rows (held_files state) wanted over (stamp_of party setting.moment) new in
     let passed = rows_passed (one ∷ rows) (made_unless (file_named name state.files)) given is in
     ended_sound (files_by state party setting.moment given (CreateRequest over name contents permitted terms requested controls password)) party.history (concluding_entry state party setting message given)
     (create_there state wanted over (stamp_of party setting.moment) new (file_named name state.files) given refl (later_passed one rows passed.passed) passed.is) there.no_transfer at sound.nested
@@ -86,13 +87,13 @@ own_request state party setting (ChangeAttribRequest name permitted terms number
     let one = unit_row (units_of party) enhanced_management in
     let first = row (not (has (requested_in (selection party.history)) actions.ChangeAttribute)) not_permitted in
     let second = row (not (nat_eq number 0)) attribute_unsupported in
-    let third = row (is_taken state old name) name_exists in
-    let fourth = rename_row state party.link old name in
+    let third = row (is_taken state.files old name) name_exists in
+    let fourth = rename_row (holders state old) party.link old name in
     let passed = rows_passed (one ∷ first ∷ second ∷ third ∷ fourth ∷ []) Nothing given is in
     let left = later_passed second (third ∷ fourth ∷ []) (later_passed first (second ∷ third ∷ fourth ∷ []) (later_passed one (first ∷ second ∷ third ∷ fourth ∷ []) passed.passed)) in
     ended_sound (files_by state party setting.moment given (ChangeAttribRequest name permitted terms number)) party.history (concluding_entry state party setting message given)
     (renamed_there state party setting name (record { name = name; permitted = permitted; terms = terms; others = number }) refl (selection party.history) sound.there
-    (row_passed (is_taken state old name) name_exists (first_passed third (fourth ∷ []) left))) there.no_transfer at sound.nested
+    (row_passed (is_taken state.files old name) name_exists (first_passed third (fourth ∷ []) left))) there.no_transfer at sound.nested
 own_request state party setting DeselectRequest given is taken asks filed dockets sound =
     let message = messages.Pdu DeselectRequest in
     let at = placed_request party.history DeselectRequest taken in

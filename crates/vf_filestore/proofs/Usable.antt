@@ -33,12 +33,12 @@ use Rattle.vf_tree.specs.TreeRefusal.{TreeRefusal}
 use Rattle.vf_filestore.specs.Aborts.{Setting}
 use Rattle.vf_filestore.specs.Conclusion.{concluding_entry, history_of, taken_up}
 use Rattle.vf_filestore.specs.Controls.{attribute_controls, attributes_usable, content_controls, contents_usable, joined, not_opened}
-use Rattle.vf_filestore.specs.Decision.{Grants, made_unless, open_decision, opened_by, request_decision, units_for, wanted_by}
+use Rattle.vf_filestore.specs.Decision.{Grants, made_unless, open_decision, opened_by, opening_rows, request_decision, units_for, wanted_by}
 use Rattle.vf_filestore.specs.Diagnostics.{Row, contents_mismatch, first_row, name_exists, not_permitted, outside_constraint_set, row, store_full}
 use Rattle.vf_filestore.specs.Ending.{stamp_of}
 use Rattle.vf_filestore.specs.History.{Given, Nothing, Regime, Selection, position, regime, renamed, selection}
-use Rattle.vf_filestore.specs.Holders.{clash_row}
-use Rattle.vf_filestore.specs.Opening.{act_of, act_row, action_of, action_row, activity_rows, given_unless, is_mismatch, open_rows, read_given, read_rows, showing, write_given, write_rows}
+use Rattle.vf_filestore.specs.Holders.{clash_row, held_files, holders}
+use Rattle.vf_filestore.specs.Opening.{act_of, act_row, action_of, action_row, activity_rows, given_unless, is_mismatch, read_given, read_rows, showing, write_given, write_rows}
 use Rattle.vf_filestore.specs.Selecting.{Wanted, create_by, create_rows, rows_on, select_rows, selection_rows, typed_rows}
 use Rattle.vf_filestore.specs.Sound.{Holding, IsInMode, IsUsable, IsUsableOpen, holding_by, holding_in, holding_of_docket, holding_of_party}
 use Rattle.vf_filestore.specs.Stage.{regime_stage}
@@ -54,27 +54,27 @@ use Rattle.vf_filestore.proofs.Views.{in_association_only, in_regime_only, in_se
 
 -- ---- selections
 
-attributes_passed : (state : State) (wanted : Wanted) (file : File) → first_row (selection_rows state wanted file) ≡ None → attributes_usable wanted.requested wanted.controls ≡ true
+attributes_passed : (state : State) (wanted : Wanted) (file : File) → first_row (selection_rows (held_files state) wanted file) ≡ None → attributes_usable wanted.requested wanted.controls ≡ true
 attributes_passed state wanted file passed =
     let first = row (not (attributes_usable wanted.requested wanted.controls)) not_permitted in
-    let later = access_row (may file wanted.identity wanted.password wanted.requested) ∷ clash_row state wanted.link file.name (joined not_opened wanted.controls) ∷ [] in
+    let later = access_row (may file wanted.identity wanted.password wanted.requested) ∷ clash_row (holders state file.name) wanted.link (joined not_opened wanted.controls) ∷ [] in
     not-false (attributes_usable wanted.requested wanted.controls) (row_passed (not (attributes_usable wanted.requested wanted.controls)) not_permitted (first_passed first later passed))
 
-select_passed : (state : State) (wanted : Wanted) (name : List ℕ) → first_row (select_rows state wanted name) ≡ None → attributes_usable wanted.requested wanted.controls ≡ true
+select_passed : (state : State) (wanted : Wanted) (name : List ℕ) → first_row (select_rows (held_files state) wanted name) ≡ None → attributes_usable wanted.requested wanted.controls ≡ true
 select_passed state wanted name passed = by (file_named name state.files) passed
   where
-    by : (found : Option File) → first_row (rows_on found (selection_rows state wanted)) ≡ None → attributes_usable wanted.requested wanted.controls ≡ true
+    by : (found : Option File) → first_row (rows_on found (selection_rows (held_files state) wanted)) ≡ None → attributes_usable wanted.requested wanted.controls ≡ true
     by None passed = absurd cc
     by (Some file) passed = attributes_passed state wanted file passed
 
-create_passed : (state : State) (wanted : Wanted) (over : ℕ) (stamp : Stamp) (new : NewFile) (found : Option File) → first_row (create_by state wanted over stamp new found) ≡ None → attributes_usable wanted.requested wanted.controls ≡ true
-create_passed state wanted over stamp new (Some file) passed = attributes_passed state wanted file (later_passed (row (nat_eq over 0) name_exists) (selection_rows state wanted file) passed)
+create_passed : (state : State) (wanted : Wanted) (over : ℕ) (stamp : Stamp) (new : NewFile) (found : Option File) → first_row (create_by (held_files state) wanted over stamp new found) ≡ None → attributes_usable wanted.requested wanted.controls ≡ true
+create_passed state wanted over stamp new (Some file) passed = attributes_passed state wanted file (later_passed (row (nat_eq over 0) name_exists) (selection_rows (held_files state) wanted file) passed)
 create_passed state wanted over stamp new None passed = by (doc_type new.contents) passed
   where
-    by : (doc : Option DocType) → first_row (typed_rows state wanted stamp new doc) ≡ None → attributes_usable wanted.requested wanted.controls ≡ true
+    by : (doc : Option DocType) → first_row (typed_rows (held_files state) wanted stamp new doc) ≡ None → attributes_usable wanted.requested wanted.controls ≡ true
     by None passed = absurd cc
     by (Some doc) passed =
-        attributes_passed state wanted (made new stamp doc) (later_passed (row (not (nat_lt (length state.files) MOST_FILES)) store_full) (selection_rows state wanted (made new stamp doc)) passed)
+        attributes_passed state wanted (made new stamp doc) (later_passed (row (not (nat_lt (length state.files) MOST_FILES)) store_full) (selection_rows (held_files state) wanted (made new stamp doc)) passed)
 
 -- nothing is open in it yet
 selected_usable : (one : Selection) (opened : Option Regime) (moving : Option Transfer) → opened ≡ None → moving ≡ None → attributes_usable one.requested one.controls ≡ true → AllByRecursion IsUsable (holding_by opened moving (Some one))
@@ -89,10 +89,10 @@ open_usable : (state : State) (party : StandingParty) (mode : Actions) (contents
 open_usable state party mode contents controls activity one number given is =
     let asked = opened_by party one mode contents controls activity in
     let unit = unit_row (units_of party) (units_for activity) in
-    let passed = rows_passed (unit ∷ rows_on (selected_file state party.history) (open_rows state asked)) Nothing given is in
-    by (selected_file state party.history) (later_passed unit (rows_on (selected_file state party.history) (open_rows state asked)) passed.passed)
+    let passed = rows_passed (unit ∷ rows_on (selected_file state party.history) (opening_rows state asked)) Nothing given is in
+    by (selected_file state party.history) (later_passed unit (rows_on (selected_file state party.history) (opening_rows state asked)) passed.passed)
   where
-    by : (found : Option File) → first_row (rows_on found (open_rows state (opened_by party one mode contents controls activity))) ≡ None
+    by : (found : Option File) → first_row (rows_on found (opening_rows state (opened_by party one mode contents controls activity))) ≡ None
         → IsUsableOpen one (record { number = number; mode = mode; controls = content_controls mode controls; activity = activity })
     by None rows = absurd cc
     by (Some file) rows =
@@ -100,7 +100,7 @@ open_usable state party mode contents controls activity one number given is =
         let within = includes one.requested.value mode.value in
         let usable = contents_usable mode (content_controls mode controls) in
         let later = row (is_mismatch asked.contents file.contents) contents_mismatch ∷ row (not (includes (modes file.tree.constraint) asked.mode.value)) outside_constraint_set
-        ∷ clash_row state asked.link file.name (joined asked.controls asked.selection.controls) ∷ activity_rows state asked.identity asked.activity in
+        ∷ clash_row (holders state file.name) asked.link (joined asked.controls asked.selection.controls) ∷ activity_rows state asked.identity asked.activity in
         let both = or_parts (not within) (not usable) (row_passed (not within || not usable) not_permitted (first_passed (row (not within || not usable) not_permitted) later rows)) in
         record { within = not-false within both.0; usable = not-false usable both.1 }
 
@@ -172,7 +172,7 @@ pub request_usable : (state : State) (party : StandingParty) (setting : Setting)
 request_usable state party setting (SelectRequest name requested controls password) given is taken dockets usable =
     let message = messages.Pdu (SelectRequest name requested controls password) in
     let there = in_association_only message (record { reading = refl; shown = refl; writing = refl; written = refl }) refl refl (placed message party.history (placed_request party.history (SelectRequest name requested controls password) taken)) in
-    let passed = rows_passed (select_rows state (wanted_by party requested controls password) name) Nothing given is in
+    let passed = rows_passed (select_rows (held_files state) (wanted_by party requested controls password) name) Nothing given is in
     let one : Selection = record { file = name; requested = requested; controls = attribute_controls requested controls; password = password } in
     selected_usable one (regime party.history) (under_way party.history) there.no_regime there.no_transfer (select_passed state (wanted_by party requested controls password) name passed.passed)
 request_usable state party setting (CreateRequest over name contents permitted terms requested controls password) given is taken dockets usable =
@@ -182,7 +182,7 @@ request_usable state party setting (CreateRequest over name contents permitted t
     let wanted = wanted_by party requested controls password in
     let new : NewFile = record { name = name; contents = contents; permitted = permitted; terms = terms } in
     let unit = unit_row (units_of party) limited_management in
-    let rows = create_rows state wanted over (stamp_of party setting.moment) new in
+    let rows = create_rows (held_files state) wanted over (stamp_of party setting.moment) new in
     let passed = rows_passed (unit ∷ rows) (made_unless (file_named name state.files)) given is in
     let one : Selection = record { file = name; requested = requested; controls = attribute_controls requested controls; password = password } in
     selected_usable one (regime party.history) (under_way party.history) there.no_regime there.no_transfer

@@ -21,8 +21,9 @@ use Rattle.vf_filestore.specs.Controls.{attribute_controls, content_controls}
 use Rattle.vf_filestore.specs.Diagnostics.{Row, first_row, plain, name_unknown, wrong_regime, wrong_state}
 use Rattle.vf_filestore.specs.Ending.{cancel_ending, stamp_of, transfer_ending}
 use Rattle.vf_filestore.specs.History.{Given, Nothing, Made, Selection, guest, position, regime, selection}
+use Rattle.vf_filestore.specs.Holders.{held_files}
 use Rattle.vf_filestore.specs.Limits.{most_items}
-use Rattle.vf_filestore.specs.Opening.{Opened, erase_rows, locate_rows, open_rows, placed, read_given, write_given}
+use Rattle.vf_filestore.specs.Opening.{Opened, activity_rows, erase_rows, locate_rows, open_rows, placed, read_given, write_given}
 use Rattle.vf_filestore.specs.Recovering.{is_read_in, recover_rows, resumed}
 use Rattle.vf_filestore.specs.Selecting.{Wanted, change_attrib_rows, create_rows, delete_rows, initialize_rows, read_attrib_rows, rows_on, select_rows}
 use Rattle.vf_filestore.specs.Stage.{Group, pending, regime_stage, stage}
@@ -69,7 +70,7 @@ made_unless (Some file) = Nothing
 
 abbrev pub create_decision : State → StandingParty → (moment over : ℕ) → Wanted → NewFile → Decision
 create_decision state party moment over wanted new =
-    decided (unit_row (units_of party) limited_management ∷ create_rows state wanted over (stamp_of party moment) new)
+    decided (unit_row (units_of party) limited_management ∷ create_rows (held_files state) wanted over (stamp_of party moment) new)
     (made_unless (file_named new.name state.files))
 
 abbrev pub opened_by : StandingParty → Selection → (mode : Actions) → Option Contents → Option ContentControls → Option ℕ → Opened
@@ -88,10 +89,14 @@ abbrev pub units_for : Option ℕ → ℕ
 units_for None = 0
 units_for (Some activity) = recovery_unit
 
+-- the rows of an open in a state
+abbrev pub opening_rows : State → Opened → File → List Row
+opening_rows state asked = open_rows (held_files state) (activity_rows state asked.identity asked.activity) asked
+
 abbrev pub open_decision : State → StandingParty → (mode : Actions) → Option Contents → Option ContentControls → Option ℕ → Option Selection → Decision
 open_decision state party mode contents controls activity None = Aborts wrong_state
 open_decision state party mode contents controls activity (Some selection) =
-    decided (unit_row (units_of party) (units_for activity) ∷ rows_on (selected_file state party.history) (open_rows state (opened_by party selection mode contents controls activity)))
+    decided (unit_row (units_of party) (units_for activity) ∷ rows_on (selected_file state party.history) (opening_rows state (opened_by party selection mode contents controls activity)))
     Nothing
 
 abbrev pub locate_decision : StandingParty → FaduId → Option File → Decision
@@ -126,17 +131,17 @@ request_decision state party setting TerminateRequest = Ends
 request_decision state party setting (UserAbort number) = Leaves
 request_decision state party setting (ProviderAbort number place) = Leaves
 request_decision state party setting (SelectRequest name requested controls password) =
-    decided (select_rows state (wanted_by party requested controls password) name) Nothing
+    decided (select_rows (held_files state) (wanted_by party requested controls password) name) Nothing
 request_decision state party setting (CreateRequest over name contents permitted terms requested controls password) =
     create_decision state party setting.moment over (wanted_by party requested controls password)
     (record { name = name; contents = contents; permitted = permitted; terms = terms })
 request_decision state party setting DeselectRequest = Grants Nothing
 request_decision state party setting DeleteRequest =
-    decided (unit_row (units_of party) limited_management ∷ delete_rows state party.link (selection party.history)) Nothing
+    decided (unit_row (units_of party) limited_management ∷ delete_rows (held_files state) party.link (selection party.history)) Nothing
 request_decision state party setting (ReadAttribRequest names) =
     decided (unit_row (units_of party) limited_management ∷ read_attrib_rows (selection party.history) names) Nothing
 request_decision state party setting (ChangeAttribRequest name permitted terms others) =
-    decided (unit_row (units_of party) enhanced_management ∷ change_attrib_rows state party.link (selection party.history) name others) Nothing
+    decided (unit_row (units_of party) enhanced_management ∷ change_attrib_rows (held_files state) party.link (selection party.history) name others) Nothing
 request_decision state party setting (OpenRequest mode contents controls activity) =
     open_decision state party (record { value = mode }) contents controls activity (selection party.history)
 request_decision state party setting CloseRequest = Grants Nothing

@@ -4,6 +4,7 @@ use Rattle.std.specs.Prelude.{ℕ, ℤ, pos, neg_ℤ, List, [], ◌∷◌, ◌++
 use Rattle.std.specs.List.{flat_map, fold}
 use Rattle.std.specs.Str.{bytes_eq}
 use Rattle.vf_attr.specs.Access.{number_of}
+use Rattle.vf_attr.specs.declared.file.File.{File}
 use Rattle.vf_base.specs.declared.action.Action.{Action}
 use Rattle.vf_base.specs.declared.action.Controls.{Controls}
 use Rattle.vf_base.specs.declared.diagnostic.Diagnostic.{Diagnostic}
@@ -51,6 +52,14 @@ abbrev pub holders : State → (file : List ℕ) → List Held
 holders state file =
     put_in_order (flat_map (held_by_party file) state.parties ++ flat_map (held_by_docket file) state.dockets)
 
+-- what a request finds: the files, and who holds each
+pub record HeldFiles : Type 0 where
+  pub files : List File
+  pub holders : (file : List ℕ) → List Held
+
+abbrev pub held_files : State → HeldFiles
+held_files state = record { files = state.files; holders = holders state }
+
 -- a party's link, or a docket's activity with a minus sign
 abbrev pub holder_number : Holder → ℤ
 holder_number (Party link) = pos link
@@ -61,11 +70,11 @@ abbrev pub conflict_with : Action → Holder → Diagnostic
 conflict_with action holder =
     record { number = concurrency_conflict; first = pos (number_of action); second = holder_number holder }
 
--- the first other holder of the file whose controls clash with these, on the lowest such action
-abbrev pub clash_row : State → (link : ℕ) (file : List ℕ) → Controls → Row
-clash_row state link file wanted =
-    option_map (λ (found : Conflict). conflict_with found.action found.holder) (conflict (Party link) wanted (holders state file))
+-- the first other of a file's holders whose controls clash with these, on the lowest such action
+abbrev pub clash_row : List Held → (link : ℕ) → Controls → Row
+clash_row helds link wanted =
+    option_map (λ (found : Conflict). conflict_with found.action found.holder) (conflict (Party link) wanted helds)
 
--- any other holder of the file
-abbrev pub alone_row : State → (link : ℕ) (file : List ℕ) → Action → Row
-alone_row state link file action = option_map (conflict_with action) (first_other (Party link) (holders state file))
+-- any other of a file's holders
+abbrev pub alone_row : List Held → (link : ℕ) → Action → Row
+alone_row helds link action = option_map (conflict_with action) (first_other (Party link) helds)

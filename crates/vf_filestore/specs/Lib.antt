@@ -11,6 +11,7 @@ pub mod Ending
 pub mod Groups
 pub mod History
 pub mod Holders
+pub mod HoldersAfter
 pub mod Keeping
 pub mod Laws
 pub mod Limits

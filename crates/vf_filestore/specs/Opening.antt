@@ -23,7 +23,7 @@ use Rattle.vf_tree.specs.TreeRefusal.{TreeRefusal}
 use Rattle.vf_filestore.specs.Controls.{contents_usable, joined}
 use Rattle.vf_filestore.specs.Diagnostics.{Row, row, first_row, name_unknown, not_permitted, contents_mismatch, outside_constraint_set, file_full, activity_in_use, too_many_dockets}
 use Rattle.vf_filestore.specs.History.{Given, Nothing, Refused, Showed, Placed, Selection}
-use Rattle.vf_filestore.specs.Holders.{clash_row}
+use Rattle.vf_filestore.specs.Holders.{HeldFiles, clash_row}
 use Rattle.vf_filestore.specs.Limits.{most_dockets, most_version}
 use Rattle.vf_filestore.specs.State.{State, StandingParty, activity_of, docket_of, identity_of}
 use Rattle.vf_filestore.specs.Units.{read_unit, write_unit}
@@ -63,14 +63,14 @@ pub record Opened : Type 0 where
   pub controls : ContentControls
   pub activity : Option ℕ
 
--- F-OPEN
-abbrev pub open_rows : State → Opened → File → List Row
-open_rows state asked file =
+-- F-OPEN; the last rows are those of its activity
+abbrev pub open_rows : HeldFiles → (activity : List Row) → Opened → File → List Row
+open_rows found activity asked file =
     row (not (includes asked.selection.requested.value asked.mode.value) || not (contents_usable asked.mode asked.controls)) not_permitted
     ∷ row (is_mismatch asked.contents file.contents) contents_mismatch
     ∷ row (not (includes (modes file.tree.constraint) asked.mode.value)) outside_constraint_set
-    ∷ clash_row state asked.link file.name (joined asked.controls asked.selection.controls)
-    ∷ activity_rows state asked.identity asked.activity
+    ∷ clash_row (found.holders file.name) asked.link (joined asked.controls asked.selection.controls)
+    ∷ activity
 
 -- what the constraint set refuses of an act, or the file as it is
 abbrev pub act_row : Result Outcome TreeRefusal → Row

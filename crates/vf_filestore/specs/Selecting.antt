@@ -14,26 +14,24 @@ use Rattle.vf_files.specs.Files.{file_named}
 use Rattle.vf_files.specs.Rows.{access_row, made}
 use Rattle.vf_files.specs.declared.creation.NewFile.{NewFile}
 use Rattle.vf_files.specs.declared.limits.TheConstants.{MOST_FILES}
+use Rattle.vf_locks.specs.declared.held.Held.{Held}
 use Rattle.vf_pdu_fields.specs.declared.controls.AttributeControls.{AttributeControls}
+use Rattle.vf_tables.specs.Entries.{is_user}
 use Rattle.vf_tables.specs.declared.user.User.{User}
 use Rattle.vf_filestore.specs.Controls.{attributes_usable, joined, not_opened}
 use Rattle.vf_filestore.specs.Diagnostics.{Row, row, name_unknown, name_exists, not_permitted, contents_mismatch, store_full, attribute_unsupported, not_a_user}
 use Rattle.vf_filestore.specs.History.{Selection}
-use Rattle.vf_filestore.specs.Holders.{alone_row, clash_row}
+use Rattle.vf_filestore.specs.Holders.{HeldFiles, alone_row, clash_row}
 use Rattle.vf_filestore.specs.Limits.{most_names}
-use Rattle.vf_filestore.specs.State.{State, requested_in, file_in}
-
-abbrev pub is_user : (identity : List ℕ) → User → Bool
-is_user identity user = bytes_eq user.identity identity
-
-abbrev pub is_admitted_as : Option User → (password : Option (List ℕ)) → Bool
-is_admitted_as None password = false
-is_admitted_as (Some user) password = is_met user.password password
+use Rattle.vf_filestore.specs.State.{requested_in, file_in}
 
 -- a filestore without users takes every identity
+abbrev pub is_admitted_as : List User → Option User → (password : Option (List ℕ)) → Bool
+is_admitted_as users None password = nat_eq (length users) 0
+is_admitted_as users (Some user) password = is_met user.password password
+
 abbrev pub is_admitted : List User → (identity : List ℕ) → (password : Option (List ℕ)) → Bool
-is_admitted [] identity password = true
-is_admitted (user ∷ users) identity password = is_admitted_as (find (is_user identity) (user ∷ users)) password
+is_admitted users identity password = is_admitted_as users (find (is_user identity) users) password
 
 -- F-INITIALIZE
 abbrev pub initialize_rows : List User → (identity : List ℕ) → (password : Option (List ℕ)) → List Row
@@ -48,11 +46,11 @@ pub record Wanted : Type 0 where
   pub controls : AttributeControls
 
 -- the selection of a file that is there
-abbrev pub selection_rows : State → Wanted → File → List Row
-selection_rows state wanted file =
+abbrev pub selection_rows : HeldFiles → Wanted → File → List Row
+selection_rows found wanted file =
     row (not (attributes_usable wanted.requested wanted.controls)) not_permitted
     ∷ access_row (may file wanted.identity wanted.password wanted.requested)
-    ∷ clash_row state wanted.link file.name (joined not_opened wanted.controls) ∷ []
+    ∷ clash_row (found.holders file.name) wanted.link (joined not_opened wanted.controls) ∷ []
 
 -- rows that look at a file, which has to be there
 abbrev pub rows_on : Option File → (File → List Row) → List Row
@@ -60,21 +58,21 @@ rows_on None rows = row true name_unknown ∷ []
 rows_on (Some file) rows = rows file
 
 -- F-SELECT
-abbrev pub select_rows : State → Wanted → (name : List ℕ) → List Row
-select_rows state wanted name = rows_on (file_named name state.files) (selection_rows state wanted)
+abbrev pub select_rows : HeldFiles → Wanted → (name : List ℕ) → List Row
+select_rows found wanted name = rows_on (file_named name found.files) (selection_rows found wanted)
 
-abbrev pub typed_rows : State → Wanted → Stamp → NewFile → Option DocType → List Row
-typed_rows state wanted stamp new None = row true contents_mismatch ∷ []
-typed_rows state wanted stamp new (Some doc) =
-    row (not (nat_lt (length state.files) MOST_FILES)) store_full ∷ selection_rows state wanted (made new stamp doc)
+abbrev pub typed_rows : HeldFiles → Wanted → Stamp → NewFile → Option DocType → List Row
+typed_rows found wanted stamp new None = row true contents_mismatch ∷ []
+typed_rows found wanted stamp new (Some doc) =
+    row (not (nat_lt (length found.files) MOST_FILES)) store_full ∷ selection_rows found wanted (made new stamp doc)
 
-abbrev pub create_by : State → Wanted → (over : ℕ) → Stamp → NewFile → Option File → List Row
-create_by state wanted over stamp new (Some file) = row (nat_eq over 0) name_exists ∷ selection_rows state wanted file
-create_by state wanted over stamp new None = typed_rows state wanted stamp new (doc_type new.contents)
+abbrev pub create_by : HeldFiles → Wanted → (over : ℕ) → Stamp → NewFile → Option File → List Row
+create_by found wanted over stamp new (Some file) = row (nat_eq over 0) name_exists ∷ selection_rows found wanted file
+create_by found wanted over stamp new None = typed_rows found wanted stamp new (doc_type new.contents)
 
 -- F-CREATE: of a file that is there its own attributes count, and those that come with the request don't
-abbrev pub create_rows : State → Wanted → (over : ℕ) → Stamp → NewFile → List Row
-create_rows state wanted over stamp new = create_by state wanted over stamp new (file_named new.name state.files)
+abbrev pub create_rows : HeldFiles → Wanted → (over : ℕ) → Stamp → NewFile → List Row
+create_rows found wanted over stamp new = create_by found wanted over stamp new (file_named new.name found.files)
 
 -- F-READ-ATTRIB: the attributes are numbered 1, 2, 4 to 256
 abbrev pub read_attrib_rows : Option Selection → (names : ℕ) → List Row
@@ -83,24 +81,25 @@ read_attrib_rows selection names =
     ∷ row (nat_lt most_names names) attribute_unsupported ∷ []
 
 -- a new name is another file's
-abbrev pub is_taken : State → (old : List ℕ) → Option (List ℕ) → Bool
-is_taken state old None = false
-is_taken state old (Some name) = not (bytes_eq name old) && not (is_none (file_named name state.files))
+abbrev pub is_taken : List File → (old : List ℕ) → Option (List ℕ) → Bool
+is_taken files old None = false
+is_taken files old (Some name) = not (bytes_eq name old) && not (is_none (file_named name files))
 
-abbrev pub rename_row : State → (link : ℕ) (old : List ℕ) → Option (List ℕ) → Row
-rename_row state link old None = None
-rename_row state link old (Some name) = if bytes_eq name old then None else alone_row state link old actions.ChangeAttribute
+-- a rename, by one of a file's holders
+abbrev pub rename_row : List Held → (link : ℕ) (old : List ℕ) → Option (List ℕ) → Row
+rename_row helds link old None = None
+rename_row helds link old (Some name) = if bytes_eq name old then None else alone_row helds link actions.ChangeAttribute
 
 -- F-CHANGE-ATTRIB: no other holder knows the file by its old name
-abbrev pub change_attrib_rows : State → (link : ℕ) → Option Selection → (name : Option (List ℕ)) (others : ℕ) → List Row
-change_attrib_rows state link selection name others =
+abbrev pub change_attrib_rows : HeldFiles → (link : ℕ) → Option Selection → (name : Option (List ℕ)) (others : ℕ) → List Row
+change_attrib_rows found link selection name others =
     row (not (has (requested_in selection) actions.ChangeAttribute)) not_permitted
     ∷ row (not (nat_eq others 0)) attribute_unsupported
-    ∷ row (is_taken state (file_in selection) name) name_exists
-    ∷ rename_row state link (file_in selection) name ∷ []
+    ∷ row (is_taken found.files (file_in selection) name) name_exists
+    ∷ rename_row (found.holders (file_in selection)) link (file_in selection) name ∷ []
 
 -- F-DELETE
-abbrev pub delete_rows : State → (link : ℕ) → Option Selection → List Row
-delete_rows state link selection =
+abbrev pub delete_rows : HeldFiles → (link : ℕ) → Option Selection → List Row
+delete_rows found link selection =
     row (not (has (requested_in selection) actions.Delete)) not_permitted
-    ∷ alone_row state link (file_in selection) actions.Delete ∷ []
+    ∷ alone_row (found.holders (file_in selection)) link actions.Delete ∷ []

@@ -1,4 +1,5 @@
 //! Laws of the definitions, each the contract of a function that does nothing.
+ghost use Rattle.vf_filestore.specs.HoldersAfter.{ArrivalsHold, BreaksHold, CallsFollow, ClosesHold, DropsHold, ItemsHold, MessagesHold, MovesFollow, PartiesHold, TracesHold};
 ghost use Rattle.vf_filestore.specs.Keeping.{BeginsKept, BreaksStayKept, DropsStayKept, FaultsStayKept, KeptIsValid, MessagesStayKept, RunsStayKept, StopsStayKept};
 ghost use Rattle.vf_filestore.specs.Laws.{BeginsSound, BreaksAreSound, BreaksKeep, DifferencesFit, DifferencesLead, DropsAreSound, DropsLead, FaultsAreSound, FaultsKeep, MakesNoChange, MessagesFit, MessagesLead, RunsAreSound, StopsAreSound, StopsBegin, StopsKeep, TransitionsAreSound};
 ghost use Rattle.vf_filestore.specs.Ranges.{BeginsReached, BreaksStayReached, DropsMake, DropsStayReached, FaultsStayReached, MessagesStayReached, ReachedIsKept, ReadMessagesFit, ReadMessagesMake, RunsMake, StopsStayReached};
@@ -105,4 +106,36 @@ pub fn states_stay_reached()
 /// what is kept after it, and no other event changes what is kept.
 pub fn runs_make()
     ensures { RunsMake }
+{}
+
+/// A message that is granted, alone or as an item of a group, changes the holders of a file by one call on them: it
+/// grants the party controls on it, releases it, moves it to another name or passes it from a docket to the party. Each
+/// other file keeps its holders, and a message that only joins a trace changes none.
+pub fn messages_hold()
+    ensures messages { MessagesHold }
+    ensures items { ItemsHold }
+    ensures traces { TracesHold }
+{}
+
+/// A party that is gone is passed to the docket of its recoverable open, or released; a docket that is dropped is
+/// released, and a party that arrives holds nothing.
+pub fn ends_hold()
+    ensures breaks { BreaksHold }
+    ensures drops { DropsHold }
+    ensures arrivals { ArrivalsHold }
+{}
+
+/// A party that has selected a file holds it with the controls of its selection and of the open in it, and no other
+/// holder stands against those that it has once that is closed.
+pub fn parties_hold()
+    ensures selections { PartiesHold }
+    ensures closes { ClosesHold }
+{}
+
+/// Where a table has of each file the holders that it has in a state, and a call does to one file what becomes of it in
+/// the state, the table has those of the state after it; so it is with the two calls that move a file's holder to
+/// another name.
+pub fn calls_follow()
+    ensures calls { CallsFollow }
+    ensures moves { MovesFollow }
 {}

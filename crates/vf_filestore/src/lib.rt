@@ -6,9 +6,10 @@ mod laws;
 mod rows;
 
 pub use laws::{
-    begins_sound, changes_fit, changes_lead, changes_make, ends_are_sound, ends_keep_tables,
-    reached_tables_are_kept, runs_are_sound, runs_make, states_stay_kept, states_stay_reached,
-    stops_begin, tables_are_valid, the_same_makes_no_change, transitions_are_sound,
+    begins_sound, calls_follow, changes_fit, changes_lead, changes_make, ends_are_sound, ends_hold,
+    ends_keep_tables, messages_hold, parties_hold, reached_tables_are_kept, runs_are_sound,
+    runs_make, states_stay_kept, states_stay_reached, stops_begin, tables_are_valid,
+    the_same_makes_no_change, transitions_are_sound,
 };
 pub use rows::{
     attributes_compute, changes_compute, controls_compute, groups_compute, opens_compute,

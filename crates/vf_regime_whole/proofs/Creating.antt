@@ -41,6 +41,7 @@ use Rattle.vf_filestore.specs.Due.{due_after}
 use Rattle.vf_filestore.specs.Effects.{created}
 use Rattle.vf_filestore.specs.Ending.{stamp_of}
 use Rattle.vf_filestore.specs.History as whole
+use Rattle.vf_filestore.specs.Holders.{held_files}
 use Rattle.vf_filestore.specs.Replies.{reply}
 use Rattle.vf_filestore.specs.Selecting.{create_by, selection_rows, typed_rows}
 use Rattle.vf_filestore.specs.Stage.{regime_stage}
@@ -133,7 +134,7 @@ module _ (over : ℕ) (name : List ℕ) (contents : Contents) (permitted : Actio
     roomy_comes doc typed true None = made_comes doc typed
 
     typed_comes : (doc : Option DocType) → doc_type contents ≡ doc
-        → Comes state party setting asks (granted_unless (first_row (typed_rows state (wanted_by party requested None password) stamp new doc)) whole.Made)
+        → Comes state party setting asks (granted_unless (first_row (typed_rows (held_files state) (wanted_by party requested None password) stamp new doc)) whole.Made)
         (consequences.created_by (rows.typed doc state.files stamp password requested new) (state_as state) (party_as party) setting.moment asks)
     typed_comes None typed = refused_comes state party setting asks (plain contents_mismatch) (CreateResponse (Some (plain contents_mismatch))) is built refl refl
     typed_comes (Some doc) typed =
@@ -144,12 +145,12 @@ module _ (over : ℕ) (name : List ℕ) (contents : Contents) (permitted : Actio
 
     found_comes : nat_eq over 0 ≡ true → (agreed_on : Bool) (found : Option File)
         → Comes state party setting asks
-        (granted_unless (option_or (cond agreed_on None (Some (plain unit_not_agreed))) (first_row (create_by state (wanted_by party requested None password) over stamp new found))) (decisions.made_unless found))
+        (granted_unless (option_or (cond agreed_on None (Some (plain unit_not_agreed))) (first_row (create_by (held_files state) (wanted_by party requested None password) over stamp new found))) (decisions.made_unless found))
         (consequences.created_by (rows.created_unless (option_or (cond agreed_on None (Some (plain unit_not_agreed))) (rows.absent_row found)) state.files stamp password requested new) (state_as state) (party_as party) setting.moment asks)
     found_comes over_none false found = refused_comes state party setting asks (plain unit_not_agreed) (CreateResponse (Some (plain unit_not_agreed))) is built refl refl
     found_comes over_none true (Some file) =
         subst (λ (b : Bool). Comes state party setting asks
-        (granted_unless (option_or (row b name_exists) (first_row (selection_rows state (wanted_by party requested None password) file))) (decisions.made_unless (Some file)))
+        (granted_unless (option_or (row b name_exists) (first_row (selection_rows (held_files state) (wanted_by party requested None password) file))) (decisions.made_unless (Some file)))
         (consequences.refuses (party_as party) asks (CreateResponse (Some (plain name_exists))))) (sym over_none)
         (refused_comes state party setting asks (plain name_exists) (CreateResponse (Some (plain name_exists))) is built refl refl)
     found_comes over_none true None = typed_comes (doc_type contents) refl

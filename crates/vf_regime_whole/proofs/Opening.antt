@@ -19,11 +19,10 @@ use Rattle.vf_pdu_fields.specs.declared.controls.ContentControls.{ContentControl
 use Rattle.vf_filestore.specs.Aborts.{Setting}
 use Rattle.vf_filestore.specs.Controls.{content_controls, contents_usable, joined}
 use Rattle.vf_filestore.specs.Decision as decisions
-use Rattle.vf_filestore.specs.Decision.{granted_unless, open_decision}
+use Rattle.vf_filestore.specs.Decision.{granted_unless, open_decision, opening_rows}
 use Rattle.vf_filestore.specs.Diagnostics.{Row, first_row, not_permitted, outside_constraint_set, plain, name_unknown, row}
 use Rattle.vf_filestore.specs.Due.{due_after}
 use Rattle.vf_filestore.specs.History as whole
-use Rattle.vf_filestore.specs.Opening.{open_rows}
 use Rattle.vf_filestore.specs.Replies.{contents_of, reply}
 use Rattle.vf_filestore.specs.Selecting.{rows_on}
 use Rattle.vf_filestore.specs.Stage.{regime_stage}
@@ -74,7 +73,7 @@ no_unit None fifteen = refl
 no_unit (Some one) fifteen = ap (λ units. unit_row units 0) fifteen
 
 file_row : (state : filestore.State) (party : filestore.StandingParty) (one : whole.Selection) (mode : ℕ) (file : File) → IsBuiltState state party
-    → first_row (open_rows state (decisions.opened_by party one (set_of mode) None None None) file) ≡ mode_row file.tree.constraint one.requested.value mode
+    → first_row (opening_rows state (decisions.opened_by party one (set_of mode) None None None) file) ≡ mode_row file.tree.constraint one.requested.value mode
 file_row state party one mode file is =
     let clash = clashes_none state party file.name (joined (content_controls (set_of mode) None) one.controls) is in
     (λ i. option_or (row (not (includes one.requested.value mode) || not (contents_default (set_of mode) i)) not_permitted)
@@ -101,7 +100,7 @@ opened_comes state party setting mode file is still found None =
 
 found_comes : (state : filestore.State) (party : filestore.StandingParty) (setting : Setting) (mode : ℕ) (one : whole.Selection) → IsBuiltState state party → transfers.under_way party.history ≡ None
     → (found : Option File) → selected_file state party.history ≡ found
-    → Comes state party setting (asks mode) (granted_unless (first_row (rows_on found (open_rows state (decisions.opened_by party one (set_of mode) None None None)))) whole.Nothing)
+    → Comes state party setting (asks mode) (granted_unless (first_row (rows_on found (opening_rows state (decisions.opened_by party one (set_of mode) None None None)))) whole.Nothing)
     (consequences.opened_by (opened found one.requested mode) (state_as state) (party_as party) setting.moment (asks mode))
 found_comes state party setting mode one is still None found = refused_comes state party setting (asks mode) (plain name_unknown) (OpenResponse (Some (plain name_unknown)) None) is refl refl refl
 found_comes state party setting mode one is still (Some file) found =
@@ -118,7 +117,7 @@ opens_plain mode = agrees_where (asks mode) performs
         let name : selected_file state party.history ≡ file_named one.file state.files = ap (λ (now : Option whole.Selection). file_named (file_in now) state.files) there.is in
         let selects = (filters_agree party.history is.built.history).selects ∙ ap (option_map selection_as) there.is in
         let found = selected_file state party.history in
-        let rows = rows_on found (open_rows state (decisions.opened_by party one (set_of mode) None None None)) in
+        let rows = rows_on found (opening_rows state (decisions.opened_by party one (set_of mode) None None None)) in
         let same : consequences.opened_by (opened (file_named (consequences.file_in (regimes.selection (history_as party.history))) state.files) (consequences.requested_in (regimes.selection (history_as party.history))) mode) (state_as state) (party_as party) setting.moment (asks mode)
         ≡ consequences.opened_by (opened found one.requested mode) (state_as state) (party_as party) setting.moment (asks mode)
         = ap (λ (now : Option regimes.Selection). consequences.opened_by (opened (file_named (consequences.file_in now) state.files) (consequences.requested_in now) mode) (state_as state) (party_as party) setting.moment (asks mode)) selects

@@ -33,7 +33,7 @@ use Rattle.vf_filestore.specs.Decision.{Decision, Grants, decided, granted_unles
 use Rattle.vf_filestore.specs.Diagnostics.{Row, first_row, not_permitted, row}
 use Rattle.vf_filestore.specs.Due.{due_after}
 use Rattle.vf_filestore.specs.History as whole
-use Rattle.vf_filestore.specs.Holders.{clash_row, conflict_with, controls_by, held_by, held_by_docket, held_by_party, put_in_order}
+use Rattle.vf_filestore.specs.Holders.{clash_row, conflict_with, controls_by, held_by, held_by_docket, held_by_party, held_files, holders, put_in_order}
 use Rattle.vf_filestore.specs.Replies.{reply}
 use Rattle.vf_filestore.specs.Selecting.{initialize_rows, rows_on, selection_rows}
 use Rattle.vf_filestore.specs.Stage.{moving_stage, regime_stage, stage_by}
@@ -112,7 +112,7 @@ own_only link file wanted regime (Some one) = by (bytes_eq one.file file)
     by false = refl
     by true = ap (λ (b : Bool). first_against wanted (cond (not b) (record { holder = Party link; controls = controls_by one regime } ∷ []) [])) (same_link link)
 
-pub clashes_none : (state : filestore.State) (party : filestore.StandingParty) (file : List ℕ) (wanted : Controls) → IsBuiltState state party → clash_row state party.link file wanted ≡ None
+pub clashes_none : (state : filestore.State) (party : filestore.StandingParty) (file : List ℕ) (wanted : Controls) → IsBuiltState state party → clash_row (holders state file) party.link wanted ≡ None
 clashes_none state party file wanted is =
     ap (option_map (λ (found : Conflict). conflict_with found.action found.holder))
     ((λ i. conflict (Party party.link) wanted (put_in_order (flat_map (held_by_party file) (is.alone i) ++ flat_map (held_by_docket file) (is.dockets i))))
@@ -134,14 +134,14 @@ or_nothing (Some diagnostic) = refl
 
 -- access alone refuses the selection of a file that is there
 pub access_only : (state : filestore.State) (party : filestore.StandingParty) (requested : Actions) (password : Option (List ℕ)) (file : File) → IsBuiltState state party
-    → first_row (selection_rows state (wanted_by party requested None password) file) ≡ access_row (may file (identity_of party) password requested)
+    → first_row (selection_rows (held_files state) (wanted_by party requested None password) file) ≡ access_row (may file (identity_of party) password requested)
 access_only state party requested password file is =
     let access = access_row (may file (identity_of party) password requested) in
     let clash = clashes_none state party file.name (joined not_opened (attribute_controls requested None)) is in
     (λ i. option_or (row (not (attributes_default requested i)) not_permitted) (option_or access (option_or (clash i) None))) ∙ or_nothing access
 
 select_same : (state : filestore.State) (party : filestore.StandingParty) (requested : Actions) (password : Option (List ℕ)) (found : Option File) → IsBuiltState state party
-    → first_row (rows_on found (selection_rows state (wanted_by party requested None password))) ≡ select_row found (identity_of party) password requested
+    → first_row (rows_on found (selection_rows (held_files state) (wanted_by party requested None password))) ≡ select_row found (identity_of party) password requested
 select_same state party requested password None is = refl
 select_same state party requested password (Some file) is = access_only state party requested password file is
 
