@@ -1,0 +1,3 @@
+pub mod Creations
+pub mod Represents
+pub mod Steps

@@ -1,0 +1,5 @@
+//! Tests of the steps of a party over the whole filestore.
+#![tactic(auto)]
+
+#[cfg(test)]
+mod steps;
