@@ -5,7 +5,7 @@ ghost use Rattle.vf_tpkt.specs.Tpdu.{may_come as may_come_now, is_counted as cou
 
 use crate::kind::Kind;
 use crate::parameters::sizes;
-use crate::{Phase, Side};
+use crate::phase::{Phase, Side};
 
 /// The mark of the last DT of a TSDU.
 pub(crate) const LAST: u8 = 0x80;

@@ -19,6 +19,6 @@ pub use laws::{
     ends_connect, packets_tell_the_reading, pieces_tell_all, sent_is_received, stream_holds_tpdus,
 };
 pub use limits::{MOST_PACKET_OCTETS, MOST_TPDU_OCTETS};
-pub use phase::{Phase, Side};
+pub use phase::Side;
 pub use tpkt::Tpkt;
 pub use unit::Unit;
