@@ -1,5 +1,6 @@
 pub mod NumberLemmas
 pub mod PartLemmas
+pub mod StandLemmas
 pub mod MeasureLemmas
 pub mod DigitLemmas
 pub mod ParameterLemmas

@@ -1,5 +1,5 @@
 -- The steps of reading, as the functions that take them promise.
-use Rattle.std.specs.Prelude.{◌≡◌, ℕ, ◌+◌, ◌≤◌, IsTrue, nat_eq, List, [], ◌∷◌, length, Result, Ok, Err, if◌then◌else◌}
+use Rattle.std.specs.Prelude.{◌≡◌, ℕ, ◌+◌, ◌≤◌, IsTrue, nat_eq, List, [], ◌∷◌, length, take, drop, Result, Ok, Err, if◌then◌else◌}
 use Rattle.std.specs.Borrow.{Bor}
 use Rattle.vf_session_spdu.specs.declared.errors.SpduError.{SpduError}
 use Rattle.vf_session_spdu.specs.declared.errors.SpduError.TheVariants.{Length}
@@ -16,6 +16,10 @@ Measures place octets (Ok found) =
     (measured octets ≡ whole found.0 found.1.now found.2.now) × (found.0 ≤ 3) × (length found.1.now ≤ MOST_PARAMETER_OCTETS)
     × (found.0 + (length found.1.now + length found.2.now) ≡ length octets)
 Measures place octets (Err fault) = (measured octets ≡ short) × (fault ≡ Length (place + 1))
+
+-- Octets that stand at this place among all.
+abbrev pub Stands : List ℕ → ℕ → List ℕ → Type 0
+Stands all place octets = (take (length octets) (drop place all) ≡ octets) × (place + length octets ≤ length all)
 
 abbrev pub IsFit : Form → List ℕ → Type 0
 IsFit form value = IsTrue (fits form value)

@@ -18,6 +18,6 @@ pub use kinds::code_of;
 pub use laws::written_is_read_again;
 pub use limits::{LAST_SERIAL, MOST_CONNECT_OCTETS, MOST_PARAMETER_OCTETS};
 pub use numbers::digit_count;
-pub use reading::{fault_place, place_after_gt, read};
+pub use reading::{fault_place, place_after_gt, read, read_shared};
 pub use spdu::{Spdu, SpduFields};
 pub use writing::write;

@@ -5,20 +5,20 @@ ghost use Rattle.vf_session_spdu.specs.Faults.{Shows, tsdu_fault};
 ghost use Rattle.vf_session_spdu.specs.Fields.{Gives, IsReadable};
 ghost use Rattle.vf_session_spdu.specs.Grammar.{Holds};
 ghost use Rattle.vf_session_spdu.specs.Reading.{assembled, nothing_after, one as one_read, reading, second as second_read, place_after_gt as place_read, fault_place as place_of_fault};
-ghost use Rattle.vf_session_spdu.specs.Steps.{place_if_gt, viewed};
+ghost use Rattle.vf_session_spdu.specs.Steps.{Stands, place_if_gt, viewed};
 ghost use Rattle.vf_session_spdu.specs.declared.limits.TheConstants.{MOST_PARAMETER_OCTETS};
 ghost use Rattle.vf_session_spdu.specs.declared.spdu.Spdu.{Spdu};
 
 use crate::kinds::{first_kind, is_dt, is_gt, second_kind};
-use crate::parts::{take_parts, value_at};
+use crate::parts::{shared, take_parts, value_at};
 use crate::table::missing;
 use crate::{Spdu, SpduError, SpduFields};
 use std::alloc::Global;
-use vf_base::{Octets, SpduKind};
+use vf_base::{NoMemory, Octets, SpduKind};
 
 /// The SPDUs of a TSDU: one alone, or a GT and what follows it. Each has the fields and the user data that its
 /// parameters give, with those that it must have, and serial numbers up to 999,999. Places in faults are offsets in
-/// the TSDU (ISO 8327, 8).
+/// the TSDU (ISO 8327, 8). The TSDU is copied once, and user data are shared with the copy.
 pub fn read(alloc: Global, tsdu: &[u8]) -> Result<Vec<Spdu>, SpduError>
     ensures exact { Gives (λ spdus. spdus.items) result (reading tsdu.now) }
     // By the terms of the standard, the SPDUs are those of which the octets are a spelling, and there is no fault where
@@ -29,13 +29,40 @@ pub fn read(alloc: Global, tsdu: &[u8]) -> Result<Vec<Spdu>, SpduError>
     ensures faulty { Shows result (tsdu_fault tsdu.now) }
     ensures readable { IfOk result (λ spdus. AllByRecursion IsReadable spdus.items) }
 {
-    match spdus_of(alloc, tsdu) {
+    match Octets::of(alloc, tsdu) {
+        Ok(kept) => read_of(alloc, &kept, tsdu),
+        Err(NoMemory) => Err(SpduError::NoMemory),
+    }
+}
+
+/// The SPDUs of a TSDU, as `read` gives them; user data are not copied, but shared with the TSDU.
+pub fn read_shared(alloc: Global, tsdu: &Octets) -> Result<Vec<Spdu>, SpduError>
+    ensures exact { Gives (λ spdus. spdus.items) result (reading tsdu.now) }
+    ensures held { IfOk result (λ spdus. Holds tsdu.now spdus.items) }
+    ensures told { (held : List Spdu) → Holds tsdu.now held → Gives (λ spdus. spdus.items) result (Ok held) }
+    ensures faulty { Shows result (tsdu_fault tsdu.now) }
+    ensures readable { IfOk result (λ spdus. AllByRecursion IsReadable spdus.items) }
+{
+    read_of(alloc, tsdu, tsdu.as_slice())
+}
+
+/// The SPDUs of a TSDU that is kept.
+fn read_of(alloc: Global, kept: &Octets, tsdu: &[u8]) -> Result<Vec<Spdu>, SpduError>
+    requires { kept.now ≡ tsdu.now }
+    ensures exact { Gives (λ spdus. spdus.items) result (reading tsdu.now) }
+    ensures held { IfOk result (λ spdus. Holds tsdu.now spdus.items) }
+    ensures told { (held : List Spdu) → Holds tsdu.now held → Gives (λ spdus. spdus.items) result (Ok held) }
+    ensures faulty { Shows result (tsdu_fault tsdu.now) }
+    ensures readable { IfOk result (λ spdus. AllByRecursion IsReadable spdus.items) }
+{
+    match spdus_of(alloc, kept, tsdu) {
         Ok(spdus) => Ok(spdus),
         Err(fault) => Err(fault),
     }
 }
 
-fn spdus_of(alloc: Global, tsdu: &[u8]) -> Result<Vec<Spdu>, SpduError>
+fn spdus_of(alloc: Global, kept: &Octets, tsdu: &[u8]) -> Result<Vec<Spdu>, SpduError>
+    requires { kept.now ≡ tsdu.now }
     ensures { Gives (λ spdus. spdus.items) result (reading tsdu.now) }
 {
     if tsdu.is_empty() {
@@ -45,9 +72,9 @@ fn spdus_of(alloc: Global, tsdu: &[u8]) -> Result<Vec<Spdu>, SpduError>
     let Some(kind) = first_kind(identifier[0]) else {
         return Err(SpduError::Code { at: 0 });
     };
-    let (spdu, place, more) = one(alloc, kind, 0, octets)?;
+    let (spdu, place, more) = one(alloc, kept, kind, 0, octets)?;
     if is_gt(kind) {
-        second(alloc, spdu, place, more)
+        second(alloc, kept, spdu, place, more)
     } else {
         alone(alloc, spdu, place, more)
     }
@@ -65,8 +92,15 @@ fn alone(alloc: Global, spdu: Spdu, place: usize, more: &[u8]) -> Result<Vec<Spd
     Ok(spdus)
 }
 
-fn second(alloc: Global, gt: Spdu, place: usize, octets: &[u8]) -> Result<Vec<Spdu>, SpduError>
-    requires { place < 2 ^ 30 }
+fn second(
+    alloc: Global,
+    kept: &Octets,
+    gt: Spdu,
+    place: usize,
+    octets: &[u8],
+) -> Result<Vec<Spdu>, SpduError>
+    requires small { place < 2 ^ 30 }
+    requires kept { Stands kept.now place octets.now }
     ensures { Gives (λ spdus. spdus.items) result (second_read gt place octets.now) }
 {
     let mut spdus = Vec::new(alloc);
@@ -79,7 +113,7 @@ fn second(alloc: Global, gt: Spdu, place: usize, octets: &[u8]) -> Result<Vec<Sp
     let Some(kind) = second_kind(identifier[0]) else {
         return Err(SpduError::Code { at });
     };
-    let (spdu, place, more) = one(alloc, kind, place, octets)?;
+    let (spdu, place, more) = one(alloc, kept, kind, place, octets)?;
     if !more.is_empty() {
         return Err(SpduError::Length { at: place as u32 });
     }
@@ -88,22 +122,25 @@ fn second(alloc: Global, gt: Spdu, place: usize, octets: &[u8]) -> Result<Vec<Sp
 }
 
 /// The SPDU whose identifier stands at this place, by the octets after it; with the place and the octets after it.
-fn one(
+fn one<'a>(
     alloc: Global,
+    kept: &Octets,
     kind: SpduKind,
     place: usize,
-    octets: &[u8],
-) -> Result<(Spdu, usize, &[u8]), SpduError>
-    requires { place < 2 ^ 30 }
+    octets: &'a [u8],
+) -> Result<(Spdu, usize, &'a [u8]), SpduError>
+    requires small { place < 2 ^ 30 }
+    requires kept { Stands kept.now (place + 1) octets.now }
     ensures exact { Gives (λ x. viewed x.0 x.1 x.2.now) result (one_read kind place octets.now) }
     ensures bound { IfOk result (λ x. x.1 ≤ place + 4 + MOST_PARAMETER_OCTETS) }
+    ensures kept { IfOk result (λ x. Stands kept.now x.1 x.2.now) }
 {
     let (spelled, value, more) = value_at(place, octets)?;
     let at = place + 1 + spelled;
-    let mut spdu = parameters_of(alloc, kind, at, value)?;
+    let mut spdu = parameters_of(alloc, kept, kind, at, value)?;
     let place = at + value.len();
     if is_dt(kind) {
-        spdu.octets = Octets::of(alloc, more)?;
+        spdu.octets = shared(kept, place, more)?;
         return Ok((spdu, place, &[]));
     }
     Ok((spdu, place, more))
@@ -112,11 +149,13 @@ fn one(
 /// The SPDU with these parameters, the first of which stands at this place.
 fn parameters_of(
     alloc: Global,
+    kept: &Octets,
     kind: SpduKind,
     place: usize,
     octets: &[u8],
 ) -> Result<Spdu, SpduError>
-    requires { place + length octets.now < 2 ^ 31 }
+    requires small { place + length octets.now < 2 ^ 31 }
+    requires kept { Stands kept.now place octets.now }
     ensures { Gives (λ spdu. spdu) result (assembled kind place octets.now) }
 {
     let mut spdu = Spdu {
@@ -124,7 +163,7 @@ fn parameters_of(
         fields: SpduFields::none(),
         octets: Octets::of(alloc, &[])?,
     };
-    take_parts(alloc, place, octets, &mut spdu)?;
+    take_parts(alloc, kept, place, octets, &mut spdu)?;
     if let Some(row) = missing(spdu.kind, &spdu.fields) {
         return Err(SpduError::Missing { code: row.code });
     }

@@ -2,7 +2,7 @@ use Rattle.std.proofs.Common.{sym, ◌∙◌}
 use Rattle.vf_session_spdu.proofs.FaultLemmas.{none-shown, fault-shown}
 use Rattle.vf_session_spdu.proofs.HoldsLemmas.{octets-are, reading-held, held-reading, fails-held}
 use Rattle.vf_session_spdu.proofs.ReadableLemmas.{reading-readable}
-use Rattle.vf_session_spdu.proofs.reading.read.Goals as goal
+use Rattle.vf_session_spdu.proofs.reading.read_of.Goals as goal
 
 pub returns-in-Ok-clause-held : goal.returns-in-Ok-clause-held
 returns-in-Ok-clause-held c = reading-held c.args.tsdu.now c.in-Ok.spdus.items (octets-are c.args.tsdu.now c.type_inv.tsdu) c.in-Ok.ensures
