@@ -3,7 +3,7 @@ use crate::octets::{octets_of, show_all};
 use std::alloc::Global;
 use std::test::Fail;
 use vf_base::{Octets, SpduKind};
-use vf_session::{Spdu, SpduError, SpduFields, fault_place, read, write};
+use vf_session::{Spdu, SpduError, SpduFields, fault_place, read, read_shared, write};
 
 mod rows;
 
@@ -64,8 +64,8 @@ fn show_fault(alloc: Global, tsdu: &[u8], fault: SpduError) -> Result<String, Fa
     })
 }
 
-fn answer(alloc: Global, tsdu: &[u8]) -> Result<String, Fail> {
-    match read(alloc, tsdu) {
+fn answer(alloc: Global, tsdu: &[u8], read: Result<Vec<Spdu>, SpduError>) -> Result<String, Fail> {
+    match read {
         Ok(spdus) => show_spdus(alloc, spdus.as_slice()),
         Err(fault) => show_fault(alloc, tsdu, fault),
     }
@@ -77,7 +77,11 @@ fn octets_are_read(rt: HostRuntime) -> Result<(), Fail> {
     for row in rows::ROWS.lines() {
         if let Some((octets, expected)) = row.split_once(" = ") {
             let tsdu = octets_of(rt.alloc(), octets)?;
-            let found = answer(rt.alloc(), tsdu.as_slice())?;
+            let tsdu = tsdu.as_slice();
+            let found = answer(rt.alloc(), tsdu, read(rt.alloc(), tsdu))?;
+            assert_eq!(rt; found.as_str(), expected, "{octets}");
+            let kept = Octets::of(rt.alloc(), tsdu)?;
+            let found = answer(rt.alloc(), tsdu, read_shared(rt.alloc(), &kept))?;
             assert_eq!(rt; found.as_str(), expected, "{octets}");
             count = count.saturating_add(1);
         }

@@ -1,10 +1,11 @@
 //! Presentation and ACSE: what is found in user data, object identifiers, lists, and a value that can't be written.
 use std::alloc::Global;
 use std::test::Fail;
-use vf_base::{Oid, SpduKind};
+use vf_base::{Octets, Oid, SpduKind};
 use vf_ber::{Tag, Value};
 use vf_upper::{
     CarriedValue, CarriedValues, ContextEntry, Contexts, Primitive, Results, is_writable,
+    read_shared, write,
 };
 use vf_upper_grammar::{
     Mark, Marks, NameLabel, NumberLabel, Stop, find, is_acse, is_ber, is_ftam, is_ours, is_pci,
@@ -33,8 +34,11 @@ fn told(mark: &Mark) -> (u8, i64) {
 
 /// Whether these things are found in user data, in this order.
 fn finds(alloc: Global, carrier: SpduKind, octets: &[u8], things: &[(u8, i64)]) -> bool {
+    let Ok(octets) = Octets::of(alloc, octets) else {
+        return false;
+    };
     let mut found = Marks::new(alloc);
-    if find(alloc, carrier, octets, &mut found).is_err() || found.items.len() != things.len() {
+    if find(alloc, carrier, &octets, &mut found).is_err() || found.items.len() != things.len() {
         return false;
     }
     for (mark, thing) in found.items.iter().zip(things) {
@@ -112,12 +116,14 @@ const FAULTS: [(SpduKind, &[u8], u32); 5] = [
 ];
 
 #[test]
-fn faults_have_their_places(rt: HostRuntime) {
+fn faults_have_their_places(rt: HostRuntime) -> Result<(), Fail> {
     for (carrier, octets, place) in FAULTS {
+        let octets = Octets::of(rt.alloc(), octets)?;
         let mut found = Marks::new(rt.alloc());
-        let stop = find(rt.alloc(), carrier, octets, &mut found);
+        let stop = find(rt.alloc(), carrier, &octets, &mut found);
         assert!(rt; matches!(stop, Err(stop) if stop == Stop::At(place)));
     }
+    Ok(())
 }
 
 /// Whether exactly the tests with a 1 hold of an object identifier: ACSE, PCI, FTAM, BER, ours.
@@ -181,6 +187,46 @@ fn a_value_in_an_unaccepted_context_is_not_written(rt: HostRuntime) -> Result<()
     values.push(CarriedValue { context: 5, value })?;
     let contexts = contexts_of(rt.alloc());
     assert!(rt; !is_writable(&Primitive::Data { values }, &contexts));
+    Ok(())
+}
+
+/// The octets of the string of a P-DATA that has this string alone, as they are read where they are shared.
+fn carried_string(alloc: Global, string: &[u8]) -> Result<Option<Octets>, Fail> {
+    let mut values = CarriedValues::new(alloc);
+    let tag = Tag {
+        class: 0,
+        number: 4,
+    };
+    let value = Value::of_octets(alloc, tag, string)?;
+    values.push(CarriedValue { context: 3, value })?;
+    let contexts = contexts_of(alloc);
+    let primitive = Primitive::Data { values };
+    if !is_writable(&primitive, &contexts) {
+        return Ok(None);
+    }
+    let mut octets = Vec::new(alloc);
+    write(alloc, &primitive, &contexts, &mut octets)?;
+    let octets = Octets::from_vec(octets)?;
+    let Ok(Primitive::Data { values }) = read_shared(alloc, SpduKind::DT, &contexts, &octets) else {
+        return Ok(None);
+    };
+    let Some(carried) = values.get(0) else {
+        return Ok(None);
+    };
+    Ok(vf_ber::octets(alloc, &carried.value)?)
+}
+
+#[test]
+fn strings_are_read_where_they_are_shared(rt: HostRuntime) -> Result<(), Fail> {
+    for len in [0, 1, 21, 22, 23, 24, 127, 128, 300] {
+        let mut string = Vec::new(rt.alloc());
+        string.resize(len, b'x')?;
+        let read = carried_string(rt.alloc(), string.as_slice())?;
+        assert!(rt;
+            matches!(&read, Some(read) if read.as_slice() == string.as_slice()),
+            "{len}"
+        );
+    }
     Ok(())
 }
 

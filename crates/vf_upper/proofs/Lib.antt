@@ -5,7 +5,7 @@ mod Parts
 mod Readings
 mod Measured
 mod OneValue
-mod Recovered
+pub mod Recovered
 pub mod Room
 mod TypesRead
 mod WrittenTrees

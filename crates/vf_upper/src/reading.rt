@@ -6,11 +6,11 @@ ghost use Rattle.vf_upper.specs.Primitives.{is_bare as bare, may_lack as may_be_
 use crate::conclusion::concluded;
 use crate::{Contexts, Primitive, UpperError};
 use std::alloc::Global;
-use vf_base::SpduKind;
+use vf_base::{NoMemory, Octets, SpduKind};
 use vf_upper_grammar::{Marks, Stop, find};
 
 /// A refusal or an abort may have no user data.
-fn is_bare(carrier: SpduKind, octets: &[u8]) -> bool
+fn is_bare(carrier: SpduKind, octets: &Octets) -> bool
     ensures { result ≡ bare carrier octets.now }
 {
     octets.is_empty() && may_lack(carrier)
@@ -42,12 +42,29 @@ fn may_lack(carrier: SpduKind) -> bool
 /// `contexts` are the accepted ones; of AC and RF they are those that were proposed, in their order, and of CN none
 /// are asked for. `Grammar` exactly where some octet is the first that is a fault of the form, `Context` and
 /// `Application`, by the order of octets, exactly where the form is right and a value stands in a context that isn't
-/// accepted or isn't one for it, or the application context isn't that of FTAM.
+/// accepted or isn't one for it, or the application context isn't that of FTAM. The user data are copied once, and the
+/// contents of values are shared with the copy.
 pub fn read(
     alloc: Global,
     carrier: SpduKind,
     contexts: &Contexts,
     octets: &[u8],
+) -> Result<Primitive, UpperError>
+    ensures { Answers result (reading carrier contexts.now octets.now) }
+{
+    match Octets::of(alloc, octets) {
+        Ok(kept) => read_shared(alloc, carrier, contexts, &kept),
+        Err(NoMemory) => Err(UpperError::NoMemory),
+    }
+}
+
+/// The primitive that the user data of an SPDU are, as `read` gives it; the contents of values are not copied, but
+/// shared with the user data.
+pub fn read_shared(
+    alloc: Global,
+    carrier: SpduKind,
+    contexts: &Contexts,
+    octets: &Octets,
 ) -> Result<Primitive, UpperError>
     ensures { Answers result (reading carrier contexts.now octets.now) }
 {

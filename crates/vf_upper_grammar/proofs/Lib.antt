@@ -15,6 +15,7 @@ pub mod Ordered
 mod Readings
 pub mod SegmentTurns
 pub mod Spelled
+mod Standing
 mod Stopping
 mod Turns
 pub mod TypesMeant

@@ -1,5 +1,5 @@
 -- What a part holds, in the words of texts.
-use Rattle.std.specs.Prelude.{◌≡◌, ℕ, List, length, Option, None, Some, Result, if◌then◌else◌}
+use Rattle.std.specs.Prelude.{◌≡◌, ℕ, ◌+◌, ◌≤◌, List, length, take, drop, Option, None, Some, Result, if◌then◌else◌}
 use Rattle.std.specs.Option.{option_map}
 use Rattle.vf_upper_grammar.specs.declared.held.Held as code
 use Rattle.vf_upper_grammar.specs.declared.held.Held.TheVariants.{Contents, Segments}
@@ -10,8 +10,20 @@ use Rattle.vf_upper_grammar.specs.Parts.{Part, Text}
 use Rattle.vf_upper_grammar.specs.Texts.{Held, held, located, place_of, segments}
 
 abbrev pub octets_of : code.Held → List ℕ
-octets_of (Contents octets) = octets.now
+octets_of (Contents at octets) = octets.now
 octets_of (Segments octets) = octets
+
+-- octets that stand at this place among all
+abbrev pub Stands : List ℕ → ℕ → List ℕ → Type 0
+Stands all at octets = (take (length octets) (drop at all) ≡ octets) × (at + length octets ≤ length all)
+
+abbrev pub IsIn : List ℕ → Text → Type 0
+IsIn all text = Stands all text.at text.octets
+
+-- contents stand among all at their place
+abbrev pub IsKept : List ℕ → code.Held → Type 0
+IsKept all (Contents at octets) = Stands all at octets.now
+IsKept all (Segments octets) = Unit {0}
 
 abbrev pub octets_in : Option Held → Option (List ℕ)
 octets_in found = option_map (λ h. h.octets) found

@@ -1,7 +1,7 @@
 //! The octets that a part with tag \[0\] or \[1\] holds.
-ghost use Rattle.std.specs.Prelude.{◌≡◌, ◌<◌, ◌≤◌, ◌^◌, IfOk, IfSome, length};
+ghost use Rattle.std.specs.Prelude.{◌≡◌, ◌<◌, ◌≤◌, ◌^◌, IfOk, IfSome, List, length, ℕ};
 ghost use Rattle.std.specs.Option.{option_map};
-ghost use Rattle.vf_upper_grammar.specs.HeldViews.{BreaksHeld, IsLocated, octets_in, octets_of, PlacesHeld};
+ghost use Rattle.vf_upper_grammar.specs.HeldViews.{BreaksHeld, IsIn, IsKept, IsLocated, octets_in, octets_of, PlacesHeld, Stands};
 ghost use Rattle.vf_upper_grammar.specs.Parts.{number_of as number_in};
 ghost use Rattle.vf_upper_grammar.specs.Texts.{explicit_in as explicit_octets, held as held_by, is_begun_end as begun_end};
 ghost use Rattle.vf_upper_grammar.specs.Views.{part_of, text_of};
@@ -14,10 +14,12 @@ use std::alloc::Global;
 use vf_base::{NoMemory, Octets};
 use vf_ber_scan::whole_in;
 
-/// What a part holds: octets of its contents, or those that its segments gave.
+/// What a part holds.
 #[derive(Drop)]
 pub(crate) enum Held<'a> {
-    Contents(&'a [u8]),
+    /// Octets of its contents, of which the first has this place among all that are read.
+    Contents { at: u32, octets: &'a [u8] },
+    /// Those that its segments gave.
     Segments(Octets),
 }
 
@@ -26,10 +28,29 @@ impl Held<'_> {
         ensures { result.now ≡ octets_of self.now }
     {
         match self {
-            Held::Contents(octets) => octets,
+            Held::Contents { octets, .. } => octets,
             Held::Segments(octets) => octets.as_slice(),
         }
     }
+
+    /// The same octets, shared.
+    pub fn kept(&self, alloc: Global, all: &Octets) -> Result<Octets, NoMemory>
+        requires { IsKept all.now self.now }
+        ensures { IfOk result (λ made. made ≡ octets_of self.now) }
+    {
+        match self {
+            Held::Contents { at, octets } => return shared(all, *at as usize, octets),
+            Held::Segments(octets) => return octets.copy(alloc),
+        }
+    }
+}
+
+/// Octets that stand at this place among all, shared with these.
+pub(crate) fn shared(all: &Octets, at: usize, octets: &[u8]) -> Result<Octets, NoMemory>
+    requires { Stands all.now at octets.now }
+    ensures { IfOk result (λ made. made ≡ octets.now) }
+{
+    all.slice(at, octets.len())
 }
 
 pub(crate) fn number_of(first: u8) -> u8
@@ -72,18 +93,25 @@ fn is_begun_end(octets: &[u8]) -> bool
 pub(crate) fn octets_held<'a>(alloc: Global, part: &Part<'a>) -> Result<Option<Held<'a>>, NoMemory>
     ensures octets { IfOk result (λ found. option_map octets_of found ≡ octets_in (held_by (part_of part.now))) }
     ensures small { IfOk result (λ found. IfSome found (λ held. length (octets_of held) < 2 ^ 32)) }
+    ensures kept { (all : List ℕ) → IsIn all (part_of part.now).contents → IfOk result (λ found. IfSome found (λ held. IsKept all held)) }
 {
+    let contents = part.contents;
     if number_of(part.first) == 0 {
         if !is_constructed(part.first) {
             return Ok(None);
         }
-        let octets = explicit_in(part.contents);
-        return Ok(Some(Held::Contents(octets)));
+        return Ok(Some(Held::Contents {
+            at: contents.at,
+            octets: explicit_in(contents),
+        }));
     }
     if !is_constructed(part.first) {
-        return Ok(Some(Held::Contents(part.contents.octets)));
+        return Ok(Some(Held::Contents {
+            at: contents.at,
+            octets: contents.octets,
+        }));
     }
-    let octets = Octets::from_vec(gathered(alloc, part.contents)?)?;
+    let octets = Octets::from_vec(gathered(alloc, contents)?)?;
     Ok(Some(Held::Segments(octets)))
 }
 

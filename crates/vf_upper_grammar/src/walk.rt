@@ -1,7 +1,7 @@
 //! The walk over the parts of user data.
 ghost use Rattle.std.specs.Prelude.{◌≡◌, ◌<◌, ◌≤◌, ◌^◌, IfErr, IfOk, length, List, map, true};
 ghost use Rattle.vf_upper_grammar.specs.Forms.{each as each_read, in_order as fields_read, skipped as skipped_form};
-ghost use Rattle.vf_upper_grammar.specs.HeldViews.{octets_of};
+ghost use Rattle.vf_upper_grammar.specs.HeldViews.{IsIn, IsKept, octets_of};
 ghost use Rattle.vf_upper_grammar.specs.Marks.{Mark};
 ghost use Rattle.vf_upper_grammar.specs.MarkViews.{Gives, marks_of};
 ghost use Rattle.vf_upper_grammar.specs.Parts.{parts_of};
@@ -22,7 +22,7 @@ use crate::table::{accepted_outcome, apdu, both, element, fields, refused_outcom
 use crate::text::{Part, Text};
 use crate::values::{one, seen, some};
 use std::alloc::Global;
-use vf_base::SpduKind;
+use vf_base::{Octets, SpduKind};
 
 /// The result of the AARE of an SPDU.
 fn result_of(carrier: SpduKind) -> u8
@@ -71,10 +71,12 @@ fn pdu_context(carrier: SpduKind) -> NumberLabel
 pub(crate) fn read_part(
     alloc: Global,
     carrier: SpduKind,
+    all: &Octets,
     form: Form,
     part: &Part<'_>,
     found: &mut Marks,
 ) -> Result<(), Stop>
+    requires { IsIn all.now (part_of part.now).contents }
     ensures { Gives result (marks_of found.new) (read_of carrier form (part_of part.now) (marks_of found.old)) }
 {
     match form {
@@ -84,11 +86,11 @@ pub(crate) fn read_part(
         Form::Name(label) => object_identifier(alloc, false, label, part, found),
         Form::Ber => object_identifier(alloc, true, NameLabel::Stated, part, found),
         Form::Skipped => skipped(part),
-        Form::Fields(name) => sequence(alloc, carrier, name, part, found),
-        Form::Set(pair) => set(alloc, carrier, pair, part, found),
-        Form::Each(listing) => list(alloc, carrier, listing, part, found),
-        Form::Outcome => outcome(alloc, carrier, part, found),
-        Form::Carried(values) => carried(alloc, carrier, values, part, found),
+        Form::Fields(name) => sequence(alloc, carrier, all, name, part, found),
+        Form::Set(pair) => set(alloc, carrier, all, pair, part, found),
+        Form::Each(listing) => list(alloc, carrier, all, listing, part, found),
+        Form::Outcome => outcome(alloc, carrier, all, part, found),
+        Form::Carried(values) => carried(alloc, carrier, all, values, part, found),
     }
 }
 
@@ -108,18 +110,20 @@ fn skipped(part: &Part<'_>) -> Result<(), Stop>
 fn sequence(
     alloc: Global,
     carrier: SpduKind,
+    all: &Octets,
     name: TypeName,
     part: &Part<'_>,
     found: &mut Marks,
 ) -> Result<(), Stop>
+    requires { IsIn all.now (part_of part.now).contents }
     ensures { Gives result (marks_of found.new) (type_of carrier name (part_of part.now) (marks_of found.old)) }
 {
     if !is_constructed(part.first) {
         return Err(Stop::At(part.at));
     }
     let skips = skips_others(name);
-    let all = fields(carrier, name);
-    in_order(alloc, carrier, skips, all, part.contents, found)
+    let rows = fields(carrier, name);
+    in_order(alloc, carrier, all, skips, rows, part.contents, found)
 }
 
 /// Reads a SET of two fields.
@@ -127,10 +131,12 @@ fn sequence(
 fn set(
     alloc: Global,
     carrier: SpduKind,
+    all: &Octets,
     pair: Pair,
     part: &Part<'_>,
     found: &mut Marks,
 ) -> Result<(), Stop>
+    requires { IsIn all.now (part_of part.now).contents }
     ensures { Gives result (marks_of found.new) (pair_of carrier pair (part_of part.now) (marks_of found.old)) }
 {
     if !is_constructed(part.first) {
@@ -139,9 +145,25 @@ fn set(
     let (one, other) = both(carrier, pair);
     let is_other_first = leads(other, leading(carrier, &[one, other], part.contents));
     if is_other_first {
-        in_order(alloc, carrier, true, &[other, one], part.contents, found)
+        in_order(
+            alloc,
+            carrier,
+            all,
+            true,
+            &[other, one],
+            part.contents,
+            found,
+        )
     } else {
-        in_order(alloc, carrier, true, &[one, other], part.contents, found)
+        in_order(
+            alloc,
+            carrier,
+            all,
+            true,
+            &[one, other],
+            part.contents,
+            found,
+        )
     }
 }
 
@@ -150,10 +172,12 @@ fn set(
 fn list(
     alloc: Global,
     carrier: SpduKind,
+    all: &Octets,
     listing: Listing,
     part: &Part<'_>,
     found: &mut Marks,
 ) -> Result<(), Stop>
+    requires { IsIn all.now (part_of part.now).contents }
     ensures { Gives result (marks_of found.new) (listing_of listing (part_of part.now) (marks_of found.old)) }
 {
     if !is_constructed(part.first) {
@@ -162,6 +186,7 @@ fn list(
     each(
         alloc,
         carrier,
+        all,
         element(carrier, listing),
         part.contents,
         found,
@@ -172,10 +197,12 @@ fn list(
 fn each(
     alloc: Global,
     carrier: SpduKind,
+    all: &Octets,
     element: Field,
     text: Text<'_>,
     found: &mut Marks,
 ) -> Result<(), Stop>
+    requires { IsIn all.now (text_of text) }
     ensures { Gives result (marks_of found.new) (each_read (parts_of (text_of text.entry)) (tags_of element) (read_of carrier element.form) (marks_of found.old)) }
 {
     let mut rest = text;
@@ -183,7 +210,7 @@ fn each(
         if !has_tag(element, part.first) {
             return Err(Stop::At(part.at));
         }
-        match read_part(alloc, carrier, element.form, &part, found) {
+        match read_part(alloc, carrier, all, element.form, &part, found) {
             Ok(()) => rest = after,
             Err(stop) => return Err(stop),
         }
@@ -193,7 +220,14 @@ fn each(
 
 /// Reads an entry of the result list.
 #[cycle(walk)]
-fn outcome(alloc: Global, carrier: SpduKind, part: &Part<'_>, found: &mut Marks) -> Result<(), Stop>
+fn outcome(
+    alloc: Global,
+    carrier: SpduKind,
+    all: &Octets,
+    part: &Part<'_>,
+    found: &mut Marks,
+) -> Result<(), Stop>
+    requires { IsIn all.now (part_of part.now).contents }
     ensures { Gives result (marks_of found.new) (outcome_form (part_of part.now) (marks_of found.old)) }
 {
     if !is_constructed(part.first) {
@@ -204,13 +238,14 @@ fn outcome(alloc: Global, carrier: SpduKind, part: &Part<'_>, found: &mut Marks)
         in_order(
             alloc,
             carrier,
+            all,
             true,
             refused_outcome(carrier),
             part.contents,
             found,
         )
     } else {
-        in_order(alloc, carrier, true, accepted, part.contents, found)
+        in_order(alloc, carrier, all, true, accepted, part.contents, found)
     }
 }
 
@@ -219,16 +254,26 @@ fn outcome(alloc: Global, carrier: SpduKind, part: &Part<'_>, found: &mut Marks)
 fn carried(
     alloc: Global,
     carrier: SpduKind,
+    all: &Octets,
     values: DataValues,
     part: &Part<'_>,
     found: &mut Marks,
 ) -> Result<(), Stop>
+    requires { IsIn all.now (part_of part.now).contents }
     ensures { Gives result (marks_of found.new) (values_read carrier values (part_of part.now) (marks_of found.old)) }
 {
     let Some(held) = octets_held(alloc, part)? else {
         return Err(Stop::At(part.at));
     };
-    let read = within(alloc, carrier, values, number_of(part.first), &held, found);
+    let read = within(
+        alloc,
+        carrier,
+        all,
+        values,
+        number_of(part.first),
+        &held,
+        found,
+    );
     located(part, held.octets().len(), read)
 }
 
@@ -237,37 +282,44 @@ fn carried(
 fn within(
     alloc: Global,
     carrier: SpduKind,
+    all: &Octets,
     values: DataValues,
     number: u8,
     held: &Held<'_>,
     found: &mut Marks,
 ) -> Result<(), Stop>
-    requires { length (octets_of held.now) < 2 ^ 32 }
+    requires small { length (octets_of held.now) < 2 ^ 32 }
+    requires kept { IsKept all.now held.now }
     ensures { Gives result (marks_of found.new) (values_within carrier values number (octets_of held.now) (marks_of found.old)) }
 {
     match values {
-        DataValues::One => one(alloc, held, found),
+        DataValues::One => one(alloc, all, held, found),
         DataValues::Some => {
             if number == 0 {
-                one(alloc, held, found)
+                one(alloc, all, held, found)
             } else {
-                some(alloc, held, found)
+                some(alloc, all, held, found)
             }
         }
-        DataValues::Apdu => typed(alloc, carrier, apdu(carrier), held.octets(), found),
+        DataValues::Apdu => {
+            let kept = held.kept(alloc, all)?;
+            typed(alloc, carrier, apdu(carrier), &kept, held.octets(), found)
+        }
     }
 }
 
-/// Reads octets that are one value, with the tag of a field.
+/// Reads octets, all of them, that are one value, with the tag of a field.
 #[cycle(walk)]
 pub(crate) fn typed(
     alloc: Global,
     carrier: SpduKind,
     field: Field,
+    all: &Octets,
     octets: &[u8],
     found: &mut Marks,
 ) -> Result<(), Stop>
-    requires { field.is_required ≡ true }
+    requires required { field.is_required ≡ true }
+    requires all { all.now ≡ octets.now }
     ensures { Gives result (marks_of found.new) (typed_by (tags_of field) (read_of carrier field.form) octets.now (marks_of found.old)) }
 {
     let prefix = seen(alloc, octets)?;
@@ -277,7 +329,7 @@ pub(crate) fn typed(
         at: 0,
         whole: prefix.whole,
     };
-    match in_order(alloc, carrier, false, &[field], text, found) {
+    match in_order(alloc, carrier, all, false, &[field], text, found) {
         Ok(()) => match prefix.fault {
             Some(place) => Err(Stop::At(place)),
             None => Ok(()),
@@ -291,17 +343,19 @@ pub(crate) fn typed(
 fn in_order(
     alloc: Global,
     carrier: SpduKind,
+    all: &Octets,
     skips: bool,
     fields: &[Field],
     text: Text<'_>,
     found: &mut Marks,
 ) -> Result<(), Stop>
+    requires { IsIn all.now (text_of text) }
     ensures { Gives result (marks_of found.new) (fields_read (parts_of (text_of text.entry)) skips (map (field_of carrier) fields.now) (map (field_of carrier) fields.now) (marks_of found.old)) }
 {
     let mut left = fields;
     let mut rest = text;
     while let Some((part, after)) = first_part(rest) {
-        match step(alloc, carrier, skips, fields, left, &part, found) {
+        match step(alloc, carrier, all, skips, fields, left, &part, found) {
             Ok(next) => left = next,
             Err(stop) => return Err(stop),
         }
@@ -315,19 +369,21 @@ fn in_order(
 fn step<'a>(
     alloc: Global,
     carrier: SpduKind,
+    all: &Octets,
     skips: bool,
     fields: &[Field],
     left: &'a [Field],
     part: &Part<'_>,
     found: &mut Marks,
 ) -> Result<&'a [Field], Stop>
+    requires { IsIn all.now (part_of part.now).contents }
     ensures ok { IfOk result (λ next. StepsTo carrier skips fields.now left.now (part_of part.now) (marks_of found.old) next.now (marks_of found.new)) }
     ensures err { IfErr result (λ stop. StepStops carrier skips fields.now left.now (part_of part.now) (marks_of found.old) stop) }
     ensures most { IfOk result (λ next. most next.now ≤ most left.now) }
 {
     match due(carrier, part.first, left) {
         Some((field, others)) => {
-            match read_part(alloc, carrier, field.form, part, found) {
+            match read_part(alloc, carrier, all, field.form, part, found) {
                 Ok(()) => Ok(others),
                 Err(stop) => Err(stop),
             }

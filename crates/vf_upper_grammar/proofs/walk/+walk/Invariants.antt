@@ -1,5 +1,6 @@
 use Rattle.std.proofs.Common.{◌≡◌, ◌+◌, ◌*◌, ◌≤◌, length}
 use Rattle.vf_upper_grammar.specs.Forms.{each, in_order}
+use Rattle.vf_upper_grammar.specs.HeldViews.{IsIn}
 use Rattle.vf_upper_grammar.specs.MarkViews.{marks_of}
 use Rattle.vf_upper_grammar.specs.Parts.{parts_of}
 use Rattle.vf_upper_grammar.specs.Rows.{values_rank, listing_rank, rank, read_of, tags_of, type_rank}
@@ -44,15 +45,16 @@ abbrev pub invariant-in_order-loop-part : goal.invariant-in_order-loop-part
 invariant-in_order-loop-part l =
     (in_order (parts_of (text_of l.fn.text)) l.skips (fields_of l.carrier l.fn.fields) (fields_of l.carrier l.fn.fields) (marks_of l.fn.found)
     ≡ in_order (parts_of (text_of l.rest)) l.skips (fields_of l.carrier l.fn.fields) (fields_of l.carrier l.left) (marks_of l.found))
-    × (most l.left ≤ most l.fn.fields)
+    × (most l.left ≤ most l.fn.fields) × IsIn l.all (text_of l.rest)
 
 abbrev pub decreases-in_order-loop-part : goal.decreases-in_order-loop-part
 decreases-in_order-loop-part l = length l.rest.octets.now
 
 abbrev pub invariant-each-loop-part : goal.invariant-each-loop-part
 invariant-each-loop-part l =
-    each (parts_of (text_of l.fn.text)) (tags_of l.element) (read_of l.carrier l.element.form) (marks_of l.fn.found)
-    ≡ each (parts_of (text_of l.rest)) (tags_of l.element) (read_of l.carrier l.element.form) (marks_of l.found)
+    (each (parts_of (text_of l.fn.text)) (tags_of l.element) (read_of l.carrier l.element.form) (marks_of l.fn.found)
+    ≡ each (parts_of (text_of l.rest)) (tags_of l.element) (read_of l.carrier l.element.form) (marks_of l.found))
+    × IsIn l.all (text_of l.rest)
 
 abbrev pub decreases-each-loop-part : goal.decreases-each-loop-part
 decreases-each-loop-part l = length l.rest.octets.now
