@@ -79,6 +79,26 @@ WEIGHTS = dict(Item=30, Check=12, Acknowledge=8, Restart=3, Restarted=6, Cancel=
                Abort=0.2)  # fmt: skip
 
 
+# An abstract syntax that isn't accepted, and what a called end is proposed, where some proposals have one identifier: `-`
+# doesn't offer the basic encoding rules. Then the contexts of ACSE's value and of the PDU, and those of F-SELECTs and
+# strings after the acceptance.
+OTHER = (1, 0, 8571, 2, 9)
+SYNTAXES = dict(acse=upper.ACSE, pci=upper.PCI, fadu=upper.FADU, text=upper.TEXT, binary=upper.BINARY, other=OTHER)
+PROPOSED = """
+    1acse 3other 3pci 5pci : 1 5 : 5 3
+    1acse 3other 3pci 5pci : 1 3 :
+    1acse 3pci- 3pci 5pci 5other : 1 5 : 5 3
+    1acse 3pci 3other 3pci- 9binary 9text : 1 3 : 3 9 5
+    1acse 3pci 3pci 1pci 1text : 1 3 : 3 1
+    1acse 3text 3pci 7pci : 1 3 :
+    1acse 3text 3pci 7pci : 1 7 : 3 7
+    1other 1acse 3pci : 1 3 :
+    1other 1acse 7acse 3pci : 7 3 : 3 1
+    -1acse 2147483649pci -1pci -2147483648text 2147483649other : -1 2147483649 : 2147483649 -2147483648 1
+    3pci 3acse 5acse 5pci 3pci 7pci 7text : 5 3 : 3 7 5
+""".strip().splitlines()
+
+
 class Delivery:
     """What one end takes at once: the packets of units, or octets that are no unit's."""
 
@@ -429,6 +449,41 @@ def reordered(rng, made, own):
     return " ".join(words)
 
 
+# ---- proposals with one identifier
+
+
+def offer_of(word):
+    """`3pci`: an identifier and an abstract syntax."""
+    digits = word.rstrip("-").rstrip("abcdefghijklmnopqrstuvwxyz")
+    name = word[len(digits) :]
+    return upper.Offer(int(digits), SYNTAXES[name.rstrip("-")], not name.endswith("-"))
+
+
+def sent_by(unit):
+    return packets(b"".join(sessions.octets_of(spdu) for spdu in sessions.spdus_of("I", unit)))
+
+
+def proposed(text):
+    """The line of a called end to which contexts are proposed, and which accepts the association."""
+    offers, first, others = text.split(":")
+    acse, context = map(int, first.split())
+    octets = upper.proposing([offer_of(word) for word in offers.split()], acse, context, bytes.fromhex(PLAIN))
+    heard = [streams.packet(bytes.fromhex("06E00000000100")), sent_by(sessions.Unit("c", 1, None, octets))]
+    words = ["<" + octets.hex() for octets in heard] + [f">Accept-:{TAKES_PLAIN}", ">Item:A700", ">Item:04027631"]
+    for number in others.split():
+        for value in ("A603800161", "04027631"):
+            words.append("<" + sent_by(sessions.Unit("d", data=upper.pdv(int(number), bytes.fromhex(value)))).hex())
+    return " ".join(["called", *words])
+
+
+def proposed_at_random(rng):
+    """Up to eight proposals with few identifiers."""
+    numbers = [rng.choice((1, 3, 5, 7, 255, 256)) for _ in range(rng.randrange(1, 9))]
+    offers = (f"{number}{rng.choice(list(SYNTAXES))}{rng.choice(('', '', '', '-'))}" for number in numbers)
+    places = " ".join(str(rng.choice(numbers)) for _ in range(rng.randrange(4)))
+    return proposed(f"1acse {' '.join(offers)} : {rng.choice([1, *numbers])} {rng.choice(numbers)} : {places}")
+
+
 # ---- lines
 
 
@@ -450,6 +505,7 @@ def rows():
         made = recorded(text)
         for own in "OI":
             yield from faulty_rows(rng, made, own, 1)
+    yield from map(proposed, PROPOSED)
 
 
 def places(text):
@@ -481,4 +537,5 @@ def cases(count=20_000, seed=8327):
             for level in LEVELS * 2:
                 yield ("cut " if rng.random() < 0.05 else "") + faulty_line(rng, conversation, own, level)
             yield reordered(rng, conversation, own)
-            made += 24
+            yield proposed_at_random(rng)
+            made += 25

@@ -489,13 +489,21 @@ def by_id(number, contexts):
     return next((entry.syntax for entry in contexts if entry.id == number), None)
 
 
+def results(offers):
+    """What a called end answers each proposal: of two with one identifier the first counts, and the later one is refused."""
+    return [
+        offer.ber and offer.syntax in OURS and all(offer.id != other.id for other in offers[:place])
+        for place, offer in enumerate(offers)
+    ]
+
+
 def accepted(offers):
     """What a called end accepts."""
-    return [Entry(offer.id, offer.syntax) for offer in offers if offer.ber and offer.syntax in OURS]
+    return chosen([Entry(offer.id, offer.syntax) for offer in offers], results(offers))
 
 
 def chosen(entries, results):
-    """What a calling end finds accepted of what it proposed."""
+    """What is accepted of what was proposed."""
     return [entry for entry, result in zip(entries, results) if result]
 
 
@@ -570,24 +578,36 @@ def pdv(context, value):
     return tagged([0x61], tagged([0x30], integer(context), tagged([0xA0], value)))
 
 
+def external_in(context, pdu):
+    return tagged([0xBE], tagged([0x28], integer(context), tagged([0xA0], pdu)))
+
+
 def external(contexts, pdu):
-    return tagged([0xBE], tagged([0x28], integer(first_of(PCI, contexts)), tagged([0xA0], pdu)))
+    return external_in(first_of(PCI, contexts), pdu)
 
 
 def results_of(offers):
     entry = {True: bytes.fromhex("3007800100 81025101"), False: bytes.fromhex("3003800102")}
-    return tagged([0xA5], *(entry[offer.ber and offer.syntax in OURS] for offer in offers))
+    return tagged([0xA5], *(entry[result] for result in results(offers)))
 
 
 MODE = bytes.fromhex("A003800101")
 NAME = tagged([0xA1], oid(FTAM))
 
 
+def proposing(offers, acse, context, pdu):
+    """The user data of a CN, in which ACSE's value and the PDU stand in these contexts. A proposal that doesn't offer the
+    basic encoding rules offers no others."""
+    entries = (
+        tagged([0x30], integer(offer.id), oid(offer.syntax), tagged([0x30], oid(BER) if offer.ber else b""))
+        for offer in offers
+    )
+    value = tagged([0x60], NAME, external_in(context, pdu))
+    return tagged([0x31], MODE, tagged([0xA2], tagged([0xA4], *entries), pdv(acse, value)))
+
+
 def associate(pdu):
-    syntaxes = tagged([0x30], oid(BER))
-    offers = tagged([0xA4], *(tagged([0x30], integer(entry.id), oid(entry.syntax), syntaxes) for entry in OWN))
-    value = tagged([0x60], NAME, external(OWN, pdu))
-    return tagged([0x31], MODE, tagged([0xA2], offers, pdv(1, value)))
+    return proposing(own_offers(), 1, 3, pdu)
 
 
 def answer(offers, contexts, result, pdu):

@@ -102,7 +102,7 @@ few-either pdu is range =
     ]
 
 -- Data with a PDU of a resynchronization, or its SEQUENCE.
-resync-written : (contexts : List ContextEntry) (pdu : Pdu) → length (spell (pdu_value pdu)) ≤ 2007 → IsInRange pdu → is_placed (primitives.Data (pdu_carried contexts pdu ∷ [])) contexts ≡ true
+pub resync-written : (contexts : List ContextEntry) (pdu : Pdu) → length (spell (pdu_value pdu)) ≤ 2007 → IsInRange pdu → is_placed (primitives.Data (pdu_carried contexts pdu ∷ [])) contexts ≡ true
     → IsWritable (primitives.Data (pdu_carried contexts pdu ∷ [])) contexts
     × (length (user_octets (primitives.Data (pdu_carried contexts pdu ∷ [])) contexts) ≤ 3000)
     × (length (spell (holding (universal 16) (written (primitives.Data (pdu_carried contexts pdu ∷ [])) contexts ∷ []))) ≤ 3000)

@@ -1,3 +1,4 @@
+pub mod ContextLemmas
 pub mod PieceLemmas
 pub mod OctetLemmas
 pub mod MutualLemmas
@@ -15,3 +16,5 @@ pub mod PduLemmas
 pub mod MayLemmas
 pub mod CountLemmas
 pub mod RequestLemmas
+pub mod ValueLemmas
+pub mod ItselfLemmas

@@ -1,5 +1,5 @@
 -- A request that one stack sends the other receives.
-use Rattle.std.proofs.Common.{◌≡◌, ◌≤◌, Bool, true, nat_le, subst}
+use Rattle.std.proofs.Common.{◌≡◌, ◌≤◌, Bool, true, List, nat_le, subst}
 use Rattle.std.proofs.lemmas.Bool.{and_parts, leb-true}
 use Rattle.vf_session.specs.Trace.{state}
 use Rattle.vf_session.specs.declared.units.TokenSide.{TokenSide}
@@ -23,9 +23,9 @@ sized (phases.Open most) o r =
     (leb-true 1 most both.0, leb-true most 65528 both.1)
 sized phases.Over o r = cc
 
-pub request-received : (own : TokenSide) (offer far_offer : Bool) (a far : Association) (request : Request) (indication : Indication) → IsRequestReceived own offer far_offer a far request indication
-request-received own offer far_offer a far request indication together goes may room alone =
+pub request-received : (own : TokenSide) (offer far_offer : Bool) (a far : Association) (request : Request) (told : List Indication) → IsRequestReceived own offer far_offer a far request told
+request-received own offer far_offer a far request told together goes may room tells =
     let kept = (stream_reading (end_of own) a.stream).kept in
     let P : Ending → Type 0 = λ ending. permits own offer (state own a.exchange.trace) (unit_sent own a request) ending ≡ true in
     let size = sized kept.connection.phase (and_parts (is_open kept.connection.phase) (is_received kept.fault) may.connected).0 room in
-    is-received own offer far_offer a far (most_of kept.connection.phase) (unit_sent own a request) indication together (subst P goes may.permitted) size.0 size.1 may.sendable.fits alone
+    is-received own offer far_offer a far (most_of kept.connection.phase) (unit_sent own a request) told together (subst P goes may.permitted) size.0 size.1 may.sendable.fits tells

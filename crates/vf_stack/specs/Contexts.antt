@@ -1,5 +1,7 @@
 -- The presentation contexts of an association, read off its trace (ISO 8823, 6.2).
-use Rattle.std.specs.Prelude.{Bool, true, false, ◌&&◌, List, [], ◌∷◌, filter, map, Option, None, Some, Result, Ok, unwrap_or, if◌then◌else◌}
+use Rattle.std.specs.Prelude.{ℤ, Bool, true, false, ◌&&◌, not, List, [], ◌∷◌, ◌++◌, filter, map, Option, None, Some, Result, Ok, unwrap_or, if◌then◌else◌}
+use Rattle.std.specs.List.{list_any}
+use Rattle.std.specs.Ordering.{int_eq}
 use Rattle.vf_base.specs.declared.spdu_kind.SpduKind.{SpduKind}
 use Rattle.vf_base.specs.declared.spdu_kind.SpduKind.TheVariants.{CN, AC, RF}
 use Rattle.vf_session.specs.Trace.{Trace, latest, state}
@@ -20,8 +22,21 @@ use Rattle.vf_upper_grammar.specs.Syntaxes.{is_ours}
 
 -- ---- what is proposed
 
+-- Of proposals with one identifier the first counts, and a later one is refused like one that doesn't offer the basic
+-- encoding rules (profile).
+abbrev pub is_met : List ℤ → ℤ → Bool
+is_met ids id = list_any (λ met. int_eq met id) ids
+
+abbrev pub counted : Bool → Offer → Offer
+counted is_first offer = record offer { ber = offer.ber && is_first }
+
+-- the proposals as they count, after those with these identifiers
+abbrev pub counted_after : List ℤ → List Offer → List Offer
+counted_after ids [] = []
+counted_after ids (offer ∷ offers) = counted (not (is_met ids offer.id)) offer ∷ counted_after (ids ++ offer.id ∷ []) offers
+
 abbrev pub offers_in : Result Primitive UpperError → List Offer
-offers_in (Ok (primitives.Associate offers values)) = offers
+offers_in (Ok (primitives.Associate offers values)) = counted_after [] offers
 offers_in read = []
 
 abbrev pub entry_of : Offer → ContextEntry
@@ -40,7 +55,7 @@ proposals trace = latest (λ entry. proposes entry.told) [] trace
 
 -- ---- what is accepted
 
--- A called end accepts its own syntaxes in the basic encoding rules (profile).
+-- A called end accepts its own syntaxes in the basic encoding rules, of the proposals as they count (profile).
 abbrev pub is_accepted : Offer → Bool
 is_accepted offer = offer.ber && is_ours offer.syntax
 

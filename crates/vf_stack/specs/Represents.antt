@@ -1,5 +1,7 @@
 -- Which associations a stack represents, and what its calls owe for each of them.
-use Rattle.std.specs.Prelude.{◌≡◌, ℕ, Bool, nat_eq, List, [], ◌∷◌, ◌++◌, length, unwrap_or, Option, None, Some, Result, if◌then◌else◌}
+use Rattle.std.specs.BTreeSet.{BTreeSet, contains}
+use Rattle.std.specs.Ordering.{int_cmp}
+use Rattle.std.specs.Prelude.{◌≡◌, ℕ, ℤ, Bool, nat_eq, List, [], ◌∷◌, ◌++◌, length, unwrap_or, Option, None, Some, Result, if◌then◌else◌}
 use Rattle.vf_session.specs.Represents.{Represents as Keeps}
 use Rattle.vf_session.specs.Trace.{Trace, state}
 use Rattle.vf_session.specs.declared.parameters.SayParameters.{SayParameters}
@@ -7,7 +9,7 @@ use Rattle.vf_session.specs.declared.units.SessionSay.{SessionSay}
 use Rattle.vf_session.specs.declared.units.TokenSide.{TokenSide}
 use Rattle.vf_stack.specs.Association.{Association, Exchange, end_of}
 use Rattle.vf_stack.specs.Carriage.{Told, all_told, read_told, unit_told}
-use Rattle.vf_stack.specs.Contexts.{Standing, accepted, accepted_by, accepts, offers_by, proposals, proposes}
+use Rattle.vf_stack.specs.Contexts.{Standing, accepted, accepted_by, accepts, is_met, offers_by, proposals, proposes}
 use Rattle.vf_stack.specs.Faults.{indication_of}
 use Rattle.vf_stack.specs.Receiving.{Fed, Received, each, ending_by, octets_received, preceded}
 use Rattle.vf_stack.specs.declared.ending.Ending.{Ending}
@@ -55,6 +57,10 @@ pub record Stands (kept : KeptExchange) (x : Exchange) : Type 0 where
 pub record Represents (kept : Kept) (a : Association) : Type 0 where
   pub stream_is : HasReceived kept.transport (end_of (side_of kept)) a.stream
   pub stands : Stands kept.exchange a.exchange
+
+-- The set tells of each identifier whether it is one of these.
+abbrev pub AreMet : BTreeSet ℤ → List ℤ → Type 0
+AreMet set ids = (id : ℤ) → contains int_cmp set id ≡ is_met ids id
 
 -- ---- what is received
 

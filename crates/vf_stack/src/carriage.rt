@@ -1,29 +1,30 @@
 //! The user data of units of session, and the values in them.
-ghost use Rattle.std.specs.Prelude.{◌≡◌};
+ghost use Rattle.std.specs.Prelude.{◌≡◌, IfOk};
 ghost use Rattle.vf_session.specs.Units.{user_data as data_of};
 ghost use Rattle.vf_stack.specs.Carriage.{carrier as carrier_of, is_data as data_test, values_of as values_in};
 
-use vf_base::SpduKind;
+use std::alloc::Global;
+use vf_base::{NoMemory, Octets, SpduKind};
 use vf_session::{SayParameters, SessionOut};
 use vf_upper::{CarriedValues, Primitive};
 
-/// The user data of a unit; empty where it has none.
-pub(crate) fn user_data(unit: &SessionOut) -> &[u8]
-    ensures { result.now ≡ data_of unit.now }
+/// The user data of a unit, shared; empty where it has none.
+pub(crate) fn user_data(alloc: Global, unit: &SessionOut) -> Result<Octets, NoMemory>
+    ensures { IfOk result (λ octets. octets ≡ data_of unit.now) }
 {
     match unit {
-        SessionOut::Connect { data, .. } => data.as_slice(),
-        SessionOut::Accept { data, .. } => data.as_slice(),
-        SessionOut::Refuse { data } => data.as_slice(),
-        SessionOut::Finish { data } => data.as_slice(),
-        SessionOut::Finished { data } => data.as_slice(),
-        SessionOut::Data { data, .. } => data.as_slice(),
-        SessionOut::Resync { data, .. } => data.as_slice(),
-        SessionOut::Resynced { data, .. } => data.as_slice(),
-        SessionOut::Abort { data } => data.as_slice(),
-        SessionOut::Check { .. } => &[],
-        SessionOut::Acknowledge { .. } => &[],
-        SessionOut::Token { .. } => &[],
+        SessionOut::Connect { data, .. } => data.copy(alloc),
+        SessionOut::Accept { data, .. } => data.copy(alloc),
+        SessionOut::Refuse { data } => data.copy(alloc),
+        SessionOut::Finish { data } => data.copy(alloc),
+        SessionOut::Finished { data } => data.copy(alloc),
+        SessionOut::Data { data, .. } => data.copy(alloc),
+        SessionOut::Resync { data, .. } => data.copy(alloc),
+        SessionOut::Resynced { data, .. } => data.copy(alloc),
+        SessionOut::Abort { data } => data.copy(alloc),
+        SessionOut::Check { .. } => Octets::of(alloc, &[]),
+        SessionOut::Acknowledge { .. } => Octets::of(alloc, &[]),
+        SessionOut::Token { .. } => Octets::of(alloc, &[]),
     }
 }
 

@@ -1,8 +1,10 @@
 //! The presentation contexts that a unit proposes and accepts.
-ghost use Rattle.std.specs.Prelude.{◌≡◌, IfOk};
-ghost use Rattle.vf_stack.specs.Contexts.{accepted_by, accepted_by_proposals, accepted_of as accepted_among, chosen as chosen_among, entries, entry_of as entry_by, is_accept as accepts_any, is_accepted as accepted_now, is_connect as connects, offers_by, offers_in as offers_read, results_in as results_read};
+ghost use Rattle.std.specs.Prelude.{◌≡◌, ◌++◌, [], ◌∷◌, ℤ, IfOk, List, not};
+ghost use Rattle.vf_stack.specs.Contexts.{accepted_by, accepted_by_proposals, accepted_of as accepted_among, chosen as chosen_among, counted as counts, counted_after, entries, entry_of as entry_by, is_accept as accepts_any, is_accepted as accepted_now, is_connect as connects, is_met, offers_by, offers_in as offers_read, results_in as results_read};
+ghost use Rattle.vf_stack.specs.Represents.{AreMet};
 
 use std::alloc::Global;
+use std::collections::BTreeSet;
 use vf_base::NoMemory;
 use vf_session::{SayParameters, TokenSide};
 use vf_upper::{ContextEntry, Contexts, Offer, Offers, Primitive, UpperError};
@@ -67,7 +69,42 @@ fn chosen(alloc: Global, proposed: &[ContextEntry], results: &[bool]) -> Result<
     Ok(made)
 }
 
-/// The contexts that user data propose, as they were read.
+/// Puts an identifier into the set of those that were met; answers whether it wasn't there.
+fn meet(ids: &mut BTreeSet<i64>, id: i64) -> Result<bool, NoMemory>
+    ensures { (met : List ℤ) → AreMet ids.old met → IfOk result (λ is_new. (is_new ≡ not (is_met met id)) × AreMet ids.new (met ++ id ∷ [])) }
+{
+    let is_new = ids.insert(id)?;
+    Ok(is_new)
+}
+
+/// A proposal as it counts, where it is the first with its identifier and where it isn't.
+fn counted(alloc: Global, offer: &Offer, is_first: bool) -> Result<Offer, NoMemory>
+    ensures { IfOk result (λ made. made ≡ counts is_first offer.now) }
+{
+    let syntax = offer.syntax.copy(alloc)?;
+    Ok(Offer {
+        id: offer.id,
+        syntax,
+        ber: offer.ber && is_first,
+    })
+}
+
+/// The proposals as they count. The identifiers that were met are in a tree, so that many of them, whichever a peer
+/// chooses, cost little more than their copies.
+fn all_counted(alloc: Global, offers: &[Offer]) -> Result<Offers, NoMemory>
+    ensures { IfOk result (λ made. made ≡ counted_after [] offers.now) }
+{
+    let mut made = Offers::new(alloc);
+    let mut ids = BTreeSet::new(alloc);
+    for offer in offers {
+        let is_first = meet(&mut ids, offer.id)?;
+        let proposal = counted(alloc, offer, is_first)?;
+        made.push(proposal)?;
+    }
+    Ok(made)
+}
+
+/// The contexts that user data propose, as they were read and as they count.
 pub(crate) fn offers_in(
     alloc: Global,
     read: &Result<Primitive, UpperError>,
@@ -75,7 +112,7 @@ pub(crate) fn offers_in(
     ensures { IfOk result (λ made. made ≡ offers_read read.now) }
 {
     match read {
-        Ok(Primitive::Associate { offers, .. }) => offers.copy(alloc),
+        Ok(Primitive::Associate { offers, .. }) => all_counted(alloc, offers.as_slice()),
         Ok(Primitive::Accepted { .. }) => Ok(Offers::new(alloc)),
         Ok(Primitive::Refused { .. }) => Ok(Offers::new(alloc)),
         Ok(Primitive::Release { .. }) => Ok(Offers::new(alloc)),

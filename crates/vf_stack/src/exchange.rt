@@ -19,7 +19,7 @@ use std::alloc::Global;
 use vf_base::{NoMemory, Octets, SpduKind};
 use vf_session::{
     SayParameters, Session, SessionError, SessionOut, SessionState, Spdu, SpduError,
-    place_after_gt, read,
+    place_after_gt, read_shared,
 };
 use vf_tpkt::{TpktError, Unit};
 use vf_upper::{Contexts, Offers, Primitive, UpperError};
@@ -69,7 +69,7 @@ impl KeptExchange {
         &self,
         alloc: Global,
         kind: SpduKind,
-        octets: &[u8],
+        octets: &Octets,
     ) -> Result<Result<Primitive, UpperError>, NoMemory>
         ensures { IfOk result (λ read. read ≡ user_data_read kind (contexts_among self.now.offers self.now.accepted kind) octets.now) }
     {
@@ -117,7 +117,7 @@ impl KeptExchange {
         alloc: Global,
         unit: SayParameters,
         kind: SpduKind,
-        octets: &[u8],
+        octets: &Octets,
         out: &mut Vec<Indication>,
     ) -> Result<(Negotiated, Option<Fault>), NoMemory>
         ensures { IfOk result (λ made. PutsRead self.now unit (user_data_read kind (contexts_among self.now.offers self.now.accepted kind) octets.now) out.old.items out.new.items made.0 made.1) }
@@ -139,7 +139,10 @@ impl KeptExchange {
     {
         let parameters = unit.parameters();
         match carrier(parameters) {
-            Some(kind) => self.put_carried(alloc, parameters, kind, user_data(unit), out),
+            Some(kind) => {
+                let octets = user_data(alloc, unit)?;
+                self.put_carried(alloc, parameters, kind, &octets, out)
+            }
             None => {
                 let fault = put_plain(parameters, out)?;
                 let none = Negotiated {
@@ -279,7 +282,7 @@ impl KeptExchange {
     ) -> Result<(), NoMemory>
         ensures { OnOk result (Receives self.old out.old.items (λ own x. read_received own x tsdu.now (spdus_in tsdu.now)) self.new out.new.items) }
     {
-        match read(alloc, tsdu.as_slice()) {
+        match read_shared(alloc, tsdu) {
             Ok(spdus) => self.receive_spdus(alloc, place_after_gt(tsdu.as_slice()), spdus, out),
             Err(fault) => {
                 let told = form_fault(tsdu.as_slice(), fault)?;
@@ -348,11 +351,11 @@ pub(crate) fn read_by(
     alloc: Global,
     kind: SpduKind,
     contexts: &Contexts,
-    octets: &[u8],
+    octets: &Octets,
 ) -> Result<Result<Primitive, UpperError>, NoMemory>
     ensures { IfOk result (λ read. read ≡ user_data_read kind contexts.now octets.now) }
 {
-    match vf_upper::read(alloc, kind, contexts, octets) {
+    match vf_upper::read_shared(alloc, kind, contexts, octets) {
         Ok(primitive) => Ok(Ok(primitive)),
         Err(UpperError::Context { id }) => Ok(Err(UpperError::Context { id })),
         Err(UpperError::Grammar { at }) => Ok(Err(UpperError::Grammar { at })),

@@ -1,7 +1,7 @@
 //! Laws of an association, each the contract of a function that does nothing.
 ghost use Rattle.std.specs.Prelude.{ℕ, ◌++◌, ◌≤◌, Bool, List, length};
 ghost use Rattle.vf_session.specs.declared.units.SessionSay.{SessionSay};
-ghost use Rattle.vf_stack.specs.Mutual.{IsReceived, IsRequestReceived};
+ghost use Rattle.vf_stack.specs.Mutual.{IsAnsweredSo, IsReceived, IsRequestReceived, MeansOneContext, TellsItself};
 ghost use Rattle.vf_stack.specs.declared.indication.Indication.{Indication};
 ghost use Rattle.vf_stack.specs.declared.request.Request.{Request};
 ghost use Rattle.vf_session.specs.declared.units.TokenSide.{TokenSide};
@@ -10,6 +10,7 @@ ghost use Rattle.vf_stack.specs.Pieces.{AreCut, TellOnce, TellsByOctets, TellsIn
 ghost use Rattle.vf_stack.specs.Examples.{CarriageExamples, ReceivedExamples};
 ghost use Rattle.vf_tpkt.specs.Stream.{reading as stream_read};
 ghost use Rattle.vf_tpkt.specs.Wanting.{TellsOnce};
+ghost use Rattle.vf_upper.specs.declared.contexts.Offer.{Offer};
 
 /// A stream tells what its pieces tell, one after the other, wherever it is cut.
 pub fn pieces_tell_all()
@@ -34,14 +35,29 @@ pub fn examples_compute()
     ensures carriage { CarriageExamples }
 {}
 
-/// What one end may send the other receives, where both agree by session and nothing is on its way: a unit whose user data
-/// tell one indication is received as this indication and nothing else.
+/// What one end may send the other receives, where both agree by session and nothing is on its way: a unit that tells
+/// indications and no fault is received as these and nothing else.
 pub fn sent_is_received()
-    ensures { (own : TokenSide) (offer far_offer : Bool) (a far : Association) (most : ℕ) (unit : SessionSay) (indication : Indication) → IsReceived own offer far_offer a far most unit indication }
+    ensures { (own : TokenSide) (offer far_offer : Bool) (a far : Association) (most : ℕ) (unit : SessionSay) (told : List Indication) → IsReceived own offer far_offer a far most unit told }
 {}
 
 /// So the packets that `send` appends for a request that `may` permits: the other end, where both agree and nothing is on
-/// its way, receives them as the one indication that the unit's user data tell, and nothing else.
+/// its way, receives them as the indications that the unit tells, and nothing else.
 pub fn requests_are_received()
-    ensures { (own : TokenSide) (offer far_offer : Bool) (a far : Association) (request : Request) (indication : Indication) → IsRequestReceived own offer far_offer a far request indication }
+    ensures { (own : TokenSide) (offer far_offer : Bool) (a far : Association) (request : Request) (told : List Indication) → IsRequestReceived own offer far_offer a far request told }
+{}
+
+/// An identifier of a context means after an association request what it means in it (ISO 8823), and to the calling end by
+/// the results of the answer, also where several proposals have it, of which the first counts (profile).
+pub fn identifiers_mean_one_context()
+    ensures requested { (offers : List Offer) → MeansOneContext offers }
+    ensures answered { (offers : List Offer) → IsAnsweredSo offers }
+{}
+
+/// A request that `may` permits is received as itself, where both ends agree, have the same contexts, and nothing is on its
+/// way: the packets that `send` appends tell the other end the indication of the request's name with the request's PDU or
+/// element, its number and its sync, and nothing else (ISO 8571-4). F-CANCEL and its response are data where sync isn't
+/// agreed, and the token passes without an indication.
+pub fn requests_tell_themselves()
+    ensures { (own : TokenSide) (offer far_offer : Bool) (a far : Association) (request : Request) → TellsItself own offer far_offer a far request }
 {}

@@ -25,7 +25,8 @@ use vf_session::{Session, SessionSay};
 use vf_tpkt::{Tpkt, TpktError, Unit};
 use vf_upper::{Contexts, Offers};
 
-/// One end of an association over its four lower layers.
+/// One end of an association over its four lower layers: transport class 0 (ISO 8073) over RFC 1006, session (ISO 8327),
+/// presentation (ISO 8823) with ACSE (ISO 8650), and PDUs and data elements of FTAM in their values (ISO 8571-4).
 #[derive(Drop)]
 pub struct Stack {
     transport: Tpkt,
@@ -55,7 +56,8 @@ fn begun(alloc: Global, session: Session) -> KeptExchange
 }
 
 impl Stack {
-    /// The calling end, which sends its CR, and is to propose sync or not. Without memory nothing is appended.
+    /// The calling end, which appends its CR (ISO 8073), and is to propose sync, the minor synchronize and resynchronize
+    /// functional units (ISO 8327), or not. Without memory nothing is appended.
     pub fn calling(alloc: Global, sync: bool, out: &mut Vec<u8>) -> Result<Stack, NoMemory>
         ensures stack { IfOk result (λ stack. (side_of stack ≡ sides.Initiator) × Represents stack beginning) }
         ensures offer { IfOk result (λ stack. offer_of stack ≡ sync) }
@@ -70,7 +72,7 @@ impl Stack {
         })
     }
 
-    /// The called end, which waits for a CR.
+    /// The called end, which waits for a CR (ISO 8073).
     pub fn called(alloc: Global) -> Result<Stack, NoMemory>
         ensures { IfOk result (λ stack. (side_of stack ≡ sides.Responder) × Represents stack beginning) }
     {
@@ -82,8 +84,9 @@ impl Stack {
         })
     }
 
-    /// Receives the next octets of the stream, one by one, up to the one that ends receiving: appends what they tell, and
-    /// the octets that answer them. An end that is ended takes nothing. Without memory the stack is only to be dropped.
+    /// Receives the next octets of the stream, any number of them, one by one, up to the one that ends receiving: appends
+    /// what they tell by the standards of the layers, and the octets that answer them, which are transport's. An end that is
+    /// ended takes nothing. Without memory the stack is only to be dropped.
     pub fn feed(
         &mut self,
         piece: &[u8],
@@ -139,8 +142,8 @@ impl Stack {
         }
     }
 
-    /// Whether a request may be sent: by what was received and sent, by its PDU and its contexts, and by its length. Of the
-    /// numbers of checks, acknowledgements and restarts it asks too. It takes no memory.
+    /// Whether a request may be sent: by what was received and sent (ISO 8327), by its PDU and its contexts, and by its
+    /// length (profile). Of the numbers of checks, acknowledgements and restarts it asks too. It takes no memory.
     pub fn may(&self, request: &Request) -> bool
         ensures state { IsTrue result ↔ MaySend self.now request.now }
         ensures association { (a : Association) → Represents self.now a → IsTrue result ↔ May (side_of self.now) (offer_of self.now) a request.now }
@@ -148,7 +151,8 @@ impl Stack {
         self.transport.stands() && self.exchange.may(request)
     }
 
-    /// Sends a request that may be sent: appends its packets. Without memory nothing is appended, and nothing has changed.
+    /// Sends a request that may be sent: appends its packets (which PDU goes in which SPDU is profile). Without memory
+    /// nothing is appended, and nothing has changed.
     pub fn send(
         &mut self,
         alloc: Global,
@@ -185,8 +189,9 @@ impl Stack {
         self.transport.wrap(alloc, tsdu.as_slice(), out)
     }
 
-    /// How many octets may be fed before something may be told or answered: fed at most so many, `feed` tells one unit's
-    /// indications or one answer at most, by the last of them or by one after which it tells nothing. At least 1.
+    /// How many octets may be fed before something may be told or answered: those that a packet (RFC 1006) still lacks, as
+    /// far as is known. Fed at most so many, `feed` tells one unit's indications or one answer at most, by the last of them
+    /// or by one after which it tells nothing. From 1 to 65,535.
     pub fn wanted(&self) -> usize
         ensures some { 1 ≤ result }
         ensures bound { result ≤ MOST_PACKET_OCTETS }
@@ -204,7 +209,7 @@ impl Stack {
         self.exchange.is_ended()
     }
 
-    /// Whether sync is agreed and this end has the token.
+    /// Whether sync is agreed and this end has its token (ISO 8327, synchronize-minor).
     pub fn token(&self) -> bool
         ensures state { result ≡ holds_token (side_of self.now) self.now.exchange.state }
         ensures association { (a : Association) → Represents self.now a → result ≡ holds_token (side_of self.now) (state_of (side_of self.now) a.exchange.trace) }
@@ -212,7 +217,7 @@ impl Stack {
         has_token(&self.exchange.state, self.exchange.session.side())
     }
 
-    /// The number that the next check will have, 1 before any CN.
+    /// The serial number that the next check will have (ISO 8327), 1 before any CN.
     pub fn next_serial(&self) -> u32
         ensures state { result ≡ self.now.exchange.state.next }
         ensures association { (a : Association) → Represents self.now a → result ≡ next a.exchange.trace }
@@ -220,7 +225,8 @@ impl Stack {
         self.exchange.state.next
     }
 
-    /// The octets held that are told in no indication.
+    /// How many octets are held that are told in no indication: those of the unfinished packet with its header, and the
+    /// data of the unfinished TSDU.
     pub fn held(&self) -> u64
         ensures held { result ≡ length self.now.transport.packet + length self.now.transport.connection.tsdu }
         ensures bound { result ≤ MOST_VALUE_OCTETS + MOST_PACKET_OCTETS }

@@ -228,7 +228,7 @@ impl KeptExchange {
         let SessionSay::Connect { data, .. } = unit else {
             return Ok(None);
         };
-        let read = read_by(alloc, SpduKind::CN, &Contexts::new(alloc), data.as_slice())?;
+        let read = read_by(alloc, SpduKind::CN, &Contexts::new(alloc), data)?;
         let offers = offers_in(alloc, &read)?;
         Ok(Some(offers))
     }

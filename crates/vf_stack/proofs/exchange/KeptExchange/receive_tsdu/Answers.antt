@@ -1,5 +1,4 @@
 use Rattle.std.proofs.Common.{◌≡◌, Err, List, ℕ, subst}
-use Rattle.vf_session_spdu.specs.Fields.{Fails}
 use Rattle.vf_session_spdu.specs.Reading.{reading}
 use Rattle.vf_stack.specs.Faults.{of_form}
 use Rattle.vf_stack.specs.Receiving.{read_received}
@@ -18,7 +17,6 @@ returns-in_ok-told-in-Err c =
     let fault = c.in-Err.fault in
     let told = c.in_ok-told-in-Err.told in
     let named = c.in_ok-told-in-Err.ensures.ok in
-    let F : List ℕ → Type 0 = λ octets. Fails fault (reading octets) in
     let N : List ℕ → Type 0 = λ octets. reading octets ≡ Err fault → told ≡ of_form octets fault in
     on-ok c.refuse.result (Refuses kept out told kept2 out2) (Receives kept out (λ own x. read_received own x tsdu (reading tsdu)) kept2 out2) c.refuse.ensures
-    (λ r. receives-unread kept kept2 out out2 tsdu fault told named.0 (subst F c.as_slice.ensures c.in-Err.ensures.exact) (subst N c.as_slice-in-Err.ensures named.1) r)
+    (λ r. receives-unread kept kept2 out out2 tsdu fault told named.0 c.in-Err.ensures.exact (subst N c.as_slice-in-Err.ensures named.1) r)
