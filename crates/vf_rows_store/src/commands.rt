@@ -16,12 +16,24 @@ const OF_ANN: &[u8] =
 const OF_FILES: &[u8] =
     b"FTAMJNL1\0\0\0\x02\0\0\0\0\0\0\0\0\0\0\0\0!\0\0\0\0\0\0\0!\x01\0\0\0b\0\0\0\x02\x02\0\x01b\xFF\x03\x1B\0\x01\0\0\0\0\0\0\0\0\0\0\08\xBB\x0C\0\0\x03ann\0\0\0\0\0\0\x02\0\0\0\x01\0\0\0\x01\0\0\0\x02hi\x02\0\x01a\xFF\x03\x1B\0\x01\0\0\0\0\0\0\0\0\0\0\0\0\0\0\0\0\x03ann\0\0\0\0\0\0\x01\0\0\0\x01\0\0\0\0\0";
 
-/// What a call printed, its status, and what its disk then holds.
+/// What a call printed, its status, and its disk.
 #[derive(Drop)]
 struct Done {
-    printed: Vec<u8>,
+    out: VecSink,
     status: u8,
     disk: MemoryDisk,
+}
+
+impl Done {
+    /// Whether this is its status, and it printed that.
+    fn ends(&self, status: u8, printed: &[u8]) -> bool {
+        self.status == status && self.out.octets() == printed
+    }
+
+    /// Whether its disk holds these octets.
+    fn leaves(&self, octets: &[u8]) -> bool {
+        self.disk.octets() == octets
+    }
 }
 
 /// `init` on a disk, for an input; the reads and writes of these numbers fail, from 1.
@@ -31,33 +43,35 @@ fn initialized(
     input: &str,
     reads: Vec<u64>,
     writes: Vec<u64>,
-) -> Result<Done, Fail> {
+) -> Done {
     let mut input = SliceSource::new(input.as_bytes(), reads);
     let mut out = VecSink::new(alloc, writes);
     let (disk, status) = init(alloc, disk, &mut input, &mut out);
-    let printed = out.octets().to_vec(alloc)?;
-    Ok(Done {
-        printed,
-        status,
-        disk,
-    })
+    Done { out, status, disk }
 }
 
 /// `list` on a disk; the writes of these numbers fail, from 1.
-fn listed(alloc: Global, disk: MemoryDisk, writes: Vec<u64>) -> Result<Done, Fail> {
+fn listed(alloc: Global, disk: MemoryDisk, writes: Vec<u64>) -> Done {
     let mut out = VecSink::new(alloc, writes);
     let (disk, status) = list(alloc, disk, &mut out);
-    let printed = out.octets().to_vec(alloc)?;
-    Ok(Done {
-        printed,
-        status,
-        disk,
-    })
+    Done { out, status, disk }
 }
 
 fn on(alloc: Global, octets: &[u8]) -> Result<MemoryDisk, Fail> {
     let disk = MemoryDisk::of(alloc, octets, Vec::new(alloc))?;
     Ok(disk)
+}
+
+/// `init` on a disk with these octets.
+fn initialized_on(alloc: Global, octets: &[u8], input: &str) -> Result<Done, Fail> {
+    let disk = on(alloc, octets)?;
+    Ok(initialized(alloc, disk, input, Vec::new(alloc), Vec::new(alloc)))
+}
+
+/// `list` on a disk with these octets.
+fn listed_on(alloc: Global, octets: &[u8]) -> Result<Done, Fail> {
+    let disk = on(alloc, octets)?;
+    Ok(listed(alloc, disk, Vec::new(alloc)))
 }
 
 /// A disk, the input, the status, what is printed, and what the disk then holds.
@@ -80,11 +94,9 @@ const INITIALIZED: [(&[u8], &str, u8, &str, &[u8]); 12] = [
 fn init_makes_a_store_of_the_users_of_its_lines(rt: HostRuntime) -> Result<(), Fail> {
     let alloc = rt.alloc();
     for (before, input, status, printed, after) in INITIALIZED {
-        let disk = on(alloc, before)?;
-        let done = initialized(alloc, disk, input, Vec::new(alloc), Vec::new(alloc))?;
-        assert!(rt; done.status == status, "{input}");
-        assert!(rt; done.printed.as_slice() == printed.as_bytes(), "{input}");
-        assert!(rt; done.disk.octets() == after, "{input}");
+        let done = initialized_on(alloc, before, input)?;
+        let is_right = done.ends(status, printed.as_bytes()) && done.leaves(after);
+        assert!(rt; is_right, "{input}");
     }
     Ok(())
 }
@@ -107,15 +119,24 @@ const LISTED: [(&[u8], u8, &str); 6] = [
 fn list_prints_the_files_by_their_names(rt: HostRuntime) -> Result<(), Fail> {
     let alloc = rt.alloc();
     for (octets, status, printed) in LISTED {
-        let disk = on(alloc, octets)?;
-        let done = listed(alloc, disk, Vec::new(alloc))?;
-        assert!(rt;
-            done.status == status && done.printed.as_slice() == printed.as_bytes(),
-            "{printed}"
-        );
-        assert!(rt; done.disk.octets() == octets, "{printed}");
+        let done = listed_on(alloc, octets)?;
+        let is_right = done.ends(status, printed.as_bytes()) && done.leaves(octets);
+        assert!(rt; is_right, "{printed}");
     }
     Ok(())
+}
+
+/// Whether `list` of octets is no store at this place.
+fn is_none_at(alloc: Global, octets: &[u8], place: usize) -> Result<bool, Fail> {
+    let line = format!(in alloc; "not a store {place}\n")?;
+    let done = listed_on(alloc, octets)?;
+    Ok(done.ends(8, line.as_bytes()))
+}
+
+/// Whether `list` of octets prints nothing.
+fn is_empty(alloc: Global, octets: &[u8]) -> Result<bool, Fail> {
+    let done = listed_on(alloc, octets)?;
+    Ok(done.ends(0, b""))
 }
 
 /// An image that is cut is no store until its last gate is there, and is told by its length, except for the places of anchors.
@@ -123,18 +144,10 @@ fn list_prints_the_files_by_their_names(rt: HostRuntime) -> Result<(), Fail> {
 fn list_of_a_store_that_is_cut_anywhere(rt: HostRuntime) -> Result<(), Fail> {
     let alloc = rt.alloc();
     for count in 0..NEW.len() {
-        let disk = on(alloc, &NEW[..count])?;
-        let done = listed(alloc, disk, Vec::new(alloc))?;
-        let line = format!(in alloc; "not a store {count}\n")?;
-        assert!(rt;
-            done.status == 8 && done.printed.as_slice() == line.as_bytes(),
-            "{count}"
-        );
+        assert!(rt; is_none_at(alloc, &NEW[..count], count)?, "{count}");
     }
     for count in NEW.len()..OF_ANN.len() {
-        let disk = on(alloc, &OF_ANN[..count])?;
-        let done = listed(alloc, disk, Vec::new(alloc))?;
-        assert!(rt; done.status == 0 && done.printed.is_empty(), "{count}");
+        assert!(rt; is_empty(alloc, &OF_ANN[..count])?, "{count}");
     }
     Ok(())
 }
@@ -145,35 +158,78 @@ fn only(alloc: Global, number: u64) -> Result<Vec<u64>, Fail> {
     Ok(numbers)
 }
 
-#[test]
-fn an_input_or_an_output_that_fails(rt: HostRuntime) -> Result<(), Fail> {
-    let alloc = rt.alloc();
-    for read in 1..4 {
-        let disk = on(alloc, b"")?;
-        let done = initialized(
-            alloc,
-            disk,
-            "ann\tpw\n",
-            only(alloc, read)?,
-            Vec::new(alloc),
-        )?;
-        assert!(rt; done.status == if read < 3 { 3 } else { 0 }, "{read}");
-        assert!(rt;
-            done.disk.octets() == if read < 3 { b"".as_slice() } else { OF_ANN },
-            "{read}"
-        );
+/// `init` of `ann` on an empty disk, where the reads and writes of these numbers fail.
+fn failing(alloc: Global, reads: Vec<u64>, writes: Vec<u64>) -> Result<Done, Fail> {
+    let disk = MemoryDisk::of(alloc, b"", Vec::new(alloc));
+    match disk {
+        Ok(disk) => Ok(initialized(alloc, disk, "ann\tpw\n", reads, writes)),
+        Err(_) => Err(Fail::from("no memory")),
     }
-    let disk = on(alloc, b"")?;
-    let done = initialized(alloc, disk, "ann\tpw\n", Vec::new(alloc), only(alloc, 1)?)?;
-    assert!(rt;
-        done.status == 4
-            && done.printed.as_slice() == b"user".as_slice()
-            && done.disk.octets() == OF_ANN
-    );
-    let disk = on(alloc, OF_FILES)?;
-    let done = listed(alloc, disk, only(alloc, 1)?)?;
-    assert!(rt; done.status == 4);
+}
+
+/// The status of `init` where this read fails, from 1, and whether its disk then holds what it should.
+fn with_a_read_that_fails(alloc: Global, read: u64, octets: &[u8]) -> Result<(u8, bool), Fail> {
+    let reads = only(alloc, read)?;
+    let done = failing(alloc, reads, Vec::new(alloc))?;
+    Ok((done.status, done.leaves(octets)))
+}
+
+#[test]
+fn an_input_that_fails(rt: HostRuntime) -> Result<(), Fail> {
+    let rows: [(u64, u8, &[u8]); 3] = [(1, 3, b""), (2, 3, b""), (3, 0, OF_ANN)];
+    for (read, status, octets) in rows {
+        let found = with_a_read_that_fails(rt.alloc(), read, octets)?;
+        assert!(rt; found == (status, true), "{read}");
+    }
     Ok(())
+}
+
+/// Whether `init` whose first write fails has written half of its line, and made the store.
+fn init_is_cut_short(alloc: Global) -> Result<bool, Fail> {
+    let writes = only(alloc, 1)?;
+    let done = failing(alloc, Vec::new(alloc), writes)?;
+    Ok(done.ends(4, b"user") && done.leaves(OF_ANN))
+}
+
+/// The status of `list` whose first write fails.
+fn list_that_fails(alloc: Global) -> Result<u8, Fail> {
+    let writes = only(alloc, 1)?;
+    let disk = on(alloc, OF_FILES)?;
+    Ok(listed(alloc, disk, writes).status)
+}
+
+#[test]
+fn an_output_that_fails(rt: HostRuntime) -> Result<(), Fail> {
+    assert!(rt; init_is_cut_short(rt.alloc())?);
+    assert!(rt; list_that_fails(rt.alloc())? == 4);
+    Ok(())
+}
+
+/// `init` of `ann` on an empty disk, with a stop at this write or sync.
+fn stopped(alloc: Global, call: u32) -> Result<Done, Fail> {
+    let mut disk = on(alloc, b"")?;
+    if call > 0 {
+        disk.stop(call);
+    }
+    Ok(initialized(alloc, disk, "ann\tpw\n", Vec::new(alloc), Vec::new(alloc)))
+}
+
+/// The status of `list` on what a crash leaves of a disk.
+fn listed_after(alloc: Global, disk: &MemoryDisk, form: CrashForm) -> Result<u8, Fail> {
+    let copy = disk.copy(alloc)?;
+    let left = copy.crash(form)?;
+    Ok(listed(alloc, left, Vec::new(alloc)).status)
+}
+
+/// Whether `list` of what each form of a crash leaves finds a store, or none before the seventh call.
+fn leaves_a_store(alloc: Global, done: &Done, call: u32) -> Result<bool, Fail> {
+    for form in [CrashForm::Keep, CrashForm::Lose, CrashForm::Fill(255)] {
+        let status = listed_after(alloc, &done.disk, form)?;
+        if status != 0 && (status != 8 || call >= 7) {
+            return Ok(false);
+        }
+    }
+    Ok(true)
 }
 
 /// `init` with a stop at each of its writes and syncs: six make the store, one opens it, and four write the record.
@@ -181,46 +237,35 @@ fn an_input_or_an_output_that_fails(rt: HostRuntime) -> Result<(), Fail> {
 fn a_stop_leaves_no_store_or_none_of_the_users_or_all(rt: HostRuntime) -> Result<(), Fail> {
     let alloc = rt.alloc();
     for call in 1..13 {
-        for form in [CrashForm::Keep, CrashForm::Lose, CrashForm::Fill(255)] {
-            let mut disk = on(alloc, b"")?;
-            disk.stop(call);
-            let done = initialized(alloc, disk, "ann\tpw\n", Vec::new(alloc), Vec::new(alloc))?;
-            assert!(rt; done.status == if call < 12 { 5 } else { 0 }, "{call}");
-            let again = listed(alloc, done.disk.crash(form)?, Vec::new(alloc))?;
-            assert!(rt;
-                again.status == 0 || again.status == 8 && call < 7,
-                "{call}"
-            );
-        }
+        let done = stopped(alloc, call)?;
+        let status = if call < 12 { 5 } else { 0 };
+        assert!(rt; done.status == status, "{call}");
+        assert!(rt; leaves_a_store(alloc, &done, call)?, "{call}");
     }
     Ok(())
+}
+
+/// Lines of 256 users.
+fn all_users(alloc: Global) -> Result<String, Fail> {
+    let mut input = String::new(alloc);
+    for number in 0..256 {
+        input.push_str(format!(in alloc; "user{number}\n")?.as_str())?;
+    }
+    Ok(input)
+}
+
+/// Whether `init` of these lines ends so.
+fn ends_so(alloc: Global, input: &str, status: u8, printed: &[u8]) -> Result<bool, Fail> {
+    let done = initialized_on(alloc, b"", input)?;
+    Ok(done.ends(status, printed))
 }
 
 #[test]
 fn the_257th_user_is_a_bad_line(rt: HostRuntime) -> Result<(), Fail> {
     let alloc = rt.alloc();
-    let mut input = String::new(alloc);
-    for number in 0..256 {
-        input.push_str(format!(in alloc; "user{number}\n")?.as_str())?;
-    }
-    let disk = on(alloc, b"")?;
-    let done = initialized(
-        alloc,
-        disk,
-        input.as_str(),
-        Vec::new(alloc),
-        Vec::new(alloc),
-    )?;
-    assert!(rt; done.status == 0 && done.printed.as_slice() == b"users 256\n".as_slice());
+    let mut input = all_users(alloc)?;
+    assert!(rt; ends_so(alloc, input.as_str(), 0, b"users 256\n")?);
     input.push_str("one more\n")?;
-    let disk = on(alloc, b"")?;
-    let done = initialized(
-        alloc,
-        disk,
-        input.as_str(),
-        Vec::new(alloc),
-        Vec::new(alloc),
-    )?;
-    assert!(rt; done.status == 11 && done.printed.as_slice() == b"bad line 257\n".as_slice());
+    assert!(rt; ends_so(alloc, input.as_str(), 11, b"bad line 257\n")?);
     Ok(())
 }

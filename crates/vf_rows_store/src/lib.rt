@@ -1,8 +1,11 @@
-//! Tests of public calls of the store's crates: records that are read, tables that are copied, and stores that are stopped.
+//! Tests of public calls of the store's crates: records that are read, lists in which entries are found by
+//! their names, tables that are copied and changed, and stores that are stopped.
 #![tactic(auto)]
 
 #[cfg(test)]
 mod commands;
+#[cfg(test)]
+mod named;
 #[cfg(test)]
 mod records;
 #[cfg(test)]

@@ -1,4 +1,5 @@
 //! Octets as records of changes.
+use std::alloc::Global;
 use std::test::Fail;
 use vf_store_record::{read, write};
 use vf_tables::{Change, Changes};
@@ -19,6 +20,15 @@ const TABLE: [(&[u8], Option<usize>); 12] = [
     (b"\0\0\0\x01\x04\0\x02a", None),
 ];
 
+/// The changes of octets that are to be a record.
+pub fn changes_of(alloc: Global, octets: &[u8]) -> Result<Changes, Fail> {
+    let found = read(alloc, octets)?;
+    match found {
+        Some(changes) => Ok(changes),
+        None => Err(Fail::from("no record")),
+    }
+}
+
 fn count_of(found: &Option<Changes>) -> Option<usize> {
     match found {
         Some(changes) => Some(changes.len()),
@@ -35,16 +45,20 @@ fn octets_are_read_as_changes(rt: HostRuntime) -> Result<(), Fail> {
     Ok(())
 }
 
+/// Whether the changes of these octets, which are a record, are written as the same octets.
+fn is_written_again(alloc: Global, octets: &[u8]) -> Result<bool, Fail> {
+    let changes = changes_of(alloc, octets)?;
+    let mut out = Vec::new(alloc);
+    write(changes.as_slice(), &mut out)?;
+    Ok(out.as_slice() == octets)
+}
+
 #[test]
 fn what_is_read_is_written_as_the_same_octets(rt: HostRuntime) -> Result<(), Fail> {
     for (octets, wanted) in TABLE {
-        let Some(changes) = read(rt.alloc(), octets)? else {
-            assert!(rt; wanted.is_none());
-            continue;
-        };
-        let mut out = Vec::new(rt.alloc());
-        write(changes.as_slice(), &mut out)?;
-        assert!(rt; out.as_slice() == octets);
+        if wanted.is_some() {
+            assert!(rt; is_written_again(rt.alloc(), octets)?);
+        }
     }
     Ok(())
 }
@@ -65,10 +79,7 @@ fn is_ann(change: &Change) -> bool {
 
 #[test]
 fn a_user_is_read_with_its_password(rt: HostRuntime) -> Result<(), Fail> {
-    let found = read(rt.alloc(), b"\0\0\0\x01\x01\0\x03ann\x01\0\x02pw")?;
-    let Some(changes) = found else {
-        return Err(Fail::from("no record"));
-    };
+    let changes = changes_of(rt.alloc(), b"\0\0\0\x01\x01\0\x03ann\x01\0\x02pw")?;
     assert!(rt; changes.get(0).is_some_and(|change| is_ann(change)));
     Ok(())
 }

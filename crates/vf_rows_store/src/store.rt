@@ -5,7 +5,7 @@ ghost use Rattle.vf_tables.specs.Snapshot.{HasFewPieces};
 use std::alloc::Global;
 use std::test::Fail;
 use vf_base::{Name, NoMemory, Octets, Sequence};
-use vf_disk::MemoryDisk;
+use vf_disk::{Disk, MemoryDisk};
 use vf_store::{Store, StoreError};
 use vf_store_record::write;
 use vf_tables::{Change, Changes, Tables, User};
@@ -70,12 +70,24 @@ fn changes(alloc: Global) -> Result<Changes, Fail> {
 #[test]
 fn a_new_store_lies_as_laid_out(rt: HostRuntime) -> Result<(), Fail> {
     let alloc = rt.alloc();
+    let disk = created(alloc)?;
+    assert!(rt; disk.octets() == NEW);
+    assert!(rt; stays(alloc, disk)?);
+    Ok(())
+}
+
+/// The disk of a store that is just made.
+fn created(alloc: Global) -> Result<MemoryDisk, Fail> {
     let mut disk = MemoryDisk::of(alloc, &[], Vec::new(alloc))?;
     Store::create(&mut disk)?;
-    assert!(rt; disk.octets() == NEW);
+    Ok(disk)
+}
+
+/// Whether a store on the disk has no users, and its disk is a new one when it is closed.
+fn stays(alloc: Global, disk: MemoryDisk) -> Result<bool, Fail> {
     let store = opened(alloc, disk, 1000)?;
-    assert!(rt; store.tables().users.len() == 0 && store.close().octets() == NEW);
-    Ok(())
+    let (disk, users) = closed(store);
+    Ok(users == 0 && disk.octets() == NEW)
 }
 
 /// A commit of `ann` to a new store with a limit: what it answers, and what the disk holds.
@@ -132,17 +144,46 @@ fn a_commit_writes_one_record_or_none(rt: HostRuntime) -> Result<(), Fail> {
     Ok(())
 }
 
+/// Makes the changes: the disk then, what is answered, and how many users there are. Of any disk, since the proof of a
+/// function in which a store on a certain one is changed is slow.
+fn changed<D: Disk>(
+    alloc: Global,
+    store: Store<D>,
+    changes: Changes,
+) -> (D, Result<(), StoreError>, usize) {
+    let mut store = store;
+    let answer = store.commit(alloc, changes);
+    let (disk, users) = closed(store);
+    (disk, answer, users)
+}
+
+/// Closes a store: its disk, and how many users it had.
+fn closed<D: Disk>(store: Store<D>) -> (D, usize) {
+    let users = store.tables().users.len();
+    (store.close(), users)
+}
+
+/// How many users a store on a disk has.
+fn users_on(alloc: Global, disk: MemoryDisk, limit: u64) -> Result<usize, Fail> {
+    let store = opened(alloc, disk, limit)?;
+    let (_disk, users) = closed(store);
+    Ok(users)
+}
+
+/// A store on a disk with these octets.
+fn opened_on(alloc: Global, octets: &[u8], limit: u64) -> Result<Store<MemoryDisk>, Fail> {
+    let disk = MemoryDisk::of(alloc, octets, Vec::new(alloc))?;
+    opened(alloc, disk, limit)
+}
+
 /// Whether the commit answers as told, the store has so many users then, and so it has when it is opened again.
 fn commits(alloc: Global, row: &Committed) -> Result<bool, Fail> {
-    let disk = MemoryDisk::of(alloc, NEW, Vec::new(alloc))?;
-    let mut store = opened(alloc, disk, row.limit)?;
     let changes = changes(alloc)?;
-    let answer = store.commit(alloc, changes);
-    let stands = answer == row.answer && store.tables().users.len() == row.users;
-    let disk = store.close();
-    let lies = disk.octets() == row.octets;
-    let again = opened(alloc, disk, row.limit)?;
-    Ok(stands && lies && again.tables().users.len() == row.users)
+    let store = opened_on(alloc, NEW, row.limit)?;
+    let (disk, answer, users) = changed(alloc, store, changes);
+    let stands = answer == row.answer && users == row.users && disk.octets() == row.octets;
+    let users = users_on(alloc, disk, row.limit)?;
+    Ok(stands && users == row.users)
 }
 
 /// Octets that are no store, and why.
@@ -174,13 +215,24 @@ const REFUSED: [Refused; 2] = [
 #[test]
 fn what_is_no_store_is_refused(rt: HostRuntime) -> Result<(), Fail> {
     for row in &REFUSED {
-        let disk = MemoryDisk::of(rt.alloc(), row.octets, Vec::new(rt.alloc()))?;
-        match Store::open(rt.alloc(), disk, 1000) {
-            Ok(_store) => assert!(rt; false),
-            Err((disk, error)) => assert!(rt; error == row.error && disk.octets() == row.octets),
-        }
+        assert!(rt; is_refused(rt.alloc(), row)?);
     }
     Ok(())
+}
+
+/// Opens a store: the disk, and why it is none.
+fn refusal<D: Disk>(alloc: Global, disk: D) -> (D, Option<StoreError>) {
+    match Store::open(alloc, disk, 1000) {
+        Ok(store) => (store.close(), None),
+        Err((disk, error)) => (disk, Some(error)),
+    }
+}
+
+/// Whether the octets are refused as told, and given back.
+fn is_refused(alloc: Global, row: &Refused) -> Result<bool, Fail> {
+    let disk = MemoryDisk::of(alloc, row.octets, Vec::new(alloc))?;
+    let (disk, error) = refusal(alloc, disk);
+    Ok(error == Some(row.error) && disk.octets() == row.octets)
 }
 
 /// Records of which the second isn't of the grammar: nothing after the first counts.
@@ -190,7 +242,6 @@ const FOREIGN: &[u8] =
 #[test]
 fn records_count_up_to_the_first_that_is_foreign(rt: HostRuntime) -> Result<(), Fail> {
     let disk = MemoryDisk::of(rt.alloc(), FOREIGN, Vec::new(rt.alloc()))?;
-    let store = opened(rt.alloc(), disk, 1000)?;
-    assert!(rt; store.tables().users.len() == 1);
+    assert!(rt; users_on(rt.alloc(), disk, 1000)? == 1);
     Ok(())
 }

@@ -1,10 +1,9 @@
 //! Entries of tables, copied, and tables that are changed.
+use crate::records::changes_of;
 use std::alloc::Global;
 use std::test::Fail;
 use vf_base::{Actions, BaseError, Control, Controls, FaduId, Name, NoMemory, Octets, Sequence};
-use vf_tables::{
-    Change, Changes, Direction, Docket, Doubled, Phase, Pieces, Plan, Regime, Task, User, Way,
-};
+use vf_tables::{Direction, Docket, Doubled, Phase, Pieces, Plan, Regime, Task, User, Way};
 
 fn user(alloc: Global) -> Result<User, BaseError> {
     let identity = Name::of(alloc, b"ann")?;
@@ -58,6 +57,25 @@ fn plan(alloc: Global) -> Result<Plan, BaseError> {
     })
 }
 
+/// One empty piece.
+fn pieces(alloc: Global) -> Result<Pieces, NoMemory> {
+    let mut pieces = Pieces::new(alloc);
+    pieces.push(Sequence::new(alloc))?;
+    Ok(pieces)
+}
+
+fn docket(alloc: Global) -> Result<Docket, BaseError> {
+    let regime = regime(alloc)?;
+    let staged = pieces(alloc)?;
+    Ok(Docket { regime, staged })
+}
+
+fn task(alloc: Global) -> Result<Task, BaseError> {
+    let plan = plan(alloc)?;
+    let staged = pieces(alloc)?;
+    Ok(Task { plan, staged })
+}
+
 #[test]
 fn a_user_is_copied(rt: HostRuntime) -> Result<(), Fail> {
     let user = user(rt.alloc())?;
@@ -66,52 +84,76 @@ fn a_user_is_copied(rt: HostRuntime) -> Result<(), Fail> {
     Ok(())
 }
 
-/// One empty piece.
-fn pieces(alloc: Global) -> Result<Pieces, NoMemory> {
-    let mut pieces = Pieces::new(alloc);
-    pieces.push(Sequence::new(alloc))?;
-    Ok(pieces)
-}
-
 #[test]
 fn a_docket_is_copied_with_its_pieces(rt: HostRuntime) -> Result<(), Fail> {
-    let regime = regime(rt.alloc())?;
-    let staged = pieces(rt.alloc())?;
-    let docket = Docket { regime, staged };
+    let docket = docket(rt.alloc())?;
     let copy = docket.copy(rt.alloc())?;
-    assert!(rt; copy.regime.activity == 7 && copy.regime.window == 3);
-    assert!(rt; copy.staged.len() == 1);
+    assert!(rt; copy.regime.activity == 7 && copy.regime.window == 3 && copy.staged.len() == 1);
     Ok(())
 }
 
 #[test]
 fn a_task_is_copied_with_its_pieces(rt: HostRuntime) -> Result<(), Fail> {
-    let plan = plan(rt.alloc())?;
-    let staged = pieces(rt.alloc())?;
-    let task = Task { plan, staged };
+    let task = task(rt.alloc())?;
     let copy = task.copy(rt.alloc())?;
     assert!(rt; copy.plan.point == 2 && copy.staged.len() == 1);
     Ok(())
 }
 
-fn one(alloc: Global, change: Change) -> Result<Changes, NoMemory> {
-    let mut changes = Sequence::new(alloc);
-    changes.push(change)?;
-    Ok(changes)
+/// Records that put the user `ann`, and that put `bob` and drop the file `a`, or do one of these alone.
+const PUT_ANN: &[u8] = b"\0\0\0\x01\x01\0\x03ann\0";
+
+const PUT_BOB_DROP_A: &[u8] = b"\0\0\0\x02\x01\0\x03bob\0\x04\0\x01a";
+
+const DROP_A: &[u8] = b"\0\0\0\x01\x04\0\x01a";
+
+const PUT_BOB: &[u8] = b"\0\0\0\x01\x01\0\x03bob\0";
+
+/// Records for tables without files that have `ann`, one after another: whether each is made, and how many users there
+/// are then.
+const MADE: [(&[u8], bool, usize); 6] = [
+    (DROP_A, false, 1),
+    (PUT_ANN, true, 1),
+    (PUT_BOB_DROP_A, false, 1),
+    (PUT_BOB, true, 2),
+    (DROP_A, false, 2),
+    (PUT_ANN, true, 2),
+];
+
+/// Makes the changes of a record, and tells whether they were made.
+fn makes(alloc: Global, tables: &mut Doubled, record: &[u8]) -> Result<bool, Fail> {
+    let changes = changes_of(alloc, record)?;
+    let is_made = tables.make(alloc, changes.as_slice())?;
+    Ok(is_made)
+}
+
+/// Puts the user `ann`.
+fn put_ann(alloc: Global, tables: &mut Doubled) -> Result<(), Fail> {
+    let changes = changes_of(alloc, PUT_ANN)?;
+    tables.apply(alloc, changes.as_slice())?;
+    Ok(())
+}
+
+/// Whether each of the records is made as told, of tables to which `ann` is put.
+fn are_made(alloc: Global, tables: &mut Doubled) -> Result<bool, Fail> {
+    put_ann(alloc, tables)?;
+    for (record, wanted, users) in MADE {
+        let is_made = makes(alloc, tables, record)?;
+        if is_made != wanted || tables.tables().users.len() != users {
+            return Ok(false);
+        }
+    }
+    Ok(true)
+}
+
+/// The same of tables that are just made, which stand in no other function: a function in which they live is slow to prove.
+fn are_made_of_new(alloc: Global) -> Result<bool, Fail> {
+    let mut tables = Doubled::new(alloc);
+    are_made(alloc, &mut tables)
 }
 
 #[test]
 fn changes_that_do_not_fit_leave_the_tables(rt: HostRuntime) -> Result<(), Fail> {
-    let alloc = rt.alloc();
-    let ann = user(alloc)?;
-    let put = one(alloc, Change::PutUser { user: ann })?;
-    let name = Name::of(alloc, b"a")?;
-    let drop_file = one(alloc, Change::DropFile { name })?;
-    let mut tables = Doubled::new(alloc);
-    tables.apply(alloc, put.as_slice())?;
-    let is_made = tables.make(alloc, drop_file.as_slice())?;
-    assert!(rt; !is_made && tables.tables().users.len() == 1);
-    let is_made = tables.make(alloc, put.as_slice())?;
-    assert!(rt; is_made && tables.tables().users.len() == 1);
+    assert!(rt; are_made_of_new(rt.alloc())?);
     Ok(())
 }

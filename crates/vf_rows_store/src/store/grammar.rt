@@ -1,6 +1,6 @@
 //! Records of which one octet is changed, and whether they are of the grammar then, as docs/STORE.md has it. Each begins with
 //! the user `u`, by whom it is seen that a record counts.
-use super::opened;
+use super::users_on;
 use std::alloc::Global;
 use std::test::Fail;
 use vf_base::NoMemory;
@@ -170,8 +170,8 @@ fn store_of(alloc: Global, record: &[u8], place: usize, octet: u8) -> Result<Vec
 fn counts(alloc: Global, record: &[u8], place: usize, octet: u8) -> Result<bool, Fail> {
     let octets = store_of(alloc, record, place, octet)?;
     let disk = MemoryDisk::of(alloc, &octets, Vec::new(alloc))?;
-    let store = opened(alloc, disk, 1000)?;
-    Ok(store.tables().users.len() == 1)
+    let users = users_on(alloc, disk, 1000)?;
+    Ok(users == 1)
 }
 
 #[test]

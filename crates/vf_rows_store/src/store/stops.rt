@@ -2,13 +2,14 @@
 use super::acts::act;
 use super::drawn::Draw;
 use super::model::{Model, Record};
-use super::{NEW, opened, whole_of};
+use super::{NEW, opened, opened_on, whole_of};
+use crate::records::changes_of;
 use std::alloc::Global;
 use std::test::Fail;
 use vf_base::NoMemory;
-use vf_disk::{CrashForm, MemoryDisk};
+use vf_disk::{CrashForm, Disk, MemoryDisk};
 use vf_store::{Store, StoreError};
-use vf_store_record::read;
+use vf_tables::Changes;
 
 /// The limit of the store.
 const LIMIT: u64 = 100_000;
@@ -118,6 +119,50 @@ struct Commit {
     after: Vec<u8>,
 }
 
+/// What a commit left.
+#[derive(Drop)]
+struct Made {
+    disk: MemoryDisk,
+    answer: Result<(), StoreError>,
+    /// The record that makes the tables then.
+    tables: Result<Vec<u8>, NoMemory>,
+}
+
+impl Made {
+    /// All was made, and this record makes the tables then.
+    fn has(&self, record: &[u8]) -> Result<(), Fail> {
+        self.answer?;
+        match &self.tables {
+            Ok(tables) => require(tables.as_slice() == record, "after a commit"),
+            Err(_) => Err(Fail::from("no memory")),
+        }
+    }
+
+    /// Its disk.
+    fn into_disk(self) -> MemoryDisk {
+        self.disk
+    }
+}
+
+/// Makes the changes: the disk then, what is answered, and the record that makes the tables. Of any disk, since the proof of
+/// a function in which a store on a certain one is changed is slow.
+fn changed<D: Disk>(
+    alloc: Global,
+    store: Store<D>,
+    changes: Changes,
+) -> (D, Result<(), StoreError>, Result<Vec<u8>, NoMemory>) {
+    let mut store = store;
+    let answer = store.commit(alloc, changes);
+    let (disk, tables) = closed(alloc, store);
+    (disk, answer, tables)
+}
+
+/// Closes a store: its disk, and the record that makes the tables.
+fn closed<D: Disk>(alloc: Global, store: Store<D>) -> (D, Result<Vec<u8>, NoMemory>) {
+    let tables = whole_of(alloc, store.tables());
+    (store.close(), tables)
+}
+
 fn require(holds: bool, otherwise: &'static str) -> Result<(), Fail> {
     if !holds {
         return Err(Fail::from(otherwise));
@@ -132,52 +177,66 @@ impl Commit {
         MemoryDisk::of(self.alloc, &self.octets, failing)
     }
 
-    /// Makes it on a disk: the store then, and what was answered.
-    fn made(&self, disk: MemoryDisk) -> Result<(Store<MemoryDisk>, Result<(), StoreError>), Fail> {
-        let mut store = opened(self.alloc, disk, LIMIT)?;
-        let Some(changes) = read(self.alloc, &self.changes)? else {
-            return Err(Fail::from("no record"));
-        };
-        let answer = store.commit(self.alloc, changes);
-        Ok((store, answer))
+    /// Makes it on a disk.
+    fn made(&self, disk: MemoryDisk) -> Result<Made, Fail> {
+        let changes = changes_of(self.alloc, &self.changes)?;
+        let store = opened(self.alloc, disk, LIMIT)?;
+        let (disk, answer, tables) = changed(self.alloc, store, changes);
+        Ok(Made {
+            disk,
+            answer,
+            tables,
+        })
     }
 
     /// Makes it: the tables are those after it, then and when the store is opened again. Answers what the disk holds.
     fn goes(&self) -> Result<Vec<u8>, Fail> {
-        let (store, answer) = self.made(self.disk(&[])?)?;
-        answer?;
-        let found = whole_of(self.alloc, store.tables())?;
-        require(found.as_slice() == self.after.as_slice(), "after a commit")?;
-        let octets = store.close().octets().to_vec(self.alloc)?;
+        let octets = self.octets_after()?;
         let found = self.tables_on(&octets)?;
         require(found.as_slice() == self.after.as_slice(), "opened again")?;
+        Ok(octets)
+    }
+
+    /// Makes it: the tables are those after it. Answers what the disk holds then.
+    fn octets_after(&self) -> Result<Vec<u8>, Fail> {
+        let disk = self.disk(&[])?;
+        let made = self.made(disk)?;
+        made.has(&self.after)?;
+        let octets = made.disk.octets().to_vec(self.alloc)?;
         Ok(octets)
     }
 
     /// Stops it at each of its calls, and answers how many it makes.
     fn stops(&self, draw: &mut Draw) -> Result<u32, Fail> {
         for call in 1..11_u32 {
-            let mut disk = self.disk(&[])?;
-            // Opening makes the first of the calls that are counted.
-            disk.stop(call.saturating_add(1));
-            let (store, answer) = self.made(disk)?;
-            if answer.is_ok() {
+            if self.is_made_before(draw, call)? {
                 return Ok(call.saturating_sub(1));
             }
-            let disk = store.close();
-            self.leaves_either(&disk, answer)?;
-            self.mixture_holds(draw, &disk)?;
         }
         Ok(10)
+    }
+
+    /// Stops it at this call, and tells whether it was made before.
+    fn is_made_before(&self, draw: &mut Draw, call: u32) -> Result<bool, Fail> {
+        let mut disk = self.disk(&[])?;
+        // Opening makes the first of the calls that are counted.
+        disk.stop(call.saturating_add(1));
+        let made = self.made(disk)?;
+        if made.answer.is_ok() {
+            return Ok(true);
+        }
+        self.leaves_either(&made.disk, made.answer)?;
+        self.mixture_holds(draw, &made.disk)?;
+        Ok(false)
     }
 
     /// Lets its third call fail, and no other one, and answers the disk then.
     fn third_call_fails(&self) -> Result<MemoryDisk, Fail> {
         // Opening makes four calls of all.
-        let (store, answer) = self.made(self.disk(&[7])?)?;
-        let disk = store.close();
-        self.leaves_either(&disk, answer)?;
-        Ok(disk)
+        let disk = self.disk(&[7])?;
+        let made = self.made(disk)?;
+        self.leaves_either(&made.disk, made.answer)?;
+        Ok(made.into_disk())
     }
 
     /// It answered a fault of the disk, and each form of a crash leaves the tables before or after.
@@ -189,20 +248,37 @@ impl Commit {
         Ok(())
     }
 
+    /// The disk that a crash leaves.
+    fn left(&self, disk: &MemoryDisk, form: CrashForm) -> Result<MemoryDisk, NoMemory> {
+        let copy = disk.copy(self.alloc)?;
+        copy.crash(form)
+    }
+
     fn form_holds(&self, disk: &MemoryDisk, form: CrashForm) -> Result<(), Fail> {
-        let left = disk.copy(self.alloc)?.crash(form)?;
+        let left = self.left(disk, form)?;
         self.is_either(left.octets())
     }
 
     /// An image that mixes those of three forms may be left too.
     fn mixture_holds(&self, draw: &mut Draw, disk: &MemoryDisk) -> Result<(), Fail> {
-        let lost = disk.copy(self.alloc)?.crash(CrashForm::Lose)?;
-        let kept = disk.copy(self.alloc)?.crash(CrashForm::Keep)?;
-        let fill = CrashForm::Fill(draw.below(256) as u8);
-        let filled = disk.copy(self.alloc)?.crash(fill)?;
-        let image = self.mixture(draw, lost.octets(), kept.octets(), filled.octets())?;
-        require(disk.admits(&image)?, "an image of another disk")?;
+        let image = self.mixed(draw, disk)?;
+        self.is_admitted(disk, &image)?;
         self.is_either(&image)
+    }
+
+    /// An image that mixes those of three forms.
+    fn mixed(&self, draw: &mut Draw, disk: &MemoryDisk) -> Result<Vec<u8>, NoMemory> {
+        let fill = CrashForm::Fill(draw.below(256) as u8);
+        let lost = self.left(disk, CrashForm::Lose)?;
+        let kept = self.left(disk, CrashForm::Keep)?;
+        let filled = self.left(disk, fill)?;
+        self.mixture(draw, lost.octets(), kept.octets(), filled.octets())
+    }
+
+    /// A crash of the disk may leave the image.
+    fn is_admitted(&self, disk: &MemoryDisk, image: &[u8]) -> Result<(), Fail> {
+        let admitted = disk.admits(image)?;
+        require(admitted, "an image of another disk")
     }
 
     /// An image with octets of three others, of which two have the same length and the first is the shortest.
@@ -230,10 +306,10 @@ impl Commit {
 
     /// The record that makes the tables of the store that has these octets.
     fn tables_on(&self, octets: &[u8]) -> Result<Vec<u8>, Fail> {
-        let disk = MemoryDisk::of(self.alloc, octets, Vec::new(self.alloc))?;
-        let store = opened(self.alloc, disk, LIMIT)?;
-        let found = whole_of(self.alloc, store.tables())?;
-        Ok(found)
+        let store = opened_on(self.alloc, octets, LIMIT)?;
+        let (_disk, tables) = closed(self.alloc, store);
+        let tables = tables?;
+        Ok(tables)
     }
 
     /// An image has the tables before or after.
