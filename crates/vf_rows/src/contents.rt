@@ -1,216 +1,160 @@
 //! What `dialogue` prints where files are opened, replaced and read.
 use crate::call::call;
+use crate::rows::{Row, push_lines, row_of};
+use std::alloc::Global;
+use std::process::Abort;
+use std::test::Fail;
 use vf_base::{NoMemory, SliceSource};
 
 /// What is sent and printed until a file is open for reading and replacing.
 const OPENED: (&str, &str) = (
-    "A00380010F\nAA0F810161A207800528C27B0503850105\nB203800105\n",
-    "A10381010F\nAB00\nB309A107800528C27B0503\n",
+    "A00380010F/AA0F810161A207800528C27B0503850105/B203800105/",
+    "A10381010F/AB00/B309A107800528C27B0503/",
 );
 
 /// The same until there is an association.
-const ASSOCIATED: (&str, &str) = ("A00380010F\n", "A10381010F\n");
+const ASSOCIATED: (&str, &str) = ("A00380010F/", "A10381010F/");
+
+/// Rows after a file is open.
+const TRANSFERS: &str = "
+# Two octets are written, and read again.
+0 BF2103800102/04026869/BF2200/BF2300/BF2000/BF2300/B400/ = BF2400/04026869/BF2200/BF2400/B500/
+# A string in segments is one string; two strings stay two.
+0 BF2103800102/24080402686904022121/040161/BF2200/BF2300/BF2000/ = BF2400/040468692121/040161/BF2200/
+# A replace leaves nothing of what was there, and may leave nothing at all.
+0 BF2103800102/040161/BF2200/BF2300/BF2103800102/040162/BF2200/BF2300/BF2000/ = BF2400/BF2400/040162/BF2200/
+0 BF2103800102/040161/BF2200/BF2300/BF2103800102/BF2200/BF2300/BF2000/ = BF2400/BF2400/BF2200/
+# The end of the values with a diagnostic: nothing is performed.
+0 BF2103800102/04026869/BF2205A003800120/BF2300/BF2000/ = BF2405A003800120/BF2200/
+# A transfer that is refused at its request goes on to its end; its diagnostic stays.
+0 BF20038001FF/BF2300/B400/ = BF2205A003800113/BF2405A003800113/B500/
+0 BF2003810100/ = BF2205A003800114/
+0 BF2003810101/ = BF2205A003800114/
+0 BF20068001FF810100/ = BF2205A003800114/
+0 BF2003810103/BF2300/ = BF2200/BF2400/
+0 BF21068001028101FD/040161/BF2205A003800120/BF2300/BF2000/ = BF2405A003800113/BF2200/
+# Messages that their stage doesn't take.
+7 04026869/ = A503800166/
+7 A800/ = A503800166/
+7 B203800105/ = A503800166/
+7 BF2300/ = A503800166/
+7 BF2103800102/BF2300/ = A503800166/
+7 BF2103800102/BF2000/ = A503800166/
+7 BF2103800102/BF2200/040161/ = A503800166/
+7 BF2103800102/BF2200/BF2200/ = A503800166/
+7 BF2000/B400/ = BF2200/A503800166/
+7 BF2000/BF2200/ = BF2200/A503800166/
+7 BF2400/ = A503800166/
+# Messages that aren't built, whatever the stage.
+7 BF2103800101/ = A504800200C7/
+7 BF2103800103/ = A504800200C7/
+7 BF2103800102/160161/ = A504800200C7/
+7 BF2103800102/6000/ = A504800200C7/
+7 BF2103800102/BF2500/ = A504800200C7/
+7 BC03800100/ = A504800200C7/
+# Faults.
+7 BF2100/ = A503800165/
+7 BF2103800104/ = A503800165/
+7 BF2003810104/ = A506800165810101/
+# An abort that is heard ends a transfer.
+0 BF2103800102/040161/A400/BF2200/ =
+";
+
+/// Rows after there is an association.
+const OPENS: &str = "
+# What wasn't requested isn't opened, and what the constraint set hasn't; the request is looked at first.
+0 AA0C810161A207800528C27B0503/B203800101/ = AB00/B305A00380010D/
+0 AA0F810161A207800528C27B0503850102/B203800102/ = AB00/B305A003800112/
+0 AA0F810161A207800528C27B0503850104/B203800106/ = AB00/B305A00380010D/
+0 AA0C810161A207800528C27B0503/B203800100/B400/A800/A200/ = AB00/B309A107800528C27B0503/B500/A900/A300/
+# What wasn't opened isn't performed.
+0 AA0F810161A207800528C27B0503850104/B203800104/BF2000/BF2300/ = AB00/B309A107800528C27B0503/BF2205A00380010D/BF2405A00380010D/
+0 AA0F810161A207800528C27B0503850101/B203800101/BF2103800102/040161/BF2200/BF2300/BF2000/ = AB00/B309A107800528C27B0503/BF2405A00380010D/BF2200/
+# The file is there when it is selected again.
+0 AA0F810161A207800528C27B0503850104/B203800104/BF2103800102/040161/BF2200/BF2300/B400/A800/A606800161810101/B203800101/BF2000/ = AB00/B309A107800528C27B0503/BF2400/B500/A900/A700/B309A107800528C27B0503/040161/BF2200/
+# Fields that aren't built.
+7 AA0C810161A207800528C27B0503/B20C800100A107800528C27B0503/ = AB00/A504800200C7/
+7 AA0C810161A207800528C27B0503/B20A80010082050000000000/ = AB00/A504800200C7/
+7 AA0C810161A207800528C27B0503/B206800100830101/ = AB00/A504800200C7/
+# A mode out of its range, and none.
+7 AA0C810161A207800528C27B0503/B203800120/ = AB00/A503800165/
+7 AA0C810161A207800528C27B0503/B200/ = AB00/A503800165/
+";
 
 #[test]
-fn contents_in_and_out(rt: HostRuntime) -> Result<(), NoMemory> {
-    for (text, printed, status) in [
-        // Two octets are written, and read again.
-        (
-            "BF2103800102\n04026869\nBF2200\nBF2300\nBF2000\nBF2300\nB400\n",
-            "BF2400\n04026869\nBF2200\nBF2400\nB500\n",
-            0,
-        ),
-        // A string in segments is one string; two strings stay two.
-        (
-            "BF2103800102\n24080402686904022121\n040161\nBF2200\nBF2300\nBF2000\n",
-            "BF2400\n040468692121\n040161\nBF2200\n",
-            0,
-        ),
-        // A replace leaves nothing of what was there, and may leave nothing at all.
-        (
-            "BF2103800102\n040161\nBF2200\nBF2300\nBF2103800102\n040162\nBF2200\nBF2300\nBF2000\n",
-            "BF2400\nBF2400\n040162\nBF2200\n",
-            0,
-        ),
-        (
-            "BF2103800102\n040161\nBF2200\nBF2300\nBF2103800102\nBF2200\nBF2300\nBF2000\n",
-            "BF2400\nBF2400\nBF2200\n",
-            0,
-        ),
-        // The end of the values with a diagnostic: nothing is performed.
-        (
-            "BF2103800102\n04026869\nBF2205A003800120\nBF2300\nBF2000\n",
-            "BF2405A003800120\nBF2200\n",
-            0,
-        ),
-        // A transfer that is refused at its request goes on to its end; its diagnostic stays.
-        (
-            "BF20038001FF\nBF2300\nB400\n",
-            "BF2205A003800113\nBF2405A003800113\nB500\n",
-            0,
-        ),
-        ("BF2003810100\n", "BF2205A003800114\n", 0),
-        ("BF2003810101\n", "BF2205A003800114\n", 0),
-        ("BF20068001FF810100\n", "BF2205A003800114\n", 0),
-        ("BF2003810103\nBF2300\n", "BF2200\nBF2400\n", 0),
-        (
-            "BF21068001028101FD\n040161\nBF2205A003800120\nBF2300\nBF2000\n",
-            "BF2405A003800113\nBF2200\n",
-            0,
-        ),
-        // Messages that their stage doesn't take.
-        ("04026869\n", "A503800166\n", 7),
-        ("A800\n", "A503800166\n", 7),
-        ("B203800105\n", "A503800166\n", 7),
-        ("BF2300\n", "A503800166\n", 7),
-        ("BF2103800102\nBF2300\n", "A503800166\n", 7),
-        ("BF2103800102\nBF2000\n", "A503800166\n", 7),
-        ("BF2103800102\nBF2200\n040161\n", "A503800166\n", 7),
-        ("BF2103800102\nBF2200\nBF2200\n", "A503800166\n", 7),
-        ("BF2000\nB400\n", "BF2200\nA503800166\n", 7),
-        ("BF2000\nBF2200\n", "BF2200\nA503800166\n", 7),
-        ("BF2400\n", "A503800166\n", 7),
-        // Messages that aren't built, whatever the stage.
-        ("BF2103800101\n", "A504800200C7\n", 7),
-        ("BF2103800103\n", "A504800200C7\n", 7),
-        ("BF2103800102\n160161\n", "A504800200C7\n", 7),
-        ("BF2103800102\n6000\n", "A504800200C7\n", 7),
-        ("BF2103800102\nBF2500\n", "A504800200C7\n", 7),
-        ("BC03800100\n", "A504800200C7\n", 7),
-        // Faults.
-        ("BF2100\n", "A503800165\n", 7),
-        ("BF2103800104\n", "A503800165\n", 7),
-        ("BF2003810104\n", "A506800165810101\n", 7),
-        // An abort that is heard ends a transfer.
-        ("BF2103800102\n040161\nA400\nBF2200\n", "", 0),
-    ] {
-        assert!(rt; prints(&rt, OPENED, text, printed, status)?, "{text}");
-    }
+fn contents_in_and_out(rt: HostRuntime) -> Result<(), Fail> {
+    assert_eq!(rt; count_held(&rt, rt.alloc(), OPENED, TRANSFERS)?, 32);
     Ok(())
 }
 
 #[test]
-fn opens_and_their_refusals(rt: HostRuntime) -> Result<(), NoMemory> {
-    for (text, printed, status) in [
-        // What wasn't requested isn't opened, and what the constraint set hasn't; the request is looked at first.
-        (
-            "AA0C810161A207800528C27B0503\nB203800101\n",
-            "AB00\nB305A00380010D\n",
-            0,
-        ),
-        (
-            "AA0F810161A207800528C27B0503850102\nB203800102\n",
-            "AB00\nB305A003800112\n",
-            0,
-        ),
-        (
-            "AA0F810161A207800528C27B0503850104\nB203800106\n",
-            "AB00\nB305A00380010D\n",
-            0,
-        ),
-        (
-            "AA0C810161A207800528C27B0503\nB203800100\nB400\nA800\nA200\n",
-            "AB00\nB309A107800528C27B0503\nB500\nA900\nA300\n",
-            0,
-        ),
-        // What wasn't opened isn't performed.
-        (
-            "AA0F810161A207800528C27B0503850104\nB203800104\nBF2000\nBF2300\n",
-            "AB00\nB309A107800528C27B0503\nBF2205A00380010D\nBF2405A00380010D\n",
-            0,
-        ),
-        (
-            "AA0F810161A207800528C27B0503850101\nB203800101\nBF2103800102\n040161\nBF2200\nBF2300\nBF2000\n",
-            "AB00\nB309A107800528C27B0503\nBF2405A00380010D\nBF2200\n",
-            0,
-        ),
-        // The file is there when it is selected again.
-        (
-            "AA0F810161A207800528C27B0503850104\nB203800104\nBF2103800102\n040161\nBF2200\nBF2300\nB400\nA800\nA606800161810101\nB203800101\nBF2000\n",
-            "AB00\nB309A107800528C27B0503\nBF2400\nB500\nA900\nA700\nB309A107800528C27B0503\n040161\nBF2200\n",
-            0,
-        ),
-        // Fields that aren't built.
-        (
-            "AA0C810161A207800528C27B0503\nB20C800100A107800528C27B0503\n",
-            "AB00\nA504800200C7\n",
-            7,
-        ),
-        (
-            "AA0C810161A207800528C27B0503\nB20A80010082050000000000\n",
-            "AB00\nA504800200C7\n",
-            7,
-        ),
-        (
-            "AA0C810161A207800528C27B0503\nB206800100830101\n",
-            "AB00\nA504800200C7\n",
-            7,
-        ),
-        // A mode out of its range, and none.
-        (
-            "AA0C810161A207800528C27B0503\nB203800120\n",
-            "AB00\nA503800165\n",
-            7,
-        ),
-        (
-            "AA0C810161A207800528C27B0503\nB200\n",
-            "AB00\nA503800165\n",
-            7,
-        ),
-    ] {
-        assert!(rt; prints(&rt, ASSOCIATED, text, printed, status)?, "{text}");
-    }
+fn opens_and_their_refusals(rt: HostRuntime) -> Result<(), Fail> {
+    assert_eq!(rt; count_held(&rt, rt.alloc(), ASSOCIATED, OPENS)?, 12);
     Ok(())
 }
 
+/// How many rows hold, after what begins each: all of them.
+fn count_held(
+    rt: &impl Abort,
+    alloc: Global,
+    begin: (&str, &str),
+    rows: &str,
+) -> Result<u32, Fail> {
+    let mut count = 0_u32;
+    for line in rows.lines() {
+        if let Some(row) = row_of(line) {
+            assert!(rt; holds(alloc, begin, row)?, "{line}");
+            count = count.saturating_add(1);
+        }
+    }
+    Ok(count)
+}
+
+fn holds(alloc: Global, begin: (&str, &str), row: Row<'_>) -> Result<bool, NoMemory> {
+    let sent = joined(alloc, begin.0, row.sent)?;
+    let printed = joined(alloc, begin.1, row.printed)?;
+    prints(alloc, sent.as_slice(), printed.as_slice(), row.status)
+}
+
+/// The lines of two texts.
+fn joined(alloc: Global, first: &str, second: &str) -> Result<Vec<u8>, NoMemory> {
+    let mut lines = Vec::new(alloc);
+    push_lines(first, &mut lines)?;
+    push_lines(second, &mut lines)?;
+    Ok(lines)
+}
+
+/// Whether `dialogue` prints this of these octets, with this status.
+fn prints(alloc: Global, sent: &[u8], printed: &[u8], status: u8) -> Result<bool, NoMemory> {
+    let mut input = SliceSource::new(sent, Vec::new(alloc));
+    let found = call(alloc, "dialogue", &mut input, Vec::new(alloc))?;
+    Ok(found.status == status && found.octets.as_slice() == printed)
+}
+
+/// The request that creates a file by its number, and its deselection.
+fn push_request(alloc: Global, number: u32, sent: &mut Vec<u8>) -> Result<(), NoMemory> {
+    push_lines("AA0E8103", sent)?;
+    for digit in [number / 100, number / 10 % 10, number % 10] {
+        let letter = digit.saturating_add(97);
+        let text = format!(in alloc; "{letter:02X}")?;
+        push_lines(text.as_str(), sent)?;
+    }
+    push_lines("A207800528C27B0503/A800/", sent)
+}
+
 #[test]
-fn a_filestore_has_1024_files(rt: HostRuntime) -> Result<(), NoMemory> {
-    let mut text = Vec::new(rt.alloc());
-    let mut printed = Vec::new(rt.alloc());
-    for file in 0..1025 {
-        let made = format!(in rt.alloc();
-            "AA0E8103{:02X}{:02X}{:02X}A207800528C27B0503\nA800\n",
-            97 + file / 100,
-            97 + file / 10 % 10,
-            97 + file % 10
-        )?;
-        let created = if file < 1024 {
-            "AB00\nA900\n"
+fn a_filestore_has_1024_files(rt: HostRuntime) -> Result<(), Fail> {
+    let mut sent = joined(rt.alloc(), ASSOCIATED.0, "")?;
+    let mut printed = joined(rt.alloc(), ASSOCIATED.1, "")?;
+    for number in 0..1025 {
+        push_request(rt.alloc(), number, &mut sent)?;
+        let reply = if number < 1024 {
+            "AB00/A900/"
         } else {
-            "AB05A003800118\nA503800166\n"
+            "AB05A003800118/A503800166/"
         };
-        text.extend_from_slice(made.as_bytes())?;
-        printed.extend_from_slice(created.as_bytes())?;
+        push_lines(reply, &mut printed)?;
     }
-    assert!(rt; prints_octets(&rt, ASSOCIATED, text.as_slice(), printed.as_slice(), 7)?);
+    assert!(rt; prints(rt.alloc(), sent.as_slice(), printed.as_slice(), 7)?);
     Ok(())
-}
-
-/// Whether `dialogue` prints this, after what begins it, with this status.
-fn prints(
-    rt: &HostRuntime,
-    begin: (&str, &str),
-    text: &str,
-    printed: &str,
-    status: u8,
-) -> Result<bool, NoMemory> {
-    prints_octets(rt, begin, text.as_bytes(), printed.as_bytes(), status)
-}
-
-fn prints_octets(
-    rt: &HostRuntime,
-    begin: (&str, &str),
-    text: &[u8],
-    printed: &[u8],
-    status: u8,
-) -> Result<bool, NoMemory> {
-    let mut lines = Vec::new(rt.alloc());
-    lines.extend_from_slice(begin.0.as_bytes())?;
-    lines.extend_from_slice(text)?;
-    let mut replies = Vec::new(rt.alloc());
-    replies.extend_from_slice(begin.1.as_bytes())?;
-    replies.extend_from_slice(printed)?;
-    let mut input = SliceSource::new(lines.as_slice(), Vec::new(rt.alloc()));
-    let found = call(rt.alloc(), "dialogue", &mut input, Vec::new(rt.alloc()))?;
-    Ok(found.status == status && found.octets.as_slice() == replies.as_slice())
 }

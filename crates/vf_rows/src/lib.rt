@@ -15,6 +15,8 @@ mod faults;
 #[cfg(test)]
 mod regime;
 #[cfg(test)]
+mod rows;
+#[cfg(test)]
 mod sips;
 #[cfg(test)]
 mod words;

@@ -33,9 +33,9 @@ impl<'a> Source for Sips<'a> {
     }
 }
 
-/// What `dialogue` prints for a text of which so many octets, one at least, come at once.
-pub(crate) fn sipped(alloc: Global, text: &str, most: usize) -> Result<Printed, NoMemory> {
-    let octets = SliceSource::new(text.as_bytes(), Vec::new(alloc));
+/// What `dialogue` prints for lines of which so many octets, one at least, come at once.
+pub(crate) fn sipped(alloc: Global, lines: &[u8], most: usize) -> Result<Printed, NoMemory> {
+    let octets = SliceSource::new(lines, Vec::new(alloc));
     let mut input = Sips {
         octets,
         most: most.max(1),

@@ -1,54 +1,67 @@
 //! Which words are outside the grammar, and what the others want.
 use crate::call::{call, only, words_of};
 use std::alloc::Global;
+use std::test::Fail;
 use vf_base::{NoMemory, SliceSource};
 use vf_cli::{WordsError, wanted};
 
+/// A line each; the first has no words.
+const OUTSIDE: &str = "
+--
+serve
+Dialogue
+dialogues
+dialogue x
+dialogue --
+dialogue --port=1
+dialogue --store=s
+init
+init s
+init --store
+init --store=
+init --store=-s
+init --store -s
+init --store --
+init --store s t
+init --store=s --store=s
+init --store s --store=s
+init --store=--store=s
+init --Store=s
+init --path=s
+init --path s
+init --store=s --port=1
+init -- --store=s
+init --store=\u{7f}
+init --store=\u{e9}
+--store=s init
+list
+list --
+lists --store=s
+";
+
 #[test]
-fn words_outside_the_grammar(rt: HostRuntime) -> Result<(), NoMemory> {
-    for words in [
-        "",
-        "--",
-        "serve",
-        "Dialogue",
-        "dialogues",
-        "dialogue x",
-        "dialogue --",
-        "dialogue --port=1",
-        "dialogue --store=s",
-        "init",
-        "init s",
-        "init --store",
-        "init --store=",
-        "init --store=-s",
-        "init --store -s",
-        "init --store --",
-        "init --store s t",
-        "init --store=s --store=s",
-        "init --store s --store=s",
-        "init --store=--store=s",
-        "init --Store=s",
-        "init --path=s",
-        "init --path s",
-        "init --store=s --port=1",
-        "init -- --store=s",
-        "init --store=\u{7f}",
-        "init --store=\u{e9}",
-        "--store=s init",
-        "list",
-        "list --",
-        "lists --store=s",
-    ] {
-        let given = words_of(rt.alloc(), words)?;
-        let usage = wanted(rt.alloc(), &given).is_err_and(|error| error == WordsError::Usage);
-        assert!(rt; usage, "{words}");
-        // The input isn't read: its first read would fail.
-        let mut input = SliceSource::new(b"A2", only(rt.alloc(), 1)?);
-        let found = call(rt.alloc(), words, &mut input, Vec::new(rt.alloc()))?;
-        assert!(rt; found.status == 2, "{words}");
-        assert!(rt; found.octets.as_slice() == "usage\n".as_bytes(), "{words}");
+fn words_outside_the_grammar(rt: HostRuntime) -> Result<(), Fail> {
+    let mut count = 0_u32;
+    for words in OUTSIDE.lines() {
+        assert!(rt; is_usage(rt.alloc(), words)?, "{words}");
+        assert!(rt; prints_usage(rt.alloc(), words)?, "{words}");
+        count = count.saturating_add(1);
     }
+    assert_eq!(rt; count, 31);
     Ok(())
+}
+
+/// Whether the words are outside the grammar.
+fn is_usage(alloc: Global, words: &str) -> Result<bool, NoMemory> {
+    let given = words_of(alloc, words)?;
+    Ok(wanted(alloc, &given).is_err_and(|error| error == WordsError::Usage))
+}
+
+/// Whether a call with the words says so. Its input isn't read: the first read would fail.
+fn prints_usage(alloc: Global, words: &str) -> Result<bool, NoMemory> {
+    let mut input = SliceSource::new(b"A2", only(alloc, 1)?);
+    let found = call(alloc, words, &mut input, Vec::new(alloc))?;
+    Ok(found.status == 2 && found.octets.as_slice() == b"usage\n".as_slice())
 }
 
 #[test]
@@ -90,13 +103,23 @@ fn wants(alloc: Global, words: &str, path: &str) -> Result<bool, NoMemory> {
 #[test]
 fn paths_of_any_printable_octets(rt: HostRuntime) -> Result<(), NoMemory> {
     for (count, good) in [(1_usize, true), (255, true), (256, false)] {
-        let mut word = String::from_str(rt.alloc(), "--store=")?;
-        for _ in 0..count {
-            word.push(' ')?;
-        }
-        let mut given = words_of(rt.alloc(), "list")?;
-        given.push(word)?;
-        assert!(rt; wanted(rt.alloc(), &given).is_ok() == good, "{count}");
+        assert!(rt; is_path(rt.alloc(), count)? == good, "{count}");
     }
     Ok(())
+}
+
+/// Whether so many spaces are a path.
+fn is_path(alloc: Global, count: usize) -> Result<bool, NoMemory> {
+    let mut given = words_of(alloc, "list")?;
+    given.push(path_of(alloc, count)?)?;
+    Ok(wanted(alloc, &given).is_ok())
+}
+
+/// The option with a path of so many spaces.
+fn path_of(alloc: Global, count: usize) -> Result<String, NoMemory> {
+    let mut word = String::from_str(alloc, "--store=")?;
+    for _ in 0..count {
+        word.push(' ')?;
+    }
+    Ok(word)
 }

@@ -1,3 +1,5 @@
+ghost use Rattle.std.specs.Prelude.{◌<◌};
+
 use std::alloc::Global;
 use std::fs;
 use std::test::Fail;
@@ -181,14 +183,27 @@ fn crashes_leave_what_the_rules_allow(rt: HostRuntime) -> Result<(), Fail> {
 
 /// Whether the calls of the case go as planned, and a crash after them may leave what the rules allow.
 fn holds(alloc: Global, case: &Case) -> Result<bool, NoMemory> {
-    let mut disk = MemoryDisk::of(alloc, b"ab", case.failing.to_vec(alloc)?)?;
+    let failing = case.failing.to_vec(alloc)?;
+    let mut disk = MemoryDisk::of(alloc, b"ab", failing)?;
     let mut allowed = Allowed::of(alloc, b"ab")?;
-    let as_planned = run(alloc, &mut disk, &mut allowed, case)?;
-    let judged = are_judged_alike(alloc, &disk, &allowed)?;
-    let kept = leaves(alloc, &disk, &allowed, CrashForm::Keep, case.keep)?;
-    let lost = leaves(alloc, &disk, &allowed, CrashForm::Lose, case.lose)?;
-    let filled = leaves(alloc, &disk, &allowed, CrashForm::Fill(b'c'), case.fill)?;
-    Ok(as_planned && judged && kept && lost && filled)
+    if !run(alloc, &mut disk, &mut allowed, case)? {
+        return Ok(false);
+    }
+    ends(alloc, &disk, &allowed, case)
+}
+
+/// Whether a crash may leave what the rules allow, and leaves what is told in each form.
+fn ends(
+    alloc: Global,
+    disk: &MemoryDisk,
+    allowed: &Allowed,
+    case: &Case,
+) -> Result<bool, NoMemory> {
+    let judged = are_judged_alike(alloc, disk, allowed)?;
+    let kept = leaves(alloc, disk, allowed, CrashForm::Keep, case.keep)?;
+    let lost = leaves(alloc, disk, allowed, CrashForm::Lose, case.lose)?;
+    let filled = leaves(alloc, disk, allowed, CrashForm::Fill(b'c'), case.fill)?;
+    Ok(judged && kept && lost && filled)
 }
 
 /// Makes the calls, and says whether each fails where that is planned, and a read then gives what the rules say.
@@ -216,8 +231,10 @@ fn leaves(
     form: CrashForm,
     octets: &[u8],
 ) -> Result<bool, NoMemory> {
-    let left = disk.copy(alloc)?.crash(form)?;
-    Ok(left.octets() == octets && allowed.allows(octets) && disk.admits(octets)?)
+    let copied = disk.copy(alloc)?;
+    let left = copied.crash(form)?;
+    let admitted = disk.admits(octets)?;
+    Ok(left.octets() == octets && allowed.allows(octets) && admitted)
 }
 
 /// Whether the disk admits exactly what the rules allow, of all images of up to five octets of the alphabet.
@@ -262,25 +279,34 @@ fn note(alloc: Global, allowed: &mut Allowed, call: Call, good: bool) -> Result<
     }
 }
 
+/// The value that the octets stand for.
+fn value_of(octets: &[u8]) -> Option<u8> {
+    match octets {
+        [0, old, ..] => Some(*old),
+        [_, _, value, ..] => Some(*value),
+        _ => None,
+    }
+}
+
+/// Whether a stop leaves the old value or the new one, and the new one where all was done, which is so at the fifth call.
+fn stops(alloc: Global, stop: u32, form: CrashForm) -> Result<bool, NoMemory>
+    requires { 0 < stop }
+{
+    let mut disk = MemoryDisk::of(alloc, &[0, 7, 0], Vec::new(alloc))?;
+    disk.stop(stop);
+    disk.stop(stop.saturating_add(1));
+    let done = choose(&mut disk, 7, 8).is_ok();
+    let left = disk.crash(form)?;
+    let value = value_of(left.octets());
+    Ok(done == (stop == 5) && (value == Some(8) || (!done && value == Some(7))))
+}
+
 #[test]
 fn a_stop_leaves_the_old_value_or_the_new(rt: HostRuntime) -> Result<(), Fail> {
-    let alloc = rt.alloc();
-    for stop in [1, 2, 3, 4, 5] {
-        for form in [CrashForm::Keep, CrashForm::Lose, CrashForm::Fill(9)] {
-            let mut disk = MemoryDisk::of(alloc, &[0, 7, 0], Vec::new(alloc))?;
-            disk.stop(stop);
-            disk.stop(stop + 1);
-            let done = choose(&mut disk, 7, 8).is_ok();
-            assert!(rt; done == (stop == 5));
-            let left = disk.crash(form)?;
-            let chosen = if left.octets().first() == Some(&0) {
-                1
-            } else {
-                2
-            };
-            let value = left.octets().get(chosen).copied();
-            assert!(rt; value == Some(8) || (!done && value == Some(7)));
-        }
+    for stop in 1..6 {
+        assert!(rt; stops(rt.alloc(), stop, CrashForm::Keep)?, "{stop}");
+        assert!(rt; stops(rt.alloc(), stop, CrashForm::Lose)?, "{stop}");
+        assert!(rt; stops(rt.alloc(), stop, CrashForm::Fill(9))?, "{stop}");
     }
     Ok(())
 }
