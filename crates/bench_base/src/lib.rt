@@ -7,5 +7,5 @@ mod output;
 mod reading;
 
 pub use crate::fault::Fault;
-pub use crate::output::{end, put, put_count, put_digits};
+pub use crate::output::{end, put, put_count, put_digits, put_number};
 pub use crate::reading::{first_word, input, number, octets_in, text_of};

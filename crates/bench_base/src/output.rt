@@ -10,6 +10,18 @@ pub fn put(out: &mut Vec<u8>, text: &str) -> Result<(), Fault> {
     Ok(())
 }
 
+/// Appends a number between two texts.
+pub fn put_number(
+    alloc: Global,
+    before: &str,
+    number: u64,
+    after: &str,
+    out: &mut Vec<u8>,
+) -> Result<(), Fault> {
+    let text = format!(in alloc; "{before}{number}{after}")?;
+    put(out, text.as_str())
+}
+
 /// Appends octets as hexadecimal digits.
 pub fn put_digits(alloc: Global, octets: &[u8], out: &mut Vec<u8>) -> Result<(), Fault> {
     let digits = hex::encode(alloc, octets)?;

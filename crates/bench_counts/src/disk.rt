@@ -2,7 +2,7 @@
 //!
 //! `COUNT` makes so many commits: a write of 64 octets, a sync, a write of one octet, and a sync. It writes how many
 //! succeeded.
-use bench_base::{Fault, number};
+use bench_base::{Fault, number, put_number};
 use std::alloc::Global;
 use vf_base::{Failed, NoMemory};
 use vf_disk::{Disk, MemoryDisk};
@@ -10,8 +10,7 @@ use vf_disk::{Disk, MemoryDisk};
 pub fn put(alloc: Global, words: &str, out: &mut Vec<u8>) -> Result<(), Fault> {
     let count = number(Some(words)).ok_or(Fault::Words)?;
     let done = commits(alloc, count)?;
-    let line = format!(in alloc; "commits {done}\n")?;
-    bench_base::put(out, line.as_str())
+    put_number(alloc, "commits ", u64::from(done), "\n", out)
 }
 
 fn commit<D: Disk>(disk: &mut D, octet: u8) -> Result<(), Failed> {

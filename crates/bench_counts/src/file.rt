@@ -3,9 +3,9 @@
 //! `share LENGTH TIMES` and `shown LENGTH TIMES` make a sequential flat file of 256 data units, each of one string of
 //! LENGTH octets, and then share it so many times, or show it whole. Written are the octets of the file and the data
 //! elements that were shown.
-use bench_base::{Fault, number};
+use bench_base::{Fault, number, put_number};
 use std::alloc::Global;
-use vf_base::{Constraint, Context, Element, FaduId, NoMemory, Octets, Sequence};
+use vf_base::{Constraint, Context, DataUnit, Element, FaduId, NoMemory, Octets, Sequence};
 use vf_tree::{Tree, TreeError};
 
 /// What is done with the file.
@@ -23,29 +23,48 @@ fn way_of(name: &str) -> Option<Way> {
     }
 }
 
-pub fn put(alloc: Global, words: &str, out: &mut Vec<u8>) -> Result<(), Fault> {
+fn command_of(words: &str) -> Option<(Way, u32, u32)> {
     let mut words = words.split(' ');
-    let way = words.next().and_then(way_of).ok_or(Fault::Words)?;
-    let length = number(words.next()).ok_or(Fault::Words)?;
-    let times = number(words.next()).ok_or(Fault::Words)?;
-    let Ok(line) = line_of(alloc, way, length, times) else {
-        return Err(Fault::NoMemory);
-    };
-    bench_base::put(out, line.as_str())
+    let way = way_of(words.next()?)?;
+    let length = number(words.next())?;
+    let times = number(words.next())?;
+    Some((way, length, times))
 }
 
-/// A file of 256 units of one string of so many octets.
-fn file_of(alloc: Global, length: u32) -> Result<Tree, TreeError> {
+pub fn put(alloc: Global, words: &str, out: &mut Vec<u8>) -> Result<(), Fault> {
+    let (way, length, times) = command_of(words).ok_or(Fault::Words)?;
+    let Ok(tree) = file_of(alloc, length) else {
+        return Err(Fault::NoMemory);
+    };
+    let Ok(elements) = done(alloc, &tree, way, times) else {
+        return Err(Fault::NoMemory);
+    };
+    put_number(alloc, "octets ", tree.size(), " ", out)?;
+    put_number(alloc, "elements ", elements, "\n", out)
+}
+
+/// 256 units of one string of so many octets.
+fn units_of(alloc: Global, length: u32) -> Result<Vec<DataUnit>, NoMemory> {
     let octets = zeros(alloc, length)?;
     let mut units = Vec::new(alloc);
     for _ in 0..256 {
-        let mut unit = Sequence::new(alloc);
-        let octets = octets.copy(alloc)?;
-        unit.push(Element::Binary { octets })?;
-        let Ok(()) = units.push(unit) else {
-            return Err(TreeError::NoMemory);
-        };
+        let unit = unit_of(alloc, &octets)?;
+        units.push(unit)?;
     }
+    Ok(units)
+}
+
+/// A unit of one string.
+fn unit_of(alloc: Global, octets: &Octets) -> Result<DataUnit, NoMemory> {
+    let octets = octets.copy(alloc)?;
+    let mut unit = Sequence::new(alloc);
+    unit.push(Element::Binary { octets })?;
+    Ok(unit)
+}
+
+/// A file of these units.
+fn file_of(alloc: Global, length: u32) -> Result<Tree, TreeError> {
+    let units = units_of(alloc, length)?;
     let mut tree = Tree::empty(alloc, Constraint::SequentialFlat)?;
     if tree.has_room_to_insert(FaduId::End, &units) {
         tree.insert(alloc, FaduId::End, units)?;
@@ -58,12 +77,12 @@ fn zeros(alloc: Global, length: u32) -> Result<Octets, NoMemory> {
     Octets::from_vec(octets)
 }
 
-/// Shares the file so many times.
-fn share(tree: &Tree, times: u32) -> Result<(), TreeError> {
+/// Shares the file so many times, and shows no element.
+fn share(tree: &Tree, times: u32) -> Result<u64, TreeError> {
     for _ in 0..times {
         let _other = tree.share()?;
     }
-    Ok(())
+    Ok(0)
 }
 
 /// Shows the file so many times, and counts the elements.
@@ -76,18 +95,10 @@ fn show(alloc: Global, tree: &Tree, times: u32) -> Result<u64, TreeError> {
     Ok(elements)
 }
 
-fn line_of(alloc: Global, way: Way, length: u32, times: u32) -> Result<String, TreeError> {
-    let tree = file_of(alloc, length)?;
-    let elements = match way {
-        Way::Share => {
-            share(&tree, times)?;
-            0
-        }
-        Way::Show => show(alloc, &tree, times)?,
-    };
-    let octets = tree.size();
-    let Ok(line) = format!(in alloc; "octets {octets} elements {elements}\n") else {
-        return Err(TreeError::NoMemory);
-    };
-    Ok(line)
+/// Shares or shows the file so many times; the elements that were shown.
+fn done(alloc: Global, tree: &Tree, way: Way, times: u32) -> Result<u64, TreeError> {
+    match way {
+        Way::Share => share(tree, times),
+        Way::Show => show(alloc, tree, times),
+    }
 }

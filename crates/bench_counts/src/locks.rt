@@ -3,7 +3,7 @@
 //! `anew HOLDERS COUNT` lets so many parties hold a file for shared reading, and then another party ask for the same and
 //! let go COUNT times; `again HOLDERS COUNT` lets it ask as often and let go never. Both write how many of its requests
 //! were granted.
-use bench_base::{Fault, number};
+use bench_base::{Fault, number, put_number};
 use std::alloc::Global;
 use vf_base::{Control, Controls, Name};
 use vf_locks::{GrantError, Holder, Locks};
@@ -41,14 +41,18 @@ fn requests_of(words: &str) -> Option<Requests> {
 
 pub fn put(alloc: Global, words: &str, out: &mut Vec<u8>) -> Result<(), Fault> {
     let requests = requests_of(words).ok_or(Fault::Words)?;
-    let Ok(file) = Name::of(alloc, b"file") else {
-        return Err(Fault::NoMemory);
-    };
-    let Ok(granted) = ask(alloc, &file, requests) else {
-        return Err(Fault::NoMemory);
-    };
-    let line = format!(in alloc; "granted {granted}\n")?;
-    bench_base::put(out, line.as_str())
+    match granted(alloc, requests) {
+        Ok(granted) => put_number(alloc, "granted ", u64::from(granted), "\n", out),
+        Err(_) => Err(Fault::NoMemory),
+    }
+}
+
+/// How many of the requests are granted.
+fn granted(alloc: Global, requests: Requests) -> Result<u32, GrantError> {
+    match Name::of(alloc, b"file") {
+        Ok(file) => ask(alloc, &file, requests),
+        Err(_) => Err(GrantError::NoMemory),
+    }
 }
 
 /// A table in which the parties of so many links hold the file for reading.

@@ -4,7 +4,7 @@
 //! accepts it, the P-DATA in pieces of COUNT octets. It writes how many data elements came, how many octets their strings
 //! have, and how many octets are held. `hold COUNT` takes the CR and the CN of the same stream, and writes how many octets
 //! of P-DATA follow, so that what `hear` costs beyond it is what hearing these costs.
-use bench_base::{Fault, input, number, put_count};
+use bench_base::{Fault, input, number, put_count, put_number};
 use std::alloc::Global;
 use vf_base::Element;
 use vf_pdu::{Boxed, Pdu};
@@ -46,22 +46,33 @@ fn begin_of(stream: &[u8]) -> usize {
 
 /// A called end that has accepted what these octets ask for.
 fn accepted(alloc: Global, begin: &[u8]) -> Result<Stack, Fault> {
-    let mut stack = Stack::called(alloc)?;
+    let mut stack = asked(alloc, begin)?;
+    let request = acceptance(alloc)?;
+    let mut sent = Vec::new(alloc);
+    if !stack.may(&request) {
+        return Err(Fault::Received);
+    }
+    stack.send(alloc, &request, &mut sent)?;
+    Ok(stack)
+}
+
+/// A called end at which these octets came.
+fn asked(alloc: Global, begin: &[u8]) -> Result<Stack, Fault> {
     let mut told = Vec::new(alloc);
     let mut sent = Vec::new(alloc);
+    let mut stack = Stack::called(alloc)?;
     stack.feed(begin, &mut told, &mut sent)?;
+    Ok(stack)
+}
+
+fn acceptance(alloc: Global) -> Result<Request, Fault> {
     let pdu = Pdu::InitializeResponse {
         diagnostic: None,
         units: 15,
         window: 1,
     };
     let pdu = Boxed::new(alloc, pdu)?;
-    let request = Request::Accept { sync: false, pdu };
-    if !stack.may(&request) {
-        return Err(Fault::Received);
-    }
-    stack.send(alloc, &request, &mut sent)?;
-    Ok(stack)
+    Ok(Request::Accept { sync: false, pdu })
 }
 
 /// Counts an indication, which must be of a data element.
@@ -94,14 +105,21 @@ fn put_heard(
     let mut sent = Vec::new(alloc);
     for piece in octets.chunks(size.max(1)) {
         stack.feed(piece, &mut told, &mut sent)?;
-        for indication in &told {
-            count(indication, &mut counts)?;
-        }
+        count_all(&told, &mut counts)?;
         told.clear();
     }
-    let Counts { elements, octets } = counts;
-    let held = stack.held();
-    let line = format!(in alloc; "elements {elements} octets {octets} held {held}\n")?;
-    out.extend_from_slice(line.as_bytes())?;
+    put_counts(alloc, counts, stack.held(), out)
+}
+
+fn count_all(told: &[Indication], counts: &mut Counts) -> Result<(), Fault> {
+    for indication in told {
+        count(indication, counts)?;
+    }
     Ok(())
+}
+
+fn put_counts(alloc: Global, counts: Counts, held: u64, out: &mut Vec<u8>) -> Result<(), Fault> {
+    put_number(alloc, "elements ", counts.elements, " ", out)?;
+    put_number(alloc, "octets ", counts.octets, " ", out)?;
+    put_number(alloc, "held ", held, "\n", out)
 }

@@ -3,7 +3,7 @@
 //! `open PATH` opens it, and writes how many files it has and how many octets these have. `commit PATH COUNT LENGTH NAMES`
 //! makes one where the file is empty, opens it, and commits a file of LENGTH octets so many times, each with the next of
 //! NAMES names; it writes how many. A path has no spaces.
-use bench_base::{Fault, number};
+use bench_base::{Fault, number, put_number};
 use std::alloc::Global;
 use vf_attr::{File, Stamp};
 use vf_base::{
@@ -29,26 +29,56 @@ struct Commits {
     names: u32,
 }
 
-pub fn put(rt: &HostRuntime, words: &str, out: &mut Vec<u8>) -> Result<(), Fault> {
-    let mut words = words.split(' ');
-    let name = words.next().ok_or(Fault::Words)?;
-    let path = words.next().ok_or(Fault::Words)?;
-    let count = number(words.next());
-    let length = number(words.next());
-    let names = number(words.next());
-    let disk = FileDisk::open(rt, path);
+/// What is done with the store of a path.
+#[derive(Clone, Copy)]
+enum Way {
+    Open,
+    Commit(Commits),
+}
+
+/// The commits of the words after a path.
+fn commit_of(count: Option<&str>, length: Option<&str>, names: Option<&str>) -> Option<Way> {
+    let count = number(count)?;
+    let length = number(length)?;
+    let names = number(names)?;
+    Some(Way::Commit(Commits {
+        count,
+        length,
+        names,
+    }))
+}
+
+fn way_of(
+    name: &str,
+    count: Option<&str>,
+    length: Option<&str>,
+    names: Option<&str>,
+) -> Option<Way> {
     match name {
-        "open" => put_opened(rt.alloc(), disk, out),
-        "commit" => {
-            let ((count, length), names) = count.zip(length).zip(names).ok_or(Fault::Words)?;
-            let commits = Commits {
-                count,
-                length,
-                names,
-            };
-            put_committed(rt.alloc(), disk, commits, out)
-        }
-        _ => Err(Fault::Words),
+        "open" => Some(Way::Open),
+        "commit" => commit_of(count, length, names),
+        _ => None,
+    }
+}
+
+/// The path and what is done there.
+fn command_of(words: &str) -> Option<(&str, Way)> {
+    let mut words = words.split(' ');
+    let name = words.next()?;
+    let path = words.next()?;
+    let count = words.next();
+    let length = words.next();
+    let names = words.next();
+    let way = way_of(name, count, length, names)?;
+    Some((path, way))
+}
+
+pub fn put(rt: &HostRuntime, words: &str, out: &mut Vec<u8>) -> Result<(), Fault> {
+    let (path, way) = command_of(words).ok_or(Fault::Words)?;
+    let disk = FileDisk::open(rt, path);
+    match way {
+        Way::Open => put_opened(rt.alloc(), disk, out),
+        Way::Commit(commits) => put_committed(rt.alloc(), disk, commits, out),
     }
 }
 
@@ -69,14 +99,20 @@ fn opened<D: Disk + Drop>(alloc: Global, disk: D) -> Result<Store<D>, Fault> {
 /// Appends a line with the number of the store's files and that of their octets.
 fn put_opened<D: Disk + Drop>(alloc: Global, disk: D, out: &mut Vec<u8>) -> Result<(), Fault> {
     let store = opened(alloc, disk)?;
-    let files = store.tables().files.as_slice();
+    put_files(alloc, store.tables().files.as_slice(), out)
+}
+
+fn put_files(alloc: Global, files: &[File], out: &mut Vec<u8>) -> Result<(), Fault> {
+    put_number(alloc, "files ", files.len() as u64, " ", out)?;
+    put_number(alloc, "octets ", octets_of(files), "\n", out)
+}
+
+fn octets_of(files: &[File]) -> u64 {
     let mut octets: u64 = 0;
     for file in files {
         octets = octets.saturating_add(file.tree.size());
     }
-    let count = files.len();
-    let line = format!(in alloc; "files {count} octets {octets}\n")?;
-    bench_base::put(out, line.as_str())
+    octets
 }
 
 /// Makes the commits, and appends a line with their number.
@@ -86,16 +122,19 @@ fn put_committed<D: Disk + Drop>(
     commits: Commits,
     out: &mut Vec<u8>,
 ) -> Result<(), Fault> {
-    let tree = tree_of(alloc, commits.length)?;
     let mut store = made(alloc, disk)?;
+    commit_all(alloc, &mut store, commits)?;
+    put_number(alloc, "committed ", u64::from(commits.count), "\n", out)
+}
+
+fn commit_all<D: Disk>(alloc: Global, store: &mut Store<D>, commits: Commits) -> Result<(), Fault> {
+    let tree = tree_of(alloc, commits.length)?;
     for number in 0..commits.count {
         let number = number.checked_rem(commits.names).unwrap_or(0);
         let file = file_of(alloc, number, &tree)?;
-        commit(alloc, &mut store, file)?;
+        commit(alloc, store, file)?;
     }
-    let count = commits.count;
-    let line = format!(in alloc; "committed {count}\n")?;
-    bench_base::put(out, line.as_str())
+    Ok(())
 }
 
 /// Opens the store on a disk, and makes it before where the disk is empty.

@@ -14,8 +14,9 @@
 //! A unit is a letter, its number and, after a colon, its user data, so many `x` where these are `*` and a number. Of
 //! what is taken the units are told, and the fault that ends it. After the steps stands a colon, with the next serial
 //! number of each end that the first word names, and `*` where the end has the token.
-use bench_base::{Fault, put, put_digits, text_of};
+use bench_base::{Fault, put, put_digits, put_number, text_of};
 use std::alloc::Global;
+use vf_base::Octets;
 use vf_session::{
     Session, SessionError, SessionOut, SessionSay, SpduError, TokenSide, read, write,
 };
@@ -49,15 +50,17 @@ impl End {
 }
 
 fn put_fault(alloc: Global, fault: SessionError, out: &mut Vec<u8>) -> Result<(), Fault> {
-    let text = match fault {
-        SessionError::State { spdu } => format!(in alloc; "State {spdu} ")?,
-        SessionError::Serial { expected, found } => {
-            format!(in alloc; "Serial {expected} {found} ")?
-        }
-        SessionError::Token => format!(in alloc; "Token ")?,
-        SessionError::NoMemory => return Err(Fault::NoMemory),
-    };
-    put(out, text.as_str())
+    match fault {
+        SessionError::State { spdu } => put_number(alloc, "State ", u64::from(spdu), " ", out),
+        SessionError::Serial { expected, found } => put_serial(alloc, expected, found, out),
+        SessionError::Token => put(out, "Token "),
+        SessionError::NoMemory => Err(Fault::NoMemory),
+    }
+}
+
+fn put_serial(alloc: Global, expected: u32, found: u32, out: &mut Vec<u8>) -> Result<(), Fault> {
+    put_number(alloc, "Serial ", u64::from(expected), " ", out)?;
+    put_number(alloc, "", u64::from(found), " ", out)
 }
 
 /// The TSDU in which an end sends a unit; none where it may not.
@@ -106,28 +109,35 @@ fn take_all(
     Ok(None)
 }
 
+fn put_units(alloc: Global, told: &[SessionOut], out: &mut Vec<u8>) -> Result<(), Fault> {
+    for unit in told {
+        put_unit(alloc, unit, out)?;
+    }
+    Ok(())
+}
+
 /// An end takes a TSDU, and what that told is appended.
 fn take(alloc: Global, to: &mut Session, tsdu: &[u8], out: &mut Vec<u8>) -> Result<(), Fault> {
     let mut told = Vec::new(alloc);
     let fault = take_all(alloc, to, tsdu, &mut told)?;
-    for unit in &told {
-        put_unit(alloc, unit, out)?;
-    }
+    put_units(alloc, &told, out)?;
     match fault {
         None => Ok(()),
         Some(fault) => put_fault(alloc, fault, out),
     }
 }
 
+/// The word of an end.
+fn side_of(session: &Session) -> &'static str {
+    match session.side() {
+        TokenSide::Initiator => "I ",
+        TokenSide::Responder => "O ",
+    }
+}
+
 /// An end takes the next TSDU.
 fn take_next(alloc: Global, end: &mut End, out: &mut Vec<u8>) -> Result<(), Fault> {
-    put(
-        out,
-        match end.session.side() {
-            TokenSide::Initiator => "I ",
-            TokenSide::Responder => "O ",
-        },
-    )?;
+    put(out, side_of(&end.session))?;
     let tsdu = end.inbox.get(end.taken).ok_or(Fault::Line)?;
     end.taken = end.taken.saturating_add(1);
     take(alloc, &mut end.session, tsdu.as_slice(), out)
@@ -136,14 +146,21 @@ fn take_next(alloc: Global, end: &mut End, out: &mut Vec<u8>) -> Result<(), Faul
 /// An end takes the SPDU of a letter and a number.
 fn take_made(alloc: Global, to: &mut Session, word: &str, out: &mut Vec<u8>) -> Result<(), Fault> {
     let (letter, number) = letter_and_number(word).ok_or(Fault::Line)?;
+    let tsdu = made_of(alloc, letter, number)?;
+    take(alloc, to, tsdu.as_slice(), out)
+}
+
+/// The SPDU of a letter and a number.
+fn made_of(alloc: Global, letter: u8, number: u32) -> Result<Vec<u8>, Fault> {
     let mut tsdu = Vec::from_slice(alloc, prefix(letter))?;
     if letter == b'U' || letter == b'V' {
         let [_, _, high, low] = number.to_be_bytes();
         tsdu.extend_from_slice(&[high, low])?;
-    } else {
-        tsdu.extend_from_slice(format!(in alloc; "{number:06}")?.as_bytes())?;
+        return Ok(tsdu);
     }
-    take(alloc, to, tsdu.as_slice(), out)
+    let digits = format!(in alloc; "{number:06}")?;
+    tsdu.extend_from_slice(digits.as_bytes())?;
+    Ok(tsdu)
 }
 
 /// An end sends a unit, which the other one is to take.
@@ -169,8 +186,7 @@ fn put_tsdu(alloc: Global, tsdu: &[u8], out: &mut Vec<u8>) -> Result<(), Fault> 
         return put(out, " ");
     }
     put_digits(alloc, tsdu.get(..12).unwrap_or(&[]), out)?;
-    let text = format!(in alloc; "..{} ", tsdu.len())?;
-    put(out, text.as_str())
+    put_number(alloc, "..", tsdu.len() as u64, " ", out)
 }
 
 /// An end sends a unit, and the other one takes it at once.
@@ -183,11 +199,19 @@ fn pass(
 ) -> Result<(), Fault> {
     match tsdu_of(alloc, from, word)? {
         None => put(out, "no "),
-        Some(tsdu) => {
-            take(alloc, to, tsdu.as_slice(), out)?;
-            put_tsdu(alloc, tsdu.as_slice(), out)
-        }
+        Some(tsdu) => take_shown(alloc, to, tsdu.as_slice(), out),
     }
+}
+
+/// An end takes a TSDU, which is shown after what it told.
+fn take_shown(
+    alloc: Global,
+    to: &mut Session,
+    tsdu: &[u8],
+    out: &mut Vec<u8>,
+) -> Result<(), Fault> {
+    take(alloc, to, tsdu, out)?;
+    put_tsdu(alloc, tsdu, out)
 }
 
 /// A step of one end.
@@ -211,31 +235,38 @@ fn step(
     }
 }
 
+/// An end takes the SPDU of a letter and a number, whatever that tells.
+fn take_numbered(alloc: Global, to: &mut Session, letter: u8, number: u32) -> Result<(), Fault> {
+    let tsdu = made_of(alloc, letter, number)?;
+    let mut out = Vec::new(alloc);
+    take(alloc, to, tsdu.as_slice(), &mut out)
+}
+
 /// A calling end at which a connection with sync stands, from this number on.
 fn open_calling(alloc: Global, number: u32) -> Result<Session, Fault> {
     let mut session = Session::calling(true);
-    let mut out = Vec::new(alloc);
     tsdu_of(alloc, &mut session, "C1")?;
-    let answer = format!(in alloc; "A{number}")?;
-    take_made(alloc, &mut session, answer.as_str(), &mut out)?;
+    take_numbered(alloc, &mut session, b'A', number)?;
     Ok(session)
 }
 
 /// A called end at which a connection with sync stands, from this number on.
 fn open_called(alloc: Global, number: u32) -> Result<Session, Fault> {
     let mut session = Session::called();
-    let mut out = Vec::new(alloc);
-    let request = format!(in alloc; "C{number}")?;
-    take_made(alloc, &mut session, request.as_str(), &mut out)?;
-    let answer = format!(in alloc; "A{number}")?;
-    tsdu_of(alloc, &mut session, answer.as_str())?;
+    take_numbered(alloc, &mut session, b'C', number)?;
+    let data = Octets::of(alloc, &[])?;
+    let unit = SessionSay::Accept {
+        sync: true,
+        serial: number,
+        data,
+    };
+    sent(alloc, &mut session, &unit)?;
     Ok(session)
 }
 
 fn put_left(alloc: Global, session: &Session, out: &mut Vec<u8>) -> Result<(), Fault> {
     let token = if session.has_token() { "*" } else { "" };
-    let text = format!(in alloc; " {}{token}", session.next_serial())?;
-    put(out, text.as_str())
+    put_number(alloc, " ", u64::from(session.next_serial()), token, out)
 }
 
 /// The ends that the first word of a row names.
@@ -273,16 +304,27 @@ impl Ends {
     /// Those with which a row begins.
     fn begin(&mut self, alloc: Global, word: &str) -> Result<(), Fault> {
         match word {
-            "on" => return Ok(()),
-            "sync" | "calling" | "called" => *self = Ends::new(alloc, true),
-            "plain" => *self = Ends::new(alloc, false),
-            _ => {
-                let number = word.trim_start_matches(['I', 'O']).parse::<u32>();
-                let number = number.ok().ok_or(Fault::Line)?;
-                self.calling = End::new(alloc, open_calling(alloc, number)?);
-                self.called = End::new(alloc, open_called(alloc, number)?);
-            }
+            "on" => Ok(()),
+            "sync" | "calling" | "called" => self.restart(alloc, true),
+            "plain" => self.restart(alloc, false),
+            _ => self.open(alloc, word),
         }
+    }
+
+    /// Those at which nothing came yet.
+    fn restart(&mut self, alloc: Global, sync: bool) -> Result<(), Fault> {
+        *self = Ends::new(alloc, sync);
+        Ok(())
+    }
+
+    /// Those at which a connection with sync stands, from the number of a word on.
+    fn open(&mut self, alloc: Global, word: &str) -> Result<(), Fault> {
+        let number = word.trim_start_matches(['I', 'O']).parse::<u32>();
+        let number = number.ok().ok_or(Fault::Line)?;
+        let calling = open_calling(alloc, number)?;
+        self.calling = End::new(alloc, calling);
+        let called = open_called(alloc, number)?;
+        self.called = End::new(alloc, called);
         Ok(())
     }
 

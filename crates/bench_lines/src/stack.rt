@@ -11,12 +11,12 @@
 //!
 //! `cut` before a line asks for the same with each piece fed octet by octet and at seven other cuts, which must tell the
 //! same; the first that doesn't stands before what it tells.
-use crate::spelling::put_spelling;
+use crate::pdu::put_pdu;
 use crate::transport::{next, show};
-use bench_base::{Fault, octets_in, put, put_digits, text_of};
+use bench_base::{Fault, octets_in, put, put_digits, put_number, text_of};
 use std::alloc::Global;
 use vf_base::{Element, Name};
-use vf_pdu::{Boxed, Pdu, is_in_range, to_value};
+use vf_pdu::{Boxed, Pdu};
 use vf_stack::{FaultName, Indication, Item, Layer, Request, Stack};
 
 mod request;
@@ -32,14 +32,22 @@ struct End {
 }
 
 /// Appends a name, and the PDU after it.
-fn put_pdu(alloc: Global, name: &str, pdu: &Boxed<Pdu>, out: &mut Vec<u8>) -> Result<(), Fault> {
+fn put_named(alloc: Global, name: &str, pdu: &Boxed<Pdu>, out: &mut Vec<u8>) -> Result<(), Fault> {
     put(out, name)?;
-    if !is_in_range(pdu.value()) {
-        return Err(Fault::Received);
-    }
-    let value = to_value(alloc, pdu.value())?;
     put(out, ":")?;
-    put_spelling(alloc, &value, out)
+    put_pdu(alloc, pdu.value(), out)
+}
+
+/// The same with a mark of sync.
+fn put_synced(
+    alloc: Global,
+    name: &str,
+    sync: bool,
+    pdu: &Boxed<Pdu>,
+    out: &mut Vec<u8>,
+) -> Result<(), Fault> {
+    put(out, name)?;
+    put_named(alloc, if sync { "+" } else { "-" }, pdu, out)
 }
 
 fn put_maybe(
@@ -49,14 +57,13 @@ fn put_maybe(
     out: &mut Vec<u8>,
 ) -> Result<(), Fault> {
     match pdu {
-        Some(pdu) => put_pdu(alloc, name, pdu, out),
+        Some(pdu) => put_named(alloc, name, pdu, out),
         None => put(out, name),
     }
 }
 
 fn put_string(alloc: Global, class: u8, octets: &[u8], out: &mut Vec<u8>) -> Result<(), Fault> {
-    let text = format!(in alloc; "String{class}:")?;
-    put(out, text.as_str())?;
+    put_number(alloc, "String", u64::from(class), ":", out)?;
     show(alloc, octets, out)
 }
 
@@ -91,48 +98,87 @@ fn put_fault(
     at: u64,
     out: &mut Vec<u8>,
 ) -> Result<(), Fault> {
-    let text = format!(in alloc; "Fault:{layer:?}:{name:?}:{at}")?;
-    put(out, text.as_str())
+    put(out, "Fault:")?;
+    put(out, layer_word(layer))?;
+    put(out, ":")?;
+    put(out, fault_word(name))?;
+    put_number(alloc, ":", at, "", out)
 }
 
-/// Appends a name and a number.
-fn put_number(alloc: Global, name: &str, number: u32, out: &mut Vec<u8>) -> Result<(), Fault> {
-    let text = format!(in alloc; "{name}{number}")?;
-    put(out, text.as_str())
+fn layer_word(layer: Layer) -> &'static str {
+    match layer {
+        Layer::Transport => "Transport",
+        Layer::Session => "Session",
+        Layer::Upper => "Upper",
+        Layer::Ftam => "Ftam",
+    }
 }
 
-/// Appends a name, a number and a PDU.
+fn fault_word(name: FaultName) -> &'static str {
+    match name {
+        FaultName::Version => "Version",
+        FaultName::Length => "Length",
+        FaultName::Code => "Code",
+        FaultName::State => "State",
+        FaultName::Size => "Size",
+        FaultName::Missing => "Missing",
+        FaultName::Value => "Value",
+        FaultName::Serial => "Serial",
+        FaultName::Token => "Token",
+        FaultName::Context => "Context",
+        FaultName::Grammar => "Grammar",
+        FaultName::Application => "Application",
+        FaultName::Short => "Short",
+        FaultName::Bad => "Bad",
+        FaultName::Deep => "Deep",
+        FaultName::Long => "Long",
+        FaultName::Unknown => "Unknown",
+        FaultName::Field => "Field",
+        FaultName::Range => "Range",
+    }
+}
+
+fn put_item(alloc: Global, item: &Item, out: &mut Vec<u8>) -> Result<(), Fault> {
+    match item {
+        Item::Pdu(pdu) => put_named(alloc, "Item", pdu, out),
+        Item::Element(element) => put_element(alloc, element, out),
+    }
+}
+
+/// Appends a name and a serial number.
+fn put_serial(alloc: Global, name: &str, serial: u32, out: &mut Vec<u8>) -> Result<(), Fault> {
+    put_number(alloc, name, u64::from(serial), "", out)
+}
+
+/// Appends a name, a serial number and a PDU.
 fn put_numbered(
     alloc: Global,
     name: &str,
-    number: u32,
+    serial: u32,
     pdu: &Boxed<Pdu>,
     out: &mut Vec<u8>,
 ) -> Result<(), Fault> {
-    let text = format!(in alloc; "{name}{number}")?;
-    put_pdu(alloc, text.as_str(), pdu, out)
+    put_serial(alloc, name, serial, out)?;
+    put_named(alloc, "", pdu, out)
 }
 
 /// Appends the word of an indication.
 fn put_indication(alloc: Global, told: &Indication, out: &mut Vec<u8>) -> Result<(), Fault> {
     match told {
-        Indication::Associate { sync: true, pdu } => put_pdu(alloc, "Associate+", pdu, out),
-        Indication::Associate { pdu, .. } => put_pdu(alloc, "Associate-", pdu, out),
-        Indication::Accepted { sync: true, pdu } => put_pdu(alloc, "Accepted+", pdu, out),
-        Indication::Accepted { pdu, .. } => put_pdu(alloc, "Accepted-", pdu, out),
+        Indication::Associate { sync, pdu } => put_synced(alloc, "Associate", *sync, pdu, out),
+        Indication::Accepted { sync, pdu } => put_synced(alloc, "Accepted", *sync, pdu, out),
         Indication::Refused { pdu } => put_maybe(alloc, "Refused", pdu, out),
-        Indication::Release { pdu } => put_pdu(alloc, "Release", pdu, out),
-        Indication::Released { pdu } => put_pdu(alloc, "Released", pdu, out),
-        Indication::Item(Item::Pdu(pdu)) => put_pdu(alloc, "Item", pdu, out),
-        Indication::Item(Item::Element(element)) => put_element(alloc, element, out),
-        Indication::Check { serial } => put_number(alloc, "Check", *serial, out),
-        Indication::Acknowledged { serial } => put_number(alloc, "Acknowledged", *serial, out),
+        Indication::Release { pdu } => put_named(alloc, "Release", pdu, out),
+        Indication::Released { pdu } => put_named(alloc, "Released", pdu, out),
+        Indication::Item(item) => put_item(alloc, item, out),
+        Indication::Check { serial } => put_serial(alloc, "Check", *serial, out),
+        Indication::Acknowledged { serial } => put_serial(alloc, "Acknowledged", *serial, out),
         Indication::Restart { serial, pdu } => put_numbered(alloc, "Restart", *serial, pdu, out),
         Indication::Restarted { serial, pdu } => {
             put_numbered(alloc, "Restarted", *serial, pdu, out)
         }
-        Indication::Cancel { pdu } => put_pdu(alloc, "Cancel", pdu, out),
-        Indication::Cancelled { pdu } => put_pdu(alloc, "Cancelled", pdu, out),
+        Indication::Cancel { pdu } => put_named(alloc, "Cancel", pdu, out),
+        Indication::Cancelled { pdu } => put_named(alloc, "Cancelled", pdu, out),
         Indication::Abort { pdu } => put_maybe(alloc, "Abort", pdu, out),
         Indication::Fault { layer, name, at } => put_fault(alloc, *layer, *name, *at, out),
     }
@@ -152,15 +198,30 @@ fn count_of(seed: &mut u64, len: usize, wanted: usize) -> usize {
     }
 }
 
+/// The stack of the end of a name, which sends what it begins with.
+fn stack_of(alloc: Global, name: &str, sent: &mut Vec<u8>) -> Result<Stack, Fault> {
+    match name {
+        "called" => called(alloc),
+        "plain" => calling(alloc, false, sent),
+        "sync" => calling(alloc, true, sent),
+        _ => Err(Fault::Line),
+    }
+}
+
+fn called(alloc: Global) -> Result<Stack, Fault> {
+    let stack = Stack::called(alloc)?;
+    Ok(stack)
+}
+
+fn calling(alloc: Global, sync: bool, sent: &mut Vec<u8>) -> Result<Stack, Fault> {
+    let stack = Stack::calling(alloc, sync, sent)?;
+    Ok(stack)
+}
+
 impl End {
     fn new(alloc: Global, name: &str) -> Result<End, Fault> {
         let mut sent = Vec::new(alloc);
-        let stack = match name {
-            "called" => Stack::called(alloc)?,
-            "plain" => Stack::calling(alloc, false, &mut sent)?,
-            "sync" => Stack::calling(alloc, true, &mut sent)?,
-            _ => return Err(Fault::Line),
-        };
+        let stack = stack_of(alloc, name, &mut sent)?;
         Ok(End {
             stack,
             told: Vec::new(alloc),
@@ -178,7 +239,11 @@ impl End {
             self.stack.feed(piece, &mut told, &mut self.sent)?;
             rest = after;
         }
-        for indication in &told {
+        self.tell(alloc, &told)
+    }
+
+    fn tell(&mut self, alloc: Global, told: &[Indication]) -> Result<(), Fault> {
+        for indication in told {
             put_indication(alloc, indication, &mut self.told)?;
             put(&mut self.told, " ")?;
         }
@@ -200,22 +265,32 @@ impl End {
             let request = request_of(alloc, word)?;
             return self.send(alloc, &request);
         }
-        let digits = step.strip_prefix('<').ok_or(Fault::Line)?;
-        let octets = octets_in(alloc, digits.as_bytes())?;
-        self.feed(alloc, octets.as_slice(), seed)
+        if let Some(digits) = step.strip_prefix('<') {
+            let octets = octets_in(alloc, digits.as_bytes())?;
+            return self.feed(alloc, octets.as_slice(), seed);
+        }
+        Err(Fault::Line)
     }
 
     fn put(&self, alloc: Global, out: &mut Vec<u8>) -> Result<(), Fault> {
         out.extend_from_slice(self.told.as_slice())?;
         put(out, ": ")?;
         put_digits(alloc, self.sent.as_slice(), out)?;
-        let ended = if self.stack.ended() { "ended" } else { "open" };
-        let token = if self.stack.token() { "*" } else { "" };
-        let (held, wanted) = (self.stack.held(), self.stack.wanted());
-        let serial = self.stack.next_serial();
-        let text = format!(in alloc; " : {ended} {held} {wanted} {serial}{token}\n")?;
-        put(out, text.as_str())
+        put_state(alloc, &self.stack, out)
     }
+}
+
+/// Appends whether a stack is ended, what it holds and wants, its next serial number, and the token.
+fn put_state(alloc: Global, stack: &Stack, out: &mut Vec<u8>) -> Result<(), Fault> {
+    let ended = if stack.ended() {
+        " : ended "
+    } else {
+        " : open "
+    };
+    let token = if stack.token() { "*\n" } else { "\n" };
+    put_number(alloc, ended, stack.held(), " ", out)?;
+    put_number(alloc, "", stack.wanted() as u64, " ", out)?;
+    put_number(alloc, "", u64::from(stack.next_serial()), token, out)
 }
 
 /// Does the steps of a line, whose pieces are cut by a seed, and appends what they tell.
@@ -236,8 +311,7 @@ fn put_cuts(alloc: Global, line: &str, out: &mut Vec<u8>) -> Result<(), Fault> {
         let mut again = Vec::new(alloc);
         put_steps(alloc, line, seed, &mut again)?;
         if again.as_slice() != first.as_slice() {
-            put_number(alloc, "seed ", seed as u32, out)?;
-            put(out, ": ")?;
+            put_number(alloc, "seed ", seed, ": ", out)?;
             out.extend_from_slice(again.as_slice())?;
             return Ok(());
         }

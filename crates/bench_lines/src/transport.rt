@@ -8,7 +8,7 @@
 //!
 //! `pieces OCTETS` answers what the stream tells the called end, which must be the same in pieces of 200 cuts. `changes
 //! PLACE OCTETS` answers a digest (FNV-1a of 32 bits) of what it tells with each octet at this place.
-use bench_base::{Fault, octets_in, put, text_of};
+use bench_base::{Fault, octets_in, put, put_number, text_of};
 use std::alloc::Global;
 use vf_tpkt::{Side, Tpkt, TpktError, Unit};
 
@@ -31,33 +31,38 @@ pub fn show(alloc: Global, octets: &[u8], out: &mut Vec<u8>) -> Result<(), Fault
         return put(out, digits.as_str());
     }
     let digits = hex::encode_upper(alloc, octets.get(..12).unwrap_or(&[]))?;
-    let text = format!(in alloc; "{}..{}", digits.as_str(), octets.len())?;
-    put(out, text.as_str())
+    put(out, digits.as_str())?;
+    put_number(alloc, "..", octets.len() as u64, "", out)
 }
 
 fn put_unit(alloc: Global, unit: &Unit, out: &mut Vec<u8>) -> Result<(), Fault> {
     match unit {
-        Unit::Connected => put(out, "C ")?,
-        Unit::Ended => put(out, "E ")?,
-        Unit::Data(octets) => {
-            put(out, "D")?;
-            show(alloc, octets.as_slice(), out)?;
-            put(out, " ")?;
-        }
+        Unit::Connected => put(out, "C "),
+        Unit::Ended => put(out, "E "),
+        Unit::Data(octets) => put_data(alloc, octets.as_slice(), out),
     }
-    Ok(())
+}
+
+fn put_data(alloc: Global, octets: &[u8], out: &mut Vec<u8>) -> Result<(), Fault> {
+    put(out, "D")?;
+    show(alloc, octets, out)?;
+    put(out, " ")
 }
 
 fn put_fault(alloc: Global, fault: TpktError, out: &mut Vec<u8>) -> Result<(), Fault> {
-    let text = match fault {
-        TpktError::Version { at } => format!(in alloc; "Version {at}")?,
-        TpktError::Length { at } => format!(in alloc; "Length {at}")?,
-        TpktError::Code { at, code } => format!(in alloc; "Code {at} {code:02X}")?,
-        TpktError::State { at, code } => format!(in alloc; "State {at} {code:02X}")?,
-        TpktError::Size { at } => format!(in alloc; "Size {at}")?,
-        TpktError::NoMemory => return Err(Fault::NoMemory),
-    };
-    put(out, text.as_str())
+    match fault {
+        TpktError::Version { at } => put_number(alloc, "Version ", at, "", out),
+        TpktError::Length { at } => put_number(alloc, "Length ", at, "", out),
+        TpktError::Code { at, code } => put_code(alloc, "Code ", at, code, out),
+        TpktError::State { at, code } => put_code(alloc, "State ", at, code, out),
+        TpktError::Size { at } => put_number(alloc, "Size ", at, "", out),
+        TpktError::NoMemory => Err(Fault::NoMemory),
+    }
+}
+
+fn put_code(alloc: Global, name: &str, at: u64, code: u8, out: &mut Vec<u8>) -> Result<(), Fault> {
+    put_number(alloc, name, at, " ", out)?;
+    show(alloc, &[code], out)
 }
 
 impl Told {
@@ -93,24 +98,40 @@ impl Told {
             let octets = octets_of(alloc, word)?;
             return self.send(alloc, octets.as_slice());
         }
-        let word = step.strip_prefix('<').ok_or(Fault::Line)?;
-        let octets = octets_of(alloc, word)?;
-        self.feed(octets.as_slice());
+        if let Some(word) = step.strip_prefix('<') {
+            let octets = octets_of(alloc, word)?;
+            self.feed(octets.as_slice());
+            return Ok(());
+        }
+        Err(Fault::Line)
+    }
+
+    fn put_units(&self, alloc: Global, out: &mut Vec<u8>) -> Result<(), Fault> {
+        for unit in &self.units {
+            let copied = unit.copy(alloc)?;
+            put_unit(alloc, &copied, out)?;
+        }
         Ok(())
     }
 
-    fn put(&self, alloc: Global, out: &mut Vec<u8>) -> Result<(), Fault> {
-        for unit in &self.units {
-            put_unit(alloc, &unit.copy(alloc)?, out)?;
-        }
+    fn put_answers(&self, alloc: Global, out: &mut Vec<u8>) -> Result<(), Fault> {
         put(out, ": ")?;
         show(alloc, self.answers.as_slice(), out)?;
-        put(out, " : ")?;
+        put(out, " : ")
+    }
+
+    fn put_rest(&self, alloc: Global, out: &mut Vec<u8>) -> Result<(), Fault> {
+        put_number(alloc, " : ", self.tpkt.held(), " ", out)?;
+        put_number(alloc, "", self.tpkt.wanted() as u64, "\n", out)
+    }
+
+    fn put(&self, alloc: Global, out: &mut Vec<u8>) -> Result<(), Fault> {
+        self.put_units(alloc, out)?;
+        self.put_answers(alloc, out)?;
         if let Some(fault) = self.fault {
             put_fault(alloc, fault, out)?;
         }
-        let left = format!(in alloc; " : {} {}\n", self.tpkt.held(), self.tpkt.wanted())?;
-        put(out, left.as_str())
+        self.put_rest(alloc, out)
     }
 }
 
@@ -161,8 +182,7 @@ fn put_pieces(alloc: Global, stream: &[u8], out: &mut Vec<u8>) -> Result<(), Fau
         let mut next = Vec::new(alloc);
         fed(alloc, stream, seed)?.put(alloc, &mut next)?;
         if next.as_slice() != first.as_slice() {
-            let text = format!(in alloc; "seed {seed}: ")?;
-            put(out, text.as_str())?;
+            put_number(alloc, "seed ", seed, ": ", out)?;
             out.extend_from_slice(next.as_slice())?;
             return Ok(());
         }
@@ -179,6 +199,14 @@ fn digest(start: u32, octets: &[u8]) -> u32 {
     found
 }
 
+/// The digest that goes on with what a stream tells.
+fn digest_of(alloc: Global, start: u32, stream: &[u8]) -> Result<u32, Fault> {
+    let mut told = Vec::new(alloc);
+    fed(alloc, stream, 1)?.put(alloc, &mut told)?;
+    let text = told.as_slice().strip_suffix(b"\n").unwrap_or(&[]);
+    Ok(digest(start, text))
+}
+
 /// Appends the digest of what a stream tells with each octet at a place.
 fn put_changes(
     alloc: Global,
@@ -192,13 +220,22 @@ fn put_changes(
             return Err(Fault::Line);
         };
         *changed = octet;
-        let mut told = Vec::new(alloc);
-        fed(alloc, stream.as_slice(), 1)?.put(alloc, &mut told)?;
-        let text = told.as_slice().strip_suffix(b"\n").unwrap_or(&[]);
-        found = digest(found, text);
+        found = digest_of(alloc, found, stream.as_slice())?;
     }
     let text = format!(in alloc; "{found:08x}\n")?;
     put(out, text.as_str())
+}
+
+fn put_all_pieces(alloc: Global, digits: &str, out: &mut Vec<u8>) -> Result<(), Fault> {
+    let stream = octets_in(alloc, digits.as_bytes())?;
+    put_pieces(alloc, stream.as_slice(), out)
+}
+
+fn put_all_changes(alloc: Global, words: &str, out: &mut Vec<u8>) -> Result<(), Fault> {
+    let (place, digits) = words.split_once(' ').ok_or(Fault::Line)?;
+    let place = place.parse::<u16>().ok().ok_or(Fault::Line)?;
+    let stream = octets_in(alloc, digits.as_bytes())?;
+    put_changes(alloc, usize::from(place), stream, out)
 }
 
 /// Does the steps of a line, and appends what they tell.
@@ -219,16 +256,8 @@ pub fn put_line(alloc: Global, line: &[u8], out: &mut Vec<u8>) -> Result<(), Fau
     match first {
         "calling" => put_steps(alloc, Side::Calling, rest, out),
         "called" => put_steps(alloc, Side::Called, rest, out),
-        "pieces" => {
-            let stream = octets_in(alloc, rest.as_bytes())?;
-            put_pieces(alloc, stream.as_slice(), out)
-        }
-        "changes" => {
-            let (place, digits) = rest.split_once(' ').ok_or(Fault::Line)?;
-            let place = place.parse::<u16>().ok().ok_or(Fault::Line)?;
-            let stream = octets_in(alloc, digits.as_bytes())?;
-            put_changes(alloc, usize::from(place), stream, out)
-        }
+        "pieces" => put_all_pieces(alloc, rest, out),
+        "changes" => put_all_changes(alloc, rest, out),
         _ => Err(Fault::Line),
     }
 }

@@ -5,7 +5,7 @@
 //! The answer is `grammar AT`, `context ID`, `application`, or `ok` with the offers or the results, the values, each with
 //! its context before it, and the user data that are written for what was read, `-` where none can be.
 use crate::spelling::put_spelling;
-use bench_base::{Fault, octets_in, put, put_count, put_digits, text_of};
+use bench_base::{Fault, octets_in, put, put_count, put_digits, put_number, text_of};
 use std::alloc::Global;
 use vf_base::{NoMemory, Oid, SpduKind};
 use vf_upper::{
@@ -40,28 +40,30 @@ fn arcs_of(letter: char) -> [u32; 5] {
     }
 }
 
-fn letter_of(oid: &Oid) -> char {
+fn letter_of(oid: &Oid) -> &'static str {
     let arcs = oid.arcs();
-    for letter in ['a', 'p', 'f', 't', 'b'] {
+    for (letter, word) in [('a', "a"), ('p', "p"), ('f', "f"), ('t', "t"), ('b', "b")] {
         if arcs == arcs_of(letter).as_slice() {
-            return letter;
+            return word;
         }
     }
-    'u'
+    "u"
 }
 
 fn context_of(alloc: Global, word: &str) -> Result<ContextEntry, Fault> {
-    let Some(letter) = word.chars().next_back() else {
-        return Err(Fault::Line);
-    };
-    let digits = word.trim_end_matches(letter);
-    let Ok(id) = digits.parse::<i64>() else {
-        return Err(Fault::Line);
-    };
+    let (id, letter) = id_and_letter(word).ok_or(Fault::Line)?;
     match Oid::of(alloc, arcs_of(letter).as_slice()) {
         Ok(syntax) => Ok(ContextEntry { id, syntax }),
         Err(_) => Err(Fault::NoMemory),
     }
+}
+
+/// The number of a word, and the letter after it.
+fn id_and_letter(word: &str) -> Option<(i64, char)> {
+    let letter = word.chars().next_back()?;
+    let digits = word.trim_end_matches(letter);
+    let id = digits.parse::<i64>().ok()?;
+    Some((id, letter))
 }
 
 fn contexts_of(alloc: Global, words: &str) -> Result<Contexts, Fault> {
@@ -76,13 +78,22 @@ fn contexts_of(alloc: Global, words: &str) -> Result<Contexts, Fault> {
     Ok(made)
 }
 
+/// Appends the identifier of a context between two texts.
+fn put_id(
+    alloc: Global,
+    before: &str,
+    id: i64,
+    after: &str,
+    out: &mut Vec<u8>,
+) -> Result<(), Fault> {
+    let text = format!(in alloc; "{before}{id}{after}")?;
+    put(out, text.as_str())
+}
+
 fn put_offers(alloc: Global, offers: &Offers, out: &mut Vec<u8>) -> Result<(), Fault> {
     for offer in offers.as_slice() {
-        let id = offer.id;
-        let letter = letter_of(&offer.syntax);
-        let mark = if offer.ber { '+' } else { '-' };
-        let text = format!(in alloc; " {id}{letter}{mark}")?;
-        put(out, text.as_str())?;
+        put_id(alloc, " ", offer.id, letter_of(&offer.syntax), out)?;
+        put(out, if offer.ber { "+" } else { "-" })?;
     }
     Ok(())
 }
@@ -96,28 +107,37 @@ fn put_results(results: &Results, out: &mut Vec<u8>) -> Result<(), Fault> {
 
 fn put_values(alloc: Global, values: &CarriedValues, out: &mut Vec<u8>) -> Result<(), Fault> {
     for value in values.as_slice() {
-        let context = value.context;
-        let text = format!(in alloc; " {context}:")?;
-        put(out, text.as_str())?;
+        put_id(alloc, " ", value.context, ":", out)?;
         put_spelling(alloc, &value.value, out)?;
     }
     Ok(())
 }
 
+fn put_offered(
+    alloc: Global,
+    offers: &Offers,
+    values: &CarriedValues,
+    out: &mut Vec<u8>,
+) -> Result<(), Fault> {
+    put_offers(alloc, offers, out)?;
+    put_values(alloc, values, out)
+}
+
+fn put_answered(
+    alloc: Global,
+    results: &Results,
+    values: &CarriedValues,
+    out: &mut Vec<u8>,
+) -> Result<(), Fault> {
+    put_results(results, out)?;
+    put_values(alloc, values, out)
+}
+
 fn put_primitive(alloc: Global, primitive: &Primitive, out: &mut Vec<u8>) -> Result<(), Fault> {
     match primitive {
-        Primitive::Associate { offers, values } => {
-            put_offers(alloc, offers, out)?;
-            put_values(alloc, values, out)
-        }
-        Primitive::Accepted { results, values } => {
-            put_results(results, out)?;
-            put_values(alloc, values, out)
-        }
-        Primitive::Refused { results, values } => {
-            put_results(results, out)?;
-            put_values(alloc, values, out)
-        }
+        Primitive::Associate { offers, values } => put_offered(alloc, offers, values, out),
+        Primitive::Accepted { results, values } => put_answered(alloc, results, values, out),
+        Primitive::Refused { results, values } => put_answered(alloc, results, values, out),
         Primitive::Release { values } => put_values(alloc, values, out),
         Primitive::Released { values } => put_values(alloc, values, out),
         Primitive::Data { values } => put_values(alloc, values, out),
@@ -146,29 +166,43 @@ fn put_answer(
     octets: &[u8],
     out: &mut Vec<u8>,
 ) -> Result<(), Fault> {
-    let primitive = match read(alloc, carrier, contexts, octets) {
-        Ok(primitive) => primitive,
-        Err(UpperError::Grammar { at }) => {
-            let text = format!(in alloc; "grammar {at}\n")?;
-            return put(out, text.as_str());
-        }
-        Err(UpperError::Context { id }) => {
-            let text = format!(in alloc; "context {id}\n")?;
-            return put(out, text.as_str());
-        }
-        Err(UpperError::Application) => return put(out, "application\n"),
-        Err(UpperError::NoMemory) => return Err(Fault::NoMemory),
-    };
+    match read(alloc, carrier, contexts, octets) {
+        Ok(primitive) => put_read(alloc, &primitive, contexts, out),
+        Err(error) => put_error(alloc, error, out),
+    }
+}
+
+fn put_error(alloc: Global, error: UpperError, out: &mut Vec<u8>) -> Result<(), Fault> {
+    match error {
+        UpperError::Grammar { at } => put_number(alloc, "grammar ", u64::from(at), "\n", out),
+        UpperError::Context { id } => put_context(alloc, id, out),
+        UpperError::Application => put(out, "application\n"),
+        UpperError::NoMemory => Err(Fault::NoMemory),
+    }
+}
+
+fn put_context(alloc: Global, id: i64, out: &mut Vec<u8>) -> Result<(), Fault> {
+    put_id(alloc, "context ", id, "\n", out)
+}
+
+fn put_read(
+    alloc: Global,
+    primitive: &Primitive,
+    contexts: &Contexts,
+    out: &mut Vec<u8>,
+) -> Result<(), Fault> {
     put(out, "ok")?;
-    put_primitive(alloc, &primitive, out)?;
-    match written(alloc, &primitive, contexts)? {
-        Some(octets) => {
-            put(out, " ")?;
-            put_digits(alloc, octets.as_slice(), out)?;
-            put(out, "\n")
-        }
+    put_primitive(alloc, primitive, out)?;
+    match written(alloc, primitive, contexts)? {
+        Some(octets) => put_written(alloc, octets.as_slice(), out),
         None => put(out, " -\n"),
     }
+}
+
+fn put_written(alloc: Global, octets: &[u8], out: &mut Vec<u8>) -> Result<(), Fault> {
+    put(out, " ")?;
+    put_digits(alloc, octets, out)?;
+    put(out, "\n")
 }
 
 /// Appends what is read of a line.
@@ -190,7 +224,12 @@ pub fn whole(alloc: Global, octets: &[u8], again: bool) -> Result<Vec<u8>, Fault
     if again {
         return written(alloc, &primitive, &contexts)?.ok_or(Fault::Line);
     }
-    let Primitive::Data { values } = &primitive else {
+    counted(alloc, &primitive)
+}
+
+/// How many values a P-DATA has.
+fn counted(alloc: Global, primitive: &Primitive) -> Result<Vec<u8>, Fault> {
+    let Primitive::Data { values } = primitive else {
         return Err(Fault::Line);
     };
     let mut out = Vec::new(alloc);

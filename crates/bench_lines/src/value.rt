@@ -1,29 +1,41 @@
 //! Values of the basic encoding rules: a line has octets in hexadecimal digits.
 //!
-//! Where they begin with a value the answer is `value`, its canonical spelling, and the number of octets that it took;
-//! else `short`, `bad AT`, `deep AT` or `long AT`.
+//! Where they begin with a value the answer is `value`, the canonical spelling of its copy, and the number of octets that
+//! it took; else `short`, `bad AT`, `deep AT` or `long AT`.
 use crate::spelling::put_spelling;
-use bench_base::{Fault, octets_in, put, put_count};
+use bench_base::{Fault, octets_in, put, put_count, put_number};
 use std::alloc::Global;
 use vf_base::Octets;
-use vf_ber::{BerError, read, read_shared, write};
+use vf_ber::{BerError, Value, read, read_shared, write};
 
 /// Appends what the octets of a line are.
 pub fn put_line(alloc: Global, line: &[u8], out: &mut Vec<u8>) -> Result<(), Fault> {
     let octets = octets_in(alloc, line)?;
-    let told = match read(alloc, octets.as_slice()) {
-        Ok((value, taken)) => {
-            put(out, "value ")?;
-            put_spelling(alloc, &value, out)?;
-            format!(in alloc; " {taken}\n")?
-        }
-        Err(BerError::Short) => format!(in alloc; "short\n")?,
-        Err(BerError::Bad { at }) => format!(in alloc; "bad {at}\n")?,
-        Err(BerError::Deep { at }) => format!(in alloc; "deep {at}\n")?,
-        Err(BerError::Long { at }) => format!(in alloc; "long {at}\n")?,
-        Err(BerError::NoMemory) => return Err(Fault::NoMemory),
-    };
-    put(out, told.as_str())
+    match read(alloc, octets.as_slice()) {
+        Ok((value, taken)) => put_value(alloc, &value, taken, out),
+        Err(error) => put_error(alloc, error, out),
+    }
+}
+
+fn put_value(alloc: Global, value: &Value, taken: usize, out: &mut Vec<u8>) -> Result<(), Fault> {
+    let copied = value.copy(alloc)?;
+    put(out, "value ")?;
+    put_spelling(alloc, &copied, out)?;
+    put_number(alloc, " ", taken as u64, "\n", out)
+}
+
+fn put_error(alloc: Global, error: BerError, out: &mut Vec<u8>) -> Result<(), Fault> {
+    match error {
+        BerError::Short => put(out, "short\n"),
+        BerError::Bad { at } => put_at(alloc, "bad ", at, out),
+        BerError::Deep { at } => put_at(alloc, "deep ", at, out),
+        BerError::Long { at } => put_at(alloc, "long ", at, out),
+        BerError::NoMemory => Err(Fault::NoMemory),
+    }
+}
+
+fn put_at(alloc: Global, name: &str, at: u32, out: &mut Vec<u8>) -> Result<(), Fault> {
+    put_number(alloc, name, u64::from(at), "\n", out)
 }
 
 /// The value that the octets begin with, which shares them: written again where that is asked for, else how many octets it

@@ -1,6 +1,8 @@
 //! What the contents of values mean, which follows from ISO 8825 by hand.
 
+use crate::octets::octets_of;
 use std::alloc::Global;
+use std::process::Abort;
 use std::test::*;
 use vf_base::{NoMemory, Octets, Oid};
 use vf_ber::{Tag, Value, Values, boolean, integer, integer_from, octets, oid, oid_from, read};
@@ -30,33 +32,47 @@ fn spells_integer(alloc: Global, number: i64, octets: &[u8]) -> Result<bool, NoM
     Ok(contents(&value) == octets)
 }
 
+/// Contents, and the integer as which they are read; `-` where they are none.
+const INTEGERS: &str = "
+ = -
+00 = 0
+7f = 127
+80 = -128
+ff = -1
+007f = -
+0080 = 128
+ff7f = -129
+ff80 = -
+7fffffffffffffff = 9223372036854775807
+8000000000000000 = -9223372036854775808
+0080000000000000 = 36028797018963968
+008000000000000000 = -
+010000000000000000 = -
+";
+
+/// Whether these contents are read as this integer, which is written as they are, or as none.
+fn is_spelled(alloc: Global, octets: &[u8], number: Option<i64>) -> Result<bool, NoMemory> {
+    if !is_integer(alloc, octets, number)? {
+        return Ok(false);
+    }
+    match number {
+        Some(number) => spells_integer(alloc, number, octets),
+        None => Ok(true),
+    }
+}
+
 #[test]
 fn reads_integers(rt: HostRuntime) -> Result<(), Fail> {
-    let rows: [(&[u8], Option<i64>); 14] = [
-        (&[], None),
-        (&[0x00], Some(0)),
-        (&[0x7f], Some(127)),
-        (&[0x80], Some(-128)),
-        (&[0xff], Some(-1)),
-        (&[0x00, 0x7f], None),
-        (&[0x00, 0x80], Some(128)),
-        (&[0xff, 0x7f], Some(-129)),
-        (&[0xff, 0x80], None),
-        (&[0x7f, 255, 255, 255, 255, 255, 255, 255], Some(i64::MAX)),
-        (&[0x80, 0, 0, 0, 0, 0, 0, 0], Some(i64::MIN)),
-        (
-            &[0x00, 0x80, 0, 0, 0, 0, 0, 0],
-            Some(36_028_797_018_963_968),
-        ),
-        (&[0x00, 0x80, 0, 0, 0, 0, 0, 0, 0], None),
-        (&[0x01, 0, 0, 0, 0, 0, 0, 0, 0], None),
-    ];
-    for (octets, number) in rows {
-        assert!(rt; is_integer(rt.alloc(), octets, number)?, "{octets:?}");
-        if let Some(number) = number {
-            assert!(rt; spells_integer(rt.alloc(), number, octets)?, "{octets:?}");
+    let mut count = 0_u32;
+    for row in INTEGERS.lines() {
+        if let Some((digits, number)) = row.split_once(" = ") {
+            let octets = octets_of(rt.alloc(), digits)?;
+            let number = number.parse::<i64>().ok();
+            assert!(rt; is_spelled(rt.alloc(), octets.as_slice(), number)?, "{row}");
+            count = count.saturating_add(1);
         }
     }
+    assert_eq!(rt; count, 14);
     Ok(())
 }
 
@@ -122,50 +138,82 @@ fn spells_oid(alloc: Global, arcs: &[u32], octets: &[u8]) -> Result<bool, NoMemo
     Ok(contents(&value) == octets)
 }
 
-#[test]
-fn reads_object_identifiers(rt: HostRuntime) -> Result<(), Fail> {
-    let rows: [(&[u8], &[u32]); 16] = [
-        (&[0x27], &[0, 39]),
-        (&[0x28], &[1, 0]),
-        (&[0x4f], &[1, 39]),
-        (&[0x50], &[2, 0]),
-        (&[0x78], &[2, 40]),
-        (&[0x81, 0x80, 0x80, 0x80, 0x4f], &[2, 268_435_455]),
-        (&[0x28, 0xc2, 0x7b, 0x05, 0x03], &[1, 0, 8571, 5, 3]),
-        (&[0x2a, 0x00], &[1, 2, 0]),
-        (&[0x2a, 0x7f], &[1, 2, 127]),
-        (&[0x2a, 0x81, 0x00], &[1, 2, 128]),
-        (&[0x2a, 0xff, 0x7f], &[1, 2, 16_383]),
-        (&[0x2a, 0x81, 0x80, 0x00], &[1, 2, 16_384]),
-        (&[0x2a, 0xff, 0xff, 0x7f], &[1, 2, 2_097_151]),
-        (&[0x2a, 0x81, 0x80, 0x80, 0x00], &[1, 2, 2_097_152]),
-        (&[0x2a, 0xff, 0xff, 0xff, 0x7f], &[1, 2, 268_435_455]),
-        (&[1; 15], &[0, 1, 1, 1, 1, 1, 1, 1, 1, 1, 1, 1, 1, 1, 1, 1]),
-    ];
-    for (octets, arcs) in rows {
-        assert!(rt; is_oid(rt.alloc(), octets, arcs)?, "{octets:?}");
-        assert!(rt; is_oid_from(rt.alloc(), octets, arcs)?, "{octets:?}");
-        assert!(rt; spells_oid(rt.alloc(), arcs, octets)?, "{octets:?}");
+/// Contents, and the arcs of the object identifier as which they are read.
+const OIDS: &str = "
+27 = 0.39
+28 = 1.0
+4f = 1.39
+50 = 2.0
+78 = 2.40
+818080804f = 2.268435455
+28c27b0503 = 1.0.8571.5.3
+2a00 = 1.2.0
+2a7f = 1.2.127
+2a8100 = 1.2.128
+2aff7f = 1.2.16383
+2a818000 = 1.2.16384
+2affff7f = 1.2.2097151
+2a81808000 = 1.2.2097152
+2affffff7f = 1.2.268435455
+010101010101010101010101010101 = 0.1.1.1.1.1.1.1.1.1.1.1.1.1.1.1
+";
+
+/// Contents that are read as none.
+const NO_OIDS: &str = "
+ = -
+802801 = -
+2a8001 = -
+2a81 = -
+8180808050 = -
+2a8180808000 = -
+2affffffff7f = -
+01010101010101010101010101010101 = -
+";
+
+/// The arcs between points; none where a dash stands for them.
+fn arcs_of(alloc: Global, text: &str) -> Result<Vec<u32>, Fail> {
+    let mut arcs = Vec::new(alloc);
+    if text == "-" {
+        return Ok(arcs);
     }
-    Ok(())
+    for arc in text.split('.') {
+        arcs.push(arc.parse::<u32>()?)?;
+    }
+    Ok(arcs)
+}
+
+/// Whether these contents are read as the object identifier, which is written as they are, or as none.
+fn is_read(alloc: Global, octets: &[u8], arcs: &[u32]) -> Result<bool, NoMemory> {
+    if !is_oid(alloc, octets, arcs)? || !is_oid_from(alloc, octets, arcs)? {
+        return Ok(false);
+    }
+    if arcs.is_empty() {
+        return Ok(true);
+    }
+    spells_oid(alloc, arcs, octets)
+}
+
+/// How many rows hold: all of them.
+fn count_held(rt: &impl Abort, alloc: Global, rows: &str) -> Result<u32, Fail> {
+    let mut count = 0_u32;
+    for row in rows.lines() {
+        if let Some((digits, text)) = row.split_once(" = ") {
+            let octets = octets_of(alloc, digits)?;
+            let arcs = arcs_of(alloc, text)?;
+            assert!(rt;
+                is_read(alloc, octets.as_slice(), arcs.as_slice())?,
+                "{row}"
+            );
+            count = count.saturating_add(1);
+        }
+    }
+    Ok(count)
 }
 
 #[test]
-fn refuses_other_object_identifiers(rt: HostRuntime) -> Result<(), Fail> {
-    let rows: [&[u8]; 8] = [
-        &[],
-        &[0x80, 0x28, 0x01],
-        &[0x2a, 0x80, 0x01],
-        &[0x2a, 0x81],
-        &[0x81, 0x80, 0x80, 0x80, 0x50],
-        &[0x2a, 0x81, 0x80, 0x80, 0x80, 0x00],
-        &[0x2a, 0xff, 0xff, 0xff, 0xff, 0x7f],
-        &[1; 16],
-    ];
-    for octets in rows {
-        assert!(rt; is_oid(rt.alloc(), octets, &[])?, "{octets:?}");
-        assert!(rt; is_oid_from(rt.alloc(), octets, &[])?, "{octets:?}");
-    }
+fn reads_object_identifiers(rt: HostRuntime) -> Result<(), Fail> {
+    assert_eq!(rt; count_held(&rt, rt.alloc(), OIDS)?, 16);
+    assert_eq!(rt; count_held(&rt, rt.alloc(), NO_OIDS)?, 8);
     Ok(())
 }
 

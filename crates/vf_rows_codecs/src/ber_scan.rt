@@ -1,8 +1,11 @@
 //! Where the octets of a value end, in whatever pieces they come, beside readings of all octets so far.
 
 use crate::nested::{ended, nested};
+use crate::octets::octets_of;
 use std::alloc::Global;
+use std::process::Abort;
 use std::test::*;
+use vf_base::NoMemory;
 use vf_ber::{BerError, read};
 use vf_ber_scan::{Scan, whole_in};
 
@@ -48,50 +51,59 @@ fn in_pieces(octets: &[u8], most: u32, first: u32) -> Option<usize> {
 }
 
 /// With primitive and constructed values, lengths of each form and in each other, and octets after them.
-const VALUES: [&[u8]; 8] = [
-    &[0x04, 0x00],
-    &[0x5f, 0xff, 0x7f, 0x82, 0x00, 0x03, 1, 2, 3, 4],
-    &[
-        0x30, 0x80, 0x30, 0x80, 0x04, 0x01, 0x07, 0x00, 0x00, 0x00, 0x00, 0x04,
-    ],
-    &[
-        0x30, 0x08, 0x30, 0x80, 0x04, 0x00, 0x00, 0x00, 0x04, 0x00, 0x04,
-    ],
-    &[
-        0x30, 0x0a, 0x30, 0x06, 0x30, 0x04, 0x04, 0x02, 0x00, 0x00, 0x05, 0x00,
-    ],
-    &[
-        0x30, 0x80, 0x30, 0x04, 0x30, 0x80, 0x00, 0x00, 0x30, 0x00, 0x00, 0x00,
-    ],
-    &[
-        0x7f, 0x81, 0x00, 0x81, 0x0e, 0x9f, 0x1f, 0x88, 0, 0, 0, 0, 0, 0, 0, 1, 9, 0x02, 0x00,
-    ],
-    &[
-        0xa1, 0x80, 0xa2, 0x80, 0xa3, 0x80, 0xa4, 0x05, 0x9f, 0x81, 0x02, 0x01, 0x07, 0, 0, 0, 0,
-        0, 0,
-    ],
-];
+const VALUES: &str = "
+0400
+5fff7f82000301020304
+308030800401070000000004
+3008308004000000040004
+300a30063004040200000500
+308030043080000030000000
+7f8100810e9f1f880000000000000001090200
+a180a280a380a4059f81020107000000000000
+";
 
 const OCTETS: [u8; 9] = [0x00, 0x01, 0x02, 0x1f, 0x30, 0x80, 0x81, 0x88, 0xff];
 
-#[test]
-fn ends_where_a_reading_ends(rt: HostRuntime) -> Result<(), Fail> {
-    for value in VALUES {
-        for at in 0..value.len() {
-            for octet in OCTETS {
-                let mut changed = value.to_vec(rt.alloc())?;
-                if at < changed.len() {
-                    changed[at] = octet;
-                }
-                let octets = changed.as_slice();
-                assert_eq!(rt; whole_in(octets), read_in(rt.alloc(), octets), "{octets:?}");
-                let end = plain(rt.alloc(), octets);
-                for most in [1, 3, 40] {
-                    assert_eq!(rt; in_pieces(octets, most, at as u32), end, "{octets:?}");
-                }
-            }
+/// Whether scans of whatever pieces end where readings do.
+fn ends_alike(alloc: Global, octets: &[u8], first: u32) -> bool {
+    let end = plain(alloc, octets);
+    let single = in_pieces(octets, 1, first);
+    let few = in_pieces(octets, 3, first);
+    let many = in_pieces(octets, 40, first);
+    whole_in(octets) == read_in(alloc, octets) && single == end && few == end && many == end
+}
+
+/// Whether it is so with each of these octets at a place.
+fn changed_ends_alike(alloc: Global, value: &[u8], at: usize) -> Result<bool, NoMemory> {
+    for octet in OCTETS {
+        let mut changed = value.to_vec(alloc)?;
+        if let Some(old) = changed.get_mut(at) {
+            *old = octet;
+        }
+        if !ends_alike(alloc, changed.as_slice(), (at % 256) as u32) {
+            return Ok(false);
         }
     }
+    Ok(true)
+}
+
+/// How many places a value has: at each it is so.
+fn places_of(rt: &impl Abort, alloc: Global, value: &[u8]) -> Result<usize, NoMemory> {
+    for at in 0..value.len() {
+        assert!(rt; changed_ends_alike(alloc, value, at)?, "{value:?} at {at}");
+    }
+    Ok(value.len())
+}
+
+#[test]
+fn ends_where_a_reading_ends(rt: HostRuntime) -> Result<(), Fail> {
+    let mut places = 0_usize;
+    for row in VALUES.lines() {
+        let value = octets_of(rt.alloc(), row)?;
+        let count = places_of(&rt, rt.alloc(), value.as_slice())?;
+        places = places.saturating_add(count);
+    }
+    assert_eq!(rt; places, 97);
     Ok(())
 }
 

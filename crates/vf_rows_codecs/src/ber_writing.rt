@@ -1,49 +1,15 @@
-//! Canonical spellings (ISO 8825), within the limits.
+//! Values that are built, within the limits of their canonical spellings (ISO 8825). What is read and written again are lines
+//! of `bench_lines`.
 
-use crate::ber_reading::spells;
 use std::alloc::Global;
 use std::test::*;
 use vf_base::{NoMemory, Octets};
-use vf_ber::{Tag, Value, Values, WriteError, read, write};
+use vf_ber::{Tag, Value, Values, WriteError, write};
 
 const TAG: Tag = Tag {
     class: 2,
     number: 0,
 };
-
-/// Messages that are canonical spellings, one with a tag of number 16383 and one with an empty part.
-const MESSAGES: [&[u8]; 5] = [
-    &[0xa0, 0x03, 0x80, 0x01, 0x0f],
-    &[0xa8, 0x00],
-    &[0xa6, 0x02, 0xa3, 0x00],
-    &[0xa2, 0x05, 0x9f, 0xff, 0x7f, 0x01, 0x61],
-    &[
-        0xaa, 0x0c, 0x81, 0x01, 0x61, 0xa2, 0x07, 0x80, 0x05, 0x28, 0xc2, 0x7b, 0x05, 0x03,
-    ],
-];
-
-/// Whether a copy of the value is spelled so.
-fn is_copied(alloc: Global, value: &Value, canonical: &[u8]) -> bool {
-    match value.copy(alloc) {
-        Ok(copied) => spells(alloc, &copied, canonical),
-        Err(NoMemory) => false,
-    }
-}
-
-/// Whether the octets are read as a value whose copy is spelled as they are.
-fn is_written(alloc: Global, octets: &[u8]) -> bool {
-    match read(alloc, octets) {
-        Ok((value, n)) => n == octets.len() && is_copied(alloc, &value, octets),
-        Err(_) => false,
-    }
-}
-
-#[test]
-fn writes_what_it_reads(rt: HostRuntime) {
-    for octets in MESSAGES {
-        assert!(rt; is_written(rt.alloc(), octets), "{octets:?}");
-    }
-}
 
 /// The value in another one.
 fn wrapped(alloc: Global, value: Value) -> Result<Value, NoMemory> {

@@ -1,4 +1,4 @@
-//! Tests of public calls of the codecs and of the plain values that they speak of, over octets and numbers from outside.
+//! Tests of public calls of the codecs that no line of `bench_lines` shows, and of the plain values that they speak of.
 #![tactic(auto)]
 
 #[cfg(test)]
@@ -15,6 +15,8 @@ mod ber_writing;
 mod elements;
 #[cfg(test)]
 mod nested;
+#[cfg(test)]
+mod octets;
 #[cfg(test)]
 mod outside;
 #[cfg(test)]

@@ -1,5 +1,5 @@
 //! Units of sessions, and SPDUs that are taken, by letters.
-use bench_base::{Fault, put};
+use bench_base::{Fault, put, put_number};
 use std::alloc::Global;
 use vf_base::Octets;
 use vf_session::{ResyncKind, SessionSay, TokenSide};
@@ -15,14 +15,13 @@ pub(super) fn letter_and_number(word: &str) -> Option<(u8, u32)> {
 
 /// User data: these octets, or so many `x` after a `*`.
 fn data_of(alloc: Global, word: &str) -> Result<Octets, Fault> {
-    let data = match word.strip_prefix('*') {
-        Some(count) => {
-            let count = count.parse::<u16>().ok().ok_or(Fault::Line)?;
-            vec![in alloc; b'x'; usize::from(count)]?
-        }
-        None => Vec::from_slice(alloc, word.as_bytes())?,
-    };
-    Ok(Octets::from_vec(data)?)
+    if let Some(count) = word.strip_prefix('*') {
+        let count = count.parse::<u16>().ok().ok_or(Fault::Line)?;
+        let data = vec![in alloc; b'x'; usize::from(count)]?;
+        return Ok(Octets::from_vec(data)?);
+    }
+    let data = Octets::of(alloc, word.as_bytes())?;
+    Ok(data)
 }
 
 /// The unit of a word.
@@ -33,23 +32,37 @@ pub(super) fn unit_of(alloc: Global, word: &str) -> Result<SessionSay, Fault> {
     Ok(named(letter, serial, data))
 }
 
+/// The end that a letter names.
+fn side_named(letter: u8) -> TokenSide {
+    if letter.is_ascii_uppercase() {
+        TokenSide::Initiator
+    } else {
+        TokenSide::Responder
+    }
+}
+
+/// The same where a letter names one.
+fn token_named(letter: u8) -> Option<TokenSide> {
+    match letter {
+        b'p' | b'P' | b'o' => None,
+        _ => Some(side_named(letter)),
+    }
+}
+
+fn kind_named(letter: u8) -> ResyncKind {
+    match letter {
+        b'r' | b'R' | b'p' => ResyncKind::Restart,
+        _ => ResyncKind::Abandon,
+    }
+}
+
 /// The unit of a letter. A capital asks for sync, passes the token or names the calling end; a small letter doesn't, or
 /// names the other end. A restart, an abandon and an answer by `p`, `P` and `o` name nobody.
 fn named(letter: u8, serial: u32, data: Octets) -> SessionSay {
     let sync = letter.is_ascii_uppercase();
-    let to = if sync {
-        TokenSide::Initiator
-    } else {
-        TokenSide::Responder
-    };
-    let token = match letter {
-        b'p' | b'P' | b'o' => None,
-        _ => Some(to),
-    };
-    let kind = match letter {
-        b'r' | b'R' | b'p' => ResyncKind::Restart,
-        _ => ResyncKind::Abandon,
-    };
+    let to = side_named(letter);
+    let token = token_named(letter);
+    let kind = kind_named(letter);
     match letter.to_ascii_lowercase() {
         b'c' => SessionSay::Connect { sync, serial, data },
         b'a' => SessionSay::Accept { sync, serial, data },
@@ -114,25 +127,25 @@ pub(super) fn prefix(letter: u8) -> &'static [u8] {
 }
 
 /// The letter of a unit: one capital where it asks for sync or passes the token.
-fn letter_of(unit: &SessionSay) -> char {
+fn letter_of(unit: &SessionSay) -> &'static str {
     match unit {
-        SessionSay::Connect { sync: true, .. } => 'C',
-        SessionSay::Connect { .. } => 'c',
-        SessionSay::Accept { sync: true, .. } => 'A',
-        SessionSay::Accept { .. } => 'a',
-        SessionSay::Refuse { .. } => 'n',
-        SessionSay::Finish { .. } => 'f',
-        SessionSay::Finished { .. } => 'g',
-        SessionSay::Data { pass: true, .. } => 'D',
-        SessionSay::Data { .. } => 'd',
-        SessionSay::Check { .. } => 'k',
-        SessionSay::Acknowledge { .. } => 'l',
-        SessionSay::Resync { kind, .. } if *kind == ResyncKind::Restart => 'r',
-        SessionSay::Resync { .. } => 's',
-        SessionSay::Resynced { .. } => 'e',
-        SessionSay::Abort { .. } => 'x',
-        SessionSay::Token { .. } => 't',
+        SessionSay::Connect { sync, .. } => chosen(*sync, "C", "c"),
+        SessionSay::Accept { sync, .. } => chosen(*sync, "A", "a"),
+        SessionSay::Refuse { .. } => "n",
+        SessionSay::Finish { .. } => "f",
+        SessionSay::Finished { .. } => "g",
+        SessionSay::Data { pass, .. } => chosen(*pass, "D", "d"),
+        SessionSay::Check { .. } => "k",
+        SessionSay::Acknowledge { .. } => "l",
+        SessionSay::Resync { kind, .. } => chosen(*kind == ResyncKind::Restart, "r", "s"),
+        SessionSay::Resynced { .. } => "e",
+        SessionSay::Abort { .. } => "x",
+        SessionSay::Token { .. } => "t",
     }
+}
+
+fn chosen(first: bool, yes: &'static str, no: &'static str) -> &'static str {
+    if first { yes } else { no }
 }
 
 /// The number of a unit that has one.
@@ -187,8 +200,7 @@ fn put_data(alloc: Global, data: &[u8], out: &mut Vec<u8>) -> Result<(), Fault> 
         return Ok(());
     }
     if data.len() > 32 && data.iter().all(|octet| *octet == b'x') {
-        let text = format!(in alloc; ":*{}", data.len())?;
-        return put(out, text.as_str());
+        return put_number(alloc, ":*", data.len() as u64, "", out);
     }
     put(out, ":")?;
     out.extend_from_slice(data)?;
@@ -197,13 +209,11 @@ fn put_data(alloc: Global, data: &[u8], out: &mut Vec<u8>) -> Result<(), Fault> 
 
 /// Appends a unit: its letter, its number, the end that it names, and its user data.
 pub(super) fn put_unit(alloc: Global, unit: &SessionSay, out: &mut Vec<u8>) -> Result<(), Fault> {
-    let letter = letter_of(unit);
-    let side = side_of(unit);
-    let name = match serial_of(unit) {
-        Some(serial) => format!(in alloc; "{letter}{serial}{side}")?,
-        None => format!(in alloc; "{letter}{side}")?,
-    };
-    put(out, name.as_str())?;
+    put(out, letter_of(unit))?;
+    if let Some(serial) = serial_of(unit) {
+        put_number(alloc, "", u64::from(serial), "", out)?;
+    }
+    put(out, side_of(unit))?;
     put_data(alloc, data_in(unit), out)?;
     put(out, " ")
 }

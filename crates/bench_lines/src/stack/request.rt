@@ -25,7 +25,8 @@ fn maybe_of(alloc: Global, digits: &str) -> Result<Option<Boxed<Pdu>>, Fault> {
     if digits.is_empty() {
         return Ok(None);
     }
-    let pdu = pdu_in(alloc, &value_of(alloc, digits)?)?;
+    let value = value_of(alloc, digits)?;
+    let pdu = pdu_in(alloc, &value)?;
     Ok(Some(pdu))
 }
 
@@ -66,6 +67,16 @@ fn carrying(name: &str, serial: u32, pdu: Boxed<Pdu>) -> Result<Request, Fault> 
     }
 }
 
+fn refuse(alloc: Global, digits: &str) -> Result<Request, Fault> {
+    let pdu = maybe_of(alloc, digits)?;
+    Ok(Request::Refuse { pdu })
+}
+
+fn abort(alloc: Global, digits: &str) -> Result<Request, Fault> {
+    let pdu = maybe_of(alloc, digits)?;
+    Ok(Request::Abort { pdu })
+}
+
 /// The request of a word.
 pub(super) fn request_of(alloc: Global, word: &str) -> Result<Request, Fault> {
     let (name, digits) = word.split_once(':').unwrap_or((word, ""));
@@ -74,13 +85,22 @@ pub(super) fn request_of(alloc: Global, word: &str) -> Result<Request, Fault> {
         "Pass" => Ok(Request::Pass),
         "Check" => Ok(Request::Check { serial }),
         "Acknowledge" => Ok(Request::Acknowledge { serial }),
-        "Refuse" => Ok(Request::Refuse {
-            pdu: maybe_of(alloc, digits)?,
-        }),
-        "Abort" => Ok(Request::Abort {
-            pdu: maybe_of(alloc, digits)?,
-        }),
-        "Item" => Ok(Request::Item(item_of(alloc, &value_of(alloc, digits)?)?)),
-        _ => carrying(name, serial, pdu_in(alloc, &value_of(alloc, digits)?)?),
+        "Refuse" => refuse(alloc, digits),
+        "Abort" => abort(alloc, digits),
+        "Item" => item_request(alloc, digits),
+        _ => carrying_of(alloc, name, serial, digits),
     }
+}
+
+fn item_request(alloc: Global, digits: &str) -> Result<Request, Fault> {
+    let value = value_of(alloc, digits)?;
+    let item = item_of(alloc, &value)?;
+    Ok(Request::Item(item))
+}
+
+/// The request of a name with the PDU of these digits.
+fn carrying_of(alloc: Global, name: &str, serial: u32, digits: &str) -> Result<Request, Fault> {
+    let value = value_of(alloc, digits)?;
+    let pdu = pdu_in(alloc, &value)?;
+    carrying(name, serial, pdu)
 }
