@@ -17,4 +17,3 @@ mod Looks
 mod Heads
 mod Opening
 mod Takings
-mod Ending

@@ -1,90 +1,56 @@
 //! What the ends of transfers change, step by step, and what the table of files then has.
 use std::alloc::Global;
-use std::process::Abort;
 use std::test::Fail;
 use vf_attr::{File, Stamp};
 use vf_base::{
-    Actions, BaseError, Contents, Diagnostic, Element, FaduId, Moment, Name, NoMemory, Octets, Oid,
-    Sequence,
+    Actions, BaseError, Contents, Element, FaduId, Moment, Name, NoMemory, Octets, Oid, Sequence,
 };
 use vf_files::{
     Change, Changes, Created, Ending, Files, NewFile, create, end_read, end_write, plain,
 };
 
-/// What is done to the file `a`: it is made (`c`), read (`r`) or written (`w`) with a string or with none, which is a dash, by
-/// whom and at which moment, and what comes of it: the change, or the number of the diagnostic. A read that is the last one
-/// already changes nothing, and a write of what stands changes the attributes alone.
-const STEPS: &str = "
-r ann 4 - nothing
-w ann 4 x 11
-c ann 5 - file
-c bob 6 - 12
-r bob 6 - attributes
-r bob 6 - nothing
-r ann 6 - attributes
-r ann 7 - attributes
-w ann 8 xy file
-w ann 8 xy attributes
-w ann 8 xz file
-r ann 7 - nothing
-w ann 9 - file
-";
+/// What is done to the file `a`: it is made, read or written with a string, by whom and at which moment, and what
+/// comes of it: the change, or the number of the diagnostic.
+type Step = (u8, &'static str, u64, &'static str, &'static str);
 
-/// A row of these.
-#[derive(Clone, Copy)]
-struct Step<'a> {
-    action: &'a str,
-    who: &'a str,
-    seconds: u64,
-    text: &'a str,
-    told: &'a str,
-}
-
-fn step_of(row: &str) -> Option<Step<'_>> {
-    let mut words = row.split(' ');
-    let action = words.next()?;
-    let who = words.next()?;
-    let seconds = words.next()?.parse::<u64>().ok()?;
-    let text = words.next()?;
-    let told = words.next()?;
-    Some(Step {
-        action,
-        who,
-        seconds,
-        text,
-        told,
-    })
-}
-
-/// The files after the steps, and how many these are.
-fn stepped(rt: &impl Abort, alloc: Global, files: &mut Files) -> Result<u32, Fail> {
-    let mut count = 0_u32;
-    for row in STEPS.lines() {
-        if let Some(step) = step_of(row) {
-            let ending = ending(alloc, files, step)?;
-            assert!(rt; is_told(&ending, step.told), "{row}");
-            files.apply(alloc, ending.changes)?;
-            count = count.saturating_add(1);
-        }
-    }
-    Ok(count)
-}
+/// A read that is the last one already changes nothing, and a write of what stands changes the attributes alone.
+const STEPS: [Step; 13] = [
+    (b'r', "ann", 4, "", "nothing"),
+    (b'w', "ann", 4, "x", "11"),
+    (b'c', "ann", 5, "", "file"),
+    (b'c', "bob", 6, "", "12"),
+    (b'r', "bob", 6, "", "attributes"),
+    (b'r', "bob", 6, "", "nothing"),
+    (b'r', "ann", 6, "", "attributes"),
+    (b'r', "ann", 7, "", "attributes"),
+    (b'w', "ann", 8, "xy", "file"),
+    (b'w', "ann", 8, "xy", "attributes"),
+    (b'w', "ann", 8, "xz", "file"),
+    (b'r', "ann", 7, "", "nothing"),
+    (b'w', "ann", 9, "", "file"),
+];
 
 #[test]
 fn changes_are_what_differs(rt: HostRuntime) -> Result<(), Fail> {
-    let mut files = Files::new(rt.alloc());
-    assert_eq!(rt; stepped(&rt, rt.alloc(), &mut files)?, 13);
+    let alloc = rt.alloc();
+    let mut files = Files::new(alloc);
+    for step in STEPS {
+        let ending = ending(alloc, &files, step)?;
+        assert!(rt; is_told(&ending, step.4), "{}", step.2);
+        files.apply(alloc, ending.changes)?;
+    }
     assert!(rt; files.len() == 1 && files.get(1).is_none());
     assert!(rt; files.get(0).map(|file| (file.version, file.tree.size())) == Some((5, 0)));
     Ok(())
 }
 
-fn ending(alloc: Global, files: &Files, step: Step<'_>) -> Result<Ending, BaseError> {
-    let stamp = stamp(alloc, step.who, step.seconds)?;
-    match step.action {
-        "c" => made(alloc, files, stamp),
-        "r" => read(alloc, files, stamp),
-        _ => written(alloc, files, stamp, step.text),
+fn ending(alloc: Global, files: &Files, step: Step) -> Result<Ending, BaseError> {
+    let (action, who, seconds, text, _) = step;
+    let stamp = stamp(alloc, who, seconds)?;
+    match action {
+        b'c' => made(alloc, files, stamp),
+        b'r' => read(alloc, files, stamp),
+        _ => written(alloc, files, stamp, text),
     }
 }
 
@@ -108,10 +74,10 @@ fn written(alloc: Global, files: &Files, stamp: Stamp, text: &str) -> Result<End
     Ok(ending)
 }
 
-/// A string, or none where the text is a dash.
+/// A string, or none where the text is empty.
 fn values(alloc: Global, text: &str) -> Result<Vec<Element>, NoMemory> {
     let mut values = Vec::new(alloc);
-    if text != "-" {
+    if !text.is_empty() {
         let octets = Octets::of(alloc, text.as_bytes())?;
         values.push(Element::Binary { octets })?;
     }
@@ -120,25 +86,18 @@ fn values(alloc: Global, text: &str) -> Result<Vec<Element>, NoMemory> {
 
 /// A creation as an ending: refused, or with the new file.
 fn made(alloc: Global, files: &Files, stamp: Stamp) -> Result<Ending, BaseError> {
-    let wanted = wanted(alloc)?;
-    match create(alloc, files, 8, stamp, None, Actions { value: 1 }, wanted)? {
-        Created::Refused(diagnostic) => Ok(refused(alloc, diagnostic)),
-        Created::Made(file) => put(alloc, file),
-    }
-}
-
-fn refused(alloc: Global, diagnostic: Diagnostic) -> Ending {
-    Ending {
-        diagnostic: Some(diagnostic),
-        changes: Changes::new(alloc),
-    }
-}
-
-fn put(alloc: Global, file: File) -> Result<Ending, BaseError> {
     let mut changes = Changes::new(alloc);
-    changes.push(Change::PutFile { file })?;
+    let wanted = wanted(alloc)?;
+    let made = create(alloc, files, 8, stamp, None, Actions { value: 1 }, wanted)?;
+    let diagnostic = match made {
+        Created::Refused(diagnostic) => Some(diagnostic),
+        Created::Made(file) => {
+            changes.push(Change::PutFile { file })?;
+            None
+        }
+    };
     Ok(Ending {
-        diagnostic: None,
+        diagnostic,
         changes,
     })
 }
@@ -161,25 +120,16 @@ fn wanted(alloc: Global) -> Result<NewFile, BaseError> {
 
 /// Whether this came of a step.
 fn is_told(ending: &Ending, wanted: &str) -> bool {
-    match ending.diagnostic {
-        Some(diagnostic) => is_refused(&ending.changes, diagnostic, wanted),
-        None => word_of(ending.changes.get(0)) == wanted && ending.changes.len() <= 1,
+    if let Some(diagnostic) = ending.diagnostic {
+        let number = if wanted == "11" { 11 } else { 12 };
+        return diagnostic == plain(number) && ending.changes.len() == 0;
     }
-}
-
-fn is_refused(changes: &Changes, diagnostic: Diagnostic, wanted: &str) -> bool {
-    match wanted.parse::<u16>() {
-        Ok(number) => diagnostic == plain(number) && changes.len() == 0,
-        Err(_) => false,
-    }
-}
-
-fn word_of(change: Option<&Change>) -> &'static str {
-    match change {
+    let found = match ending.changes.get(0) {
         None => "nothing",
         Some(Change::PutFile { .. }) => "file",
         Some(Change::PutAttributes { .. }) => "attributes",
-    }
+    };
+    found == wanted && ending.changes.len() <= 1
 }
 
 /// Files stand in the order in which they came.

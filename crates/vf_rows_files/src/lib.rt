@@ -1,5 +1,4 @@
-//! Tests of public calls of the file model: trees, document types, attributes, transfers, locks, tables of files, what
-//! refuses requests and what granted ones do to files.
+//! Tests of public calls of the file model: trees, document types, attributes, transfers, locks and tables of files.
 #![tactic(auto)]
 
 #[cfg(test)]
@@ -7,13 +6,9 @@ mod attr;
 #[cfg(test)]
 mod doctype;
 #[cfg(test)]
-mod effects;
-#[cfg(test)]
 mod files;
 #[cfg(test)]
 mod locks;
-#[cfg(test)]
-mod refusals;
 #[cfg(test)]
 mod transfer;
 #[cfg(test)]

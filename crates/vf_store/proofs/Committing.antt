@@ -1,5 +1,5 @@
 -- What is built for a commit can be written, leads to the tables after it, and ends where it was planned.
-use Rattle.std.proofs.Common.{◌≡◌, ℕ, ◌+◌, ◌≤◌, Bool, true, false, List, [], ◌∷◌, ◌++◌, length, take, drop, Option, None, Some, refl, sym, ◌∙◌, ap, subst, arith}
+use Rattle.std.proofs.Common.{◌≡◌, ℕ, ◌+◌, ◌≤◌, Bool, true, false, List, [], ◌∷◌, length, Option, None, Some, refl, sym, ◌∙◌, ap, subst, arith}
 use Rattle.std.specs.Prelude.{IfSome}
 use Rattle.std.specs.Option.{option_map}
 use Rattle.vf_journal.proofs.Lengths.{length-area_with, length-entry_of}
@@ -72,13 +72,6 @@ writable journal tables changes area entry short area_is entry_is within = recor
   entry_form = (record_of changes, short, entry_is);
   within = omega (arith, end_built journal tables changes area entry area_is entry_is, within);
 }
-
--- a record that was put after the octets of its length, and in an area, is built when it is ended
-pub entry_ended : (old new item : List ℕ) → old ≡ (0 ∷ 0 ∷ 0 ∷ 0 ∷ []) ++ item → new ≡ take 0 old ++ entry_of (drop 4 old) → new ≡ entry_of item
-entry_ended old new item is ended = ended ∙ ap (λ (octets : List ℕ). take 0 octets ++ entry_of (drop 4 octets)) is
-
-pub area_ended : (old new item : List ℕ) → old ≡ (1 ∷ 0 ∷ 0 ∷ 0 ∷ 0 ∷ []) ++ item → new ≡ take 1 old ++ entry_of (drop 5 old) → new ≡ area_with item
-area_ended old new item is ended = ended ∙ ap (λ (octets : List ℕ). take 1 octets ++ entry_of (drop 5 octets)) is
 
 -- what is said of an area that is there holds of its octets
 pub some_mapped : {A B : Type 0} (f : A → B) (given : Option A) (P : Type 0) → IfSome given (λ x. P) → IfSome (option_map f given) (λ y. P)

@@ -4,7 +4,6 @@
 mod commit;
 mod counts;
 mod reading;
-mod room;
 mod store;
 mod writing;
 
