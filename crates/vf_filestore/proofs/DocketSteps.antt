@@ -42,13 +42,13 @@ pub data DocketStep (before after : List Docket) : Type 0 where
 
 -- ---- opens differ
 
-others : (first later : List Docket) (docket : Docket) → IsDistinct is_same_open (first ++ docket ∷ later) → AllByRecursion (IsOtherDocket docket) first
+pub others : (first later : List Docket) (docket : Docket) → IsDistinct is_same_open (first ++ docket ∷ later) → AllByRecursion (IsOtherDocket docket) first
 unfolding IsDistinct
 others [] later docket distinct = tt
 others (one ∷ first) later docket distinct =
     (open_flips docket one ∙ (all_right (λ (other : Docket). is_same_open one other ≡ false) first (docket ∷ later) distinct.0).0, others first later docket distinct.1)
 
-later_others : (first later : List Docket) (docket : Docket) → IsDistinct is_same_open (first ++ docket ∷ later) → AllByRecursion (IsOtherDocket docket) later
+pub later_others : (first later : List Docket) (docket : Docket) → IsDistinct is_same_open (first ++ docket ∷ later) → AllByRecursion (IsOtherDocket docket) later
 unfolding IsDistinct
 later_others [] later docket distinct = distinct.0
 later_others (one ∷ first) later docket distinct = later_others first later docket distinct.1
@@ -125,18 +125,18 @@ module _ (tables : Tables) (first later : List Docket) (regime : Regime) (off : 
 
 -- ---- what the changes are
 
-skip : (first dockets later : List Docket) → docket_changes (first ++ dockets) (first ++ later) ≡ docket_changes dockets later
+pub skip : (first dockets later : List Docket) → docket_changes (first ++ dockets) (first ++ later) ≡ docket_changes dockets later
 skip [] dockets later = refl
 skip (docket ∷ first) dockets later =
     (λ i. cond (regime_itself docket.regime i) (docket_changes (first ++ dockets) (first ++ later))
     (cond (is_same_open docket docket) (PutDocket docket.regime ∷ docket_changes (first ++ dockets) (first ++ later)) (DropDocket docket.regime.identity docket.regime.activity ∷ docket_changes (first ++ dockets) (docket ∷ (first ++ later)))))
     ∙ skip first dockets later
 
-changes_added : (dockets : List Docket) (docket : Docket) → docket_changes dockets (dockets ++ docket ∷ []) ≡ PutDocket docket.regime ∷ []
+pub changes_added : (dockets : List Docket) (docket : Docket) → docket_changes dockets (dockets ++ docket ∷ []) ≡ PutDocket docket.regime ∷ []
 changes_added dockets docket = ap (λ (all : List Docket). docket_changes all (dockets ++ docket ∷ [])) (sym (append-nil dockets)) ∙ skip dockets [] (docket ∷ [])
 
 -- what isn't of one open isn't the same
-differing : (one other : Docket) → is_same_open one other ≡ false → is_same_regime one.regime other.regime ≡ false
+pub differing : (one other : Docket) → is_same_open one other ≡ false → is_same_regime one.regime other.regime ≡ false
 differing one other off = by (is_same_regime one.regime other.regime) refl
   where
     by : (b : Bool) → is_same_regime one.regime other.regime ≡ b → b ≡ false
@@ -146,17 +146,17 @@ differing one other off = by (is_same_regime one.regime other.regime) refl
         absurd cc
     by false is = refl
 
-changes_gone : (docket : Docket) (later : List Docket) → AllByRecursion (IsOtherDocket docket) later → docket_changes (docket ∷ later) later ≡ DropDocket docket.regime.identity docket.regime.activity ∷ []
+pub changes_gone : (docket : Docket) (later : List Docket) → AllByRecursion (IsOtherDocket docket) later → docket_changes (docket ∷ later) later ≡ DropDocket docket.regime.identity docket.regime.activity ∷ []
 changes_gone docket [] off = refl
 changes_gone docket (next ∷ later) off =
     (λ i. cond (differing docket next off.0 i) (docket_changes (next ∷ later) later)
     (cond (off.0 i) (PutDocket next.regime ∷ docket_changes (next ∷ later) later) (DropDocket docket.regime.identity docket.regime.activity ∷ docket_changes (next ∷ later) (next ∷ later))))
     ∙ ap (λ (changes : List Change). DropDocket docket.regime.identity docket.regime.activity ∷ changes) (dockets_themselves (next ∷ later))
 
-abbrev change_unless : Bool → Change → List Change
+abbrev pub change_unless : Bool → Change → List Change
 change_unless is change = cond is [] (change ∷ [])
 
-changes_changed : (old new : Docket) (later : List Docket) → is_same_open old new ≡ true
+pub changes_changed : (old new : Docket) (later : List Docket) → is_same_open old new ≡ true
     → docket_changes (old ∷ later) (new ∷ later) ≡ change_unless (is_same_regime old.regime new.regime) (PutDocket new.regime)
 changes_changed old new later here = by (is_same_regime old.regime new.regime)
   where
@@ -169,7 +169,7 @@ changes_changed old new later here = by (is_same_regime old.regime new.regime)
         ∙ ap (λ (changes : List Change). PutDocket new.regime ∷ changes) (dockets_themselves later)
 
 -- the changes of the pieces of one docket among others, each of which is found as it is
-all_pieces : (dockets first later : List Docket) (docket : Docket) (found : Option Docket) → AllByRecursion (IsFoundIn dockets) first → AllByRecursion (IsFoundIn dockets) later
+pub all_pieces : (dockets first later : List Docket) (docket : Docket) (found : Option Docket) → AllByRecursion (IsFoundIn dockets) first → AllByRecursion (IsFoundIn dockets) later
     → find (is_same_open docket) dockets ≡ found → all_piece_changes dockets (first ++ docket ∷ later) ≡ piece_changes docket.regime (staged_in found) docket.staged
 all_pieces dockets first later docket found before after is =
     flat_map-append (λ (one : Docket). piece_changes one.regime (staged_in (find (is_same_open one) dockets)) one.staged) first (docket ∷ later)

@@ -43,7 +43,7 @@ use Rattle.vf_filestore.proofs.Views.{in_association_only, in_selection_only}
 abbrev all_of : State → List Docket
 all_of state = state.dockets ++ flat_map docket_left_by state.parties
 
-abbrev rows_of : List Docket → List tables.Docket
+abbrev pub rows_of : List Docket → List tables.Docket
 rows_of dockets = flat_map row_of (ordered [] dockets)
 
 pub record AreApart (next : ℕ) (dockets : List Docket) : Type 0 where
@@ -65,7 +65,7 @@ apart state sound =
     }
 
 -- one of others differs from those after it, and from all
-later_other : (first later : List Docket) (docket : Docket) → IsDistinct is_same_open_number (first ++ docket ∷ later) → AllByRecursion (IsOtherNumber docket) later
+pub later_other : (first later : List Docket) (docket : Docket) → IsDistinct is_same_open_number (first ++ docket ∷ later) → AllByRecursion (IsOtherNumber docket) later
 unfolding IsDistinct
 later_other [] later docket distinct =
     all_weaker (λ (other : Docket). is_same_open_number docket other ≡ false) (IsOtherNumber docket) later
@@ -119,13 +119,13 @@ pub data OwnStep (next : ℕ) (one other : StandingParty) : Type 0 where
   closes : regime other.history ≡ None → OwnStep next one other
 
 -- the docket that a party would leave
-abbrev docket_for : ℕ → StandingParty → Docket
+abbrev pub docket_for : ℕ → StandingParty → Docket
 docket_for activity party = record { identity = identity_of party; activity = activity; history = retained party.history }
 
-left_is : (party : StandingParty) (activity : ℕ) → activity_of party ≡ Some activity → docket_left_by party ≡ docket_for activity party ∷ []
+pub left_is : (party : StandingParty) (activity : ℕ) → activity_of party ≡ Some activity → docket_left_by party ≡ docket_for activity party ∷ []
 left_is party activity is = ap (λ (one : Option ℕ). docket_by one party) is
 
-left_none : (party : StandingParty) → activity_of party ≡ None → docket_left_by party ≡ []
+pub left_none : (party : StandingParty) → activity_of party ≡ None → docket_left_by party ≡ []
 left_none party is = ap (λ (one : Option ℕ). docket_by one party) is
 
 -- the dockets of a state are those with what one party leaves between them
@@ -193,7 +193,7 @@ module _ (next after : ℕ) (first later : List Docket) (one other : StandingPar
 
 -- ---- a party among others
 
-all_between : (dockets : List Docket) (before after : List StandingParty) (party : StandingParty)
+pub all_between : (dockets : List Docket) (before after : List StandingParty) (party : StandingParty)
     → dockets ++ flat_map docket_left_by (before ++ party ∷ after) ≡ (dockets ++ flat_map docket_left_by before) ++ (docket_left_by party ++ flat_map docket_left_by after)
 all_between dockets before after party =
     ap (λ (all : List Docket). dockets ++ all) (flat_map-append docket_left_by before (party ∷ after))

@@ -39,7 +39,7 @@ pub data FileStep (before after : List File) : Type 0 where
 
 -- ---- names differ
 
-others : (first later : List File) (file : File) → IsDistinct bytes_eq (map name_of (first ++ file ∷ later)) → AllByRecursion (IsOtherFile file.name) first
+pub others : (first later : List File) (file : File) → IsDistinct bytes_eq (map name_of (first ++ file ∷ later)) → AllByRecursion (IsOtherFile file.name) first
 unfolding IsDistinct
 others [] later file distinct = tt
 others (one ∷ first) later file distinct = (
@@ -47,24 +47,24 @@ others (one ∷ first) later file distinct = (
   others first later file distinct.1,
 )
 
-later_others : (first later : List File) (file : File) → IsDistinct bytes_eq (map name_of (first ++ file ∷ later)) → AllByRecursion (IsOtherFile file.name) later
+pub later_others : (first later : List File) (file : File) → IsDistinct bytes_eq (map name_of (first ++ file ∷ later)) → AllByRecursion (IsOtherFile file.name) later
 unfolding IsDistinct
 later_others [] later file distinct = all_unmap name_of (λ name. bytes_eq file.name name ≡ false) later distinct.0
 later_others (one ∷ first) later file distinct = later_others first later file distinct.1
 
 -- ---- what the changes are
 
-skip : (first files later : List File) → file_changes (first ++ files) (first ++ later) ≡ file_changes files later
+pub skip : (first files later : List File) → file_changes (first ++ files) (first ++ later) ≡ file_changes files later
 skip [] files later = refl
 skip (file ∷ first) files later =
     (λ i. cond (file_itself file i) (file_changes (first ++ files) (first ++ later))
     (cond (nat_lt (length (first ++ later)) (length (first ++ files))) (DropFile file.name ∷ file_changes (first ++ files) (file ∷ (first ++ later))) (change_of file file ∷ file_changes (first ++ files) (first ++ later))))
     ∙ skip first files later
 
-changes_added : (files : List File) (file : File) → file_changes files (files ++ file ∷ []) ≡ PutFile file ∷ []
+pub changes_added : (files : List File) (file : File) → file_changes files (files ++ file ∷ []) ≡ PutFile file ∷ []
 changes_added files file = ap (λ (all : List File). file_changes all (files ++ file ∷ [])) (sym (append-nil files)) ∙ skip files [] (file ∷ [])
 
-changes_gone : (file : File) (later : List File) → AllByRecursion (IsOtherFile file.name) later → file_changes (file ∷ later) later ≡ DropFile file.name ∷ []
+pub changes_gone : (file : File) (later : List File) → AllByRecursion (IsOtherFile file.name) later → file_changes (file ∷ later) later ≡ DropFile file.name ∷ []
 changes_gone file [] off = refl
 changes_gone file (next ∷ later) off =
     let differs : is_same_file file next ≡ false = ap (λ b. b && are_same_units file.tree.units next.tree.units && are_same_attributes (attributes_of file) (attributes_of next)) off.0 in
@@ -72,10 +72,10 @@ changes_gone file (next ∷ later) off =
     (λ i. cond (differs i) (file_changes (next ∷ later) later) (cond (shorter i) (DropFile file.name ∷ file_changes (next ∷ later) (next ∷ later)) (change_of file next ∷ file_changes (next ∷ later) later)))
     ∙ ap (λ (changes : List Change). DropFile file.name ∷ changes) (files_themselves (next ∷ later))
 
-abbrev change_unless : Bool → Change → List Change
+abbrev pub change_unless : Bool → Change → List Change
 change_unless is change = cond is [] (change ∷ [])
 
-changes_changed : (old new : File) (later : List File) → file_changes (old ∷ later) (new ∷ later) ≡ change_unless (is_same_file old new) (change_of old new)
+pub changes_changed : (old new : File) (later : List File) → file_changes (old ∷ later) (new ∷ later) ≡ change_unless (is_same_file old new) (change_of old new)
 changes_changed old new later = by (is_same_file old new)
   where
     by : (b : Bool)
@@ -90,7 +90,7 @@ changes_changed old new later = by (is_same_file old new)
 abbrev pub with_files : Tables → List File → Tables
 with_files tables files = record tables { files = files }
 
-renamed_to : (old new : File) → new.tree ≡ old.tree → renamed new.name (attributes_of new) old ≡ new
+pub renamed_to : (old new : File) → new.tree ≡ old.tree → renamed new.name (attributes_of new) old ≡ new
 renamed_to old new tree = λ i. record new { tree = sym tree i }
 
 or_true : (b : Bool) → (b || true) ≡ true

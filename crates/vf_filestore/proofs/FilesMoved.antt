@@ -40,14 +40,14 @@ use Rattle.vf_filestore.proofs.Lists.{all_right, all_unmap}
 
 -- ---- where a file stands
 
-record Located (name : List ℕ) (files : List File) (file : File) : Type 0 where
-  first : List File
-  later : List File
-  is : files ≡ first ++ file ∷ later
-  off : AllByRecursion (IsOtherFile name) first
-  here : bytes_eq name file.name ≡ true
+pub record Located (name : List ℕ) (files : List File) (file : File) : Type 0 where
+  pub first : List File
+  pub later : List File
+  pub is : files ≡ first ++ file ∷ later
+  pub off : AllByRecursion (IsOtherFile name) first
+  pub here : bytes_eq name file.name ≡ true
 
-located : (name : List ℕ) (files : List File) (file : File) → file_named name files ≡ Some file → Located name files file
+pub located : (name : List ℕ) (files : List File) (file : File) → file_named name files ≡ Some file → Located name files file
 located name [] file found = absurd cc
 located name (one ∷ files) file found = by (bytes_eq name one.name) refl found (located name files file)
   where
@@ -59,7 +59,7 @@ located name (one ∷ files) file found = by (bytes_eq name one.name) refl found
         let more = rest found in
         record { first = one ∷ more.first; later = more.later; is = ap (λ (fs : List File). one ∷ fs) more.is; off = (is, more.off); here = more.here }
 
-none_named : (name : List ℕ) (files : List File) → file_named name files ≡ None → AllByRecursion (IsOtherFile name) files
+pub none_named : (name : List ℕ) (files : List File) → file_named name files ≡ None → AllByRecursion (IsOtherFile name) files
 none_named name [] none = tt
 none_named name (one ∷ files) none = by (bytes_eq name one.name) refl none (none_named name files)
   where
@@ -67,18 +67,18 @@ none_named name (one ∷ files) none = by (bytes_eq name one.name) refl none (no
     by true is none rest = absurd cc
     by false is none rest = (is, rest none)
 
-in_place_at : (name : List ℕ) (new old : File) (first later : List File) → AllByRecursion (IsOtherFile name) first → bytes_eq name old.name ≡ true → in_place name new (first ++ old ∷ later) ≡ first ++ new ∷ later
+pub in_place_at : (name : List ℕ) (new old : File) (first later : List File) → AllByRecursion (IsOtherFile name) first → bytes_eq name old.name ≡ true → in_place name new (first ++ old ∷ later) ≡ first ++ new ∷ later
 in_place_at name new old [] later off here = λ i. cond ((names_flip old.name name ∙ here) i) (new ∷ later) (old ∷ in_place name new later)
 in_place_at name new old (one ∷ first) later off here =
     (λ i. cond ((names_flip one.name name ∙ off.0) i) (new ∷ (first ++ old ∷ later)) (one ∷ in_place name new (first ++ old ∷ later)))
     ∙ ap (λ (files : List File). one ∷ files) (in_place_at name new old first later off.1 here)
 
-all_stay : (name : List ℕ) (files : List File) → AllByRecursion (IsOtherFile name) files → without_file name files ≡ files
+pub all_stay : (name : List ℕ) (files : List File) → AllByRecursion (IsOtherFile name) files → without_file name files ≡ files
 all_stay name [] off = refl
 all_stay name (one ∷ files) off =
     (λ i. cond (not ((names_flip one.name name ∙ off.0) i)) (one ∷ without_file name files) (without_file name files)) ∙ ap (λ (files : List File). one ∷ files) (all_stay name files off.1)
 
-without_at : (name : List ℕ) (old : File) (first later : List File) → AllByRecursion (IsOtherFile name) first → bytes_eq name old.name ≡ true → AllByRecursion (IsOtherFile name) later
+pub without_at : (name : List ℕ) (old : File) (first later : List File) → AllByRecursion (IsOtherFile name) first → bytes_eq name old.name ≡ true → AllByRecursion (IsOtherFile name) later
     → without_file name (first ++ old ∷ later) ≡ first ++ later
 without_at name old [] later off here off_later =
     (λ i. cond (not ((names_flip old.name name ∙ here) i)) (old ∷ without_file name later) (without_file name later)) ∙ all_stay name later off_later
@@ -87,7 +87,7 @@ without_at name old (one ∷ first) later off here off_later =
     ∙ ap (λ (files : List File). one ∷ files) (without_at name old first later off.1 here off_later)
 
 -- names after a file's differ from its own
-later_off : (first later : List File) (file : File) → IsDistinct bytes_eq (map name_of (first ++ file ∷ later)) → AllByRecursion (IsOtherFile file.name) later
+pub later_off : (first later : List File) (file : File) → IsDistinct bytes_eq (map name_of (first ++ file ∷ later)) → AllByRecursion (IsOtherFile file.name) later
 unfolding IsDistinct
 later_off [] later file distinct = all_unmap name_of (λ name. bytes_eq file.name name ≡ false) later distinct.0
 later_off (one ∷ first) later file distinct = later_off first later file distinct.1

@@ -128,7 +128,7 @@ message_held state party setting message given trace before after sound is taken
     (λ file. refl)
 
 -- the party of the link, looked up
-held_after : (state : State) (party : StandingParty) (setting : Setting) (message : Message) (given : Given) (parties : List StandingParty) (trace : List Message) → IsSound state
+pub held_after : (state : State) (party : StandingParty) (setting : Setting) (message : Message) (given : Given) (parties : List StandingParty) (trace : List Message) → IsSound state
     → party_of party.link state.parties ≡ Some party → parties ≡ with_party (with_trace party trace) state.parties
     → message_decision state party setting message ≡ Grants given → takes (regime_stage party.history) message ≡ true
     → IsHeldAfter state party message

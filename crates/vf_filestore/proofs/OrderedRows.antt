@@ -59,13 +59,13 @@ pulled others later docket off =
     ∙ ap (in_order docket) (sym (ordered_append [] others later))
 
 -- where a docket of this number stands in order
-record Placed (number : ℕ) (list : List Docket) : Type 0 where
-  first : List Docket
-  later : List Docket
-  is : list ≡ first ++ later
-  at : (docket : Docket) → number_of_open docket ≡ number → in_order docket list ≡ first ++ docket ∷ later
+pub record Placed (number : ℕ) (list : List Docket) : Type 0 where
+  pub first : List Docket
+  pub later : List Docket
+  pub is : list ≡ first ++ later
+  pub at : (docket : Docket) → number_of_open docket ≡ number → in_order docket list ≡ first ++ docket ∷ later
 
-placed : (number : ℕ) (list : List Docket) → Placed number list
+pub placed : (number : ℕ) (list : List Docket) → Placed number list
 placed number [] = record { first = []; later = []; is = refl; at = λ docket is. refl }
 placed number (other ∷ list) = by (nat_le (number_of_open other) number) refl (placed number list)
   where
@@ -86,7 +86,7 @@ placed number (other ∷ list) = by (nat_le (number_of_open other) number) refl 
     }
 
 -- the highest number stands last
-last_in_order : (docket : Docket) (list : List Docket) → AllByRecursion (λ (other : Docket). number_of_open other < number_of_open docket) list → in_order docket list ≡ list ++ docket ∷ []
+pub last_in_order : (docket : Docket) (list : List Docket) → AllByRecursion (λ (other : Docket). number_of_open other < number_of_open docket) list → in_order docket list ≡ list ++ docket ∷ []
 last_in_order docket [] below = refl
 last_in_order docket (other ∷ list) below =
     let less : number_of_open other < number_of_open docket = below.0 in
@@ -192,7 +192,7 @@ ordered_rows_differ dockets selected distinct =
     (IsDistinct-IsPermutation is_same_key key_flips dockets (ordered [] dockets) (ordered_permutes dockets []) distinct)
 
 -- the rows of others with one between them
-rows_between : (first later : List Docket) (docket : Docket) (row : HasRow docket) → flat_map row_of (first ++ docket ∷ later) ≡ flat_map row_of first ++ row.row ∷ flat_map row_of later
+pub rows_between : (first later : List Docket) (docket : Docket) (row : HasRow docket) → flat_map row_of (first ++ docket ∷ later) ≡ flat_map row_of first ++ row.row ∷ flat_map row_of later
 rows_between first later docket row =
     flat_map-append row_of first (docket ∷ later) ∙ ap (λ (rows : List tables.Docket). flat_map row_of first ++ (rows ++ flat_map row_of later)) row.is
 
