@@ -16,13 +16,13 @@ use Rattle.vf_filestore.specs.Effects.{created, created_where}
 use Rattle.vf_filestore.specs.Holders.{HeldFiles}
 use Rattle.vf_filestore.specs.Selecting.{Wanted, create_by, create_rows, selection_rows, typed_rows}
 use Rattle.vf_filestore.specs.Units.{limited_management}
+use Rattle.vf_filestore.proofs.FileSteps.{changes_added}
 use Rattle.vf_filestore.proofs.Unchanged.{files_themselves}
 use Rattle.vf_regime_refusals.specs.Creating.{creation_by, creation_of, made_of, unless_refused}
 use Rattle.vf_regime_refusals.specs.declared.creating.Creation.{Creation}
 use Rattle.vf_regime_refusals.specs.declared.creating.Creation.TheVariants.{Selected}
 use Rattle.vf_tables.specs.declared.change.Change.{Change}
 use Rattle.vf_party.specs.Creations.{changes_of}
-use Rattle.vf_party.proofs.FileChanges.{changes_added}
 use Rattle.std.specs.Prelude.{nat_eq}
 
 abbrev pub refusal_in : Result (List Change) Diagnostic → Row

@@ -4,19 +4,15 @@ use Rattle.std.proofs.Common.{◌≡◌, ℕ, List, [], ◌∷◌, ◌++◌, fla
 use Rattle.std.specs.List.{IsDistinct}
 use Rattle.std.proofs.lemmas.List.Concat.{flat_map-append}
 use Rattle.vf_attr.specs.declared.file.File.{File}
-use Rattle.vf_elements.specs.declared.message.Message.{Message}
 use Rattle.vf_filestore.specs.Changes.{delta, file_changes, is_same_open}
 use Rattle.vf_filestore.specs.Dockets.{docket_by, docket_left_by}
 use Rattle.vf_filestore.specs.Due.{due_after, next_serial, with_due}
-use Rattle.vf_filestore.specs.History.{Entry, History, Regime, regime}
-use Rattle.vf_filestore.specs.HoldersAfter.{hearing}
+use Rattle.vf_filestore.specs.History.{Entry, History}
 use Rattle.vf_filestore.specs.Sound.{IsSound}
-use Rattle.vf_filestore.specs.State.{Docket, State, StandingParty, activity_in, party_of, with_party}
+use Rattle.vf_filestore.specs.State.{Docket, State, StandingParty, activity_of, party_of, with_party}
 use Rattle.vf_filestore.specs.Tables.{in_order, row_of, tables_of}
 use Rattle.vf_filestore.specs.Transfers.{Transfer, under_way}
-use Rattle.vf_filestore.specs.Transition.{with_message}
-use Rattle.vf_filestore.proofs.Decisions.{left_same}
-use Rattle.vf_filestore.proofs.Parties.{located, found_at, with_at}
+use Rattle.vf_filestore.proofs.Parties.{located, with_at}
 use Rattle.vf_filestore.proofs.Recorded.{rows_apart}
 use Rattle.vf_filestore.proofs.Unchanged.{all_found, dockets_themselves, makes_no_change, no_pieces}
 use Rattle.vf_tables.specs.declared.tables.Tables.{Tables}
@@ -30,6 +26,10 @@ tables_with state all = record {
   tasks = state.tasks;
 }
 
+-- a party with another history
+abbrev pub with_history : History → StandingParty → StandingParty
+with_history history party = record party { history = history }
+
 -- the parties leave the same, if this one does
 pub rows_stay : (parties : List StandingParty) (party next : StandingParty) → party_of party.link parties ≡ Some party → next.link ≡ party.link
     → docket_left_by next ≡ docket_left_by party → flat_map docket_left_by (with_party next parties) ≡ flat_map docket_left_by parties
@@ -40,37 +40,25 @@ rows_stay parties party next found same left =
     ∙ ap (λ (own : List Docket). flat_map docket_left_by at.before ++ (own ++ flat_map docket_left_by at.after)) left
     ∙ sym (flat_map-append docket_left_by at.before (party ∷ at.after)) ∙ sym (ap (flat_map docket_left_by) at.is)
 
--- the party is found that stands in the place of another
-pub found_with : (parties : List StandingParty) (party next : StandingParty) → party_of party.link parties ≡ Some party → next.link ≡ party.link
-    → party_of next.link (with_party next parties) ≡ Some next
-found_with parties party next found same =
-    let at = located party.link parties party found in
-    let now : with_party next parties ≡ at.before ++ next ∷ at.after = ap (with_party next) at.is ∙ with_at party.link at.before at.after party next at.absent refl same in
-    ap (party_of next.link) now ∙ ap (λ link. party_of link (at.before ++ next ∷ at.after)) same ∙ found_at party.link at.before at.after next at.absent same
-
--- with another in its place, once a message has joined its trace, the parties leave the same
-pub tables_stay : (state : State) (party next : StandingParty) (message : Message) → party_of party.link state.parties ≡ Some party → next.link ≡ party.link
-    → docket_left_by next ≡ docket_left_by party
-    → tables_of (record state { parties = with_party next (hearing state party message).parties }) ≡ tables_of state
-tables_stay state party next message found same left =
-    let heard = with_message message party in
-    let here = found_with state.parties party heard found refl in
-    let rows = rows_stay (with_party heard state.parties) heard next here same (left ∙ sym (left_same party (message ∷ party.trace)))
-    ∙ rows_stay state.parties party heard found refl (left_same party (message ∷ party.trace)) in
-    ap (λ (left : List Docket). tables_with state (state.dockets ++ left)) rows
+-- with another history the party leaves the same
+pub tables_stay : (state : State) (party : StandingParty) (history : History) → party_of party.link state.parties ≡ Some party
+    → docket_left_by (with_history history party) ≡ docket_left_by party
+    → tables_of (record state { parties = with_party (with_history history party) state.parties }) ≡ tables_of state
+tables_stay state party history found left =
+    ap (λ (left : List Docket). tables_with state (state.dockets ++ left)) (rows_stay state.parties party (with_history history party) found refl left)
 
 -- and so it is where the message changes files, but for those
-pub tables_filed : (state : State) (party next : StandingParty) (message : Message) (files : List File) → party_of party.link state.parties ≡ Some party
-    → next.link ≡ party.link → docket_left_by next ≡ docket_left_by party
-    → tables_of (record state { files = files; parties = with_party next (hearing state party message).parties }) ≡ record (tables_of state) { files = files }
-tables_filed state party next message files found same left = λ i. record (tables_stay state party next message found same left i) { files = files }
+pub tables_filed : (state : State) (party : StandingParty) (history : History) (files : List File) → party_of party.link state.parties ≡ Some party
+    → docket_left_by (with_history history party) ≡ docket_left_by party
+    → tables_of (record state { files = files; parties = with_party (with_history history party) state.parties }) ≡ record (tables_of state) { files = files }
+tables_filed state party history files found left = λ i. record (tables_stay state party history found left i) { files = files }
 
-abbrev left_in : Option Regime → StandingParty → List Docket
-left_in opened party = docket_by (activity_in opened) party
+abbrev left_in : Option ℕ → StandingParty → List Docket
+left_in activity party = docket_by activity party
 
--- a party without an open regime leaves none
-pub none_left : (party : StandingParty) → regime party.history ≡ None → docket_left_by party ≡ []
-none_left party closed = ap (λ (opened : Option Regime). left_in opened party) closed
+-- a party without a recoverable open leaves none
+pub none_left : (party : StandingParty) → activity_of party ≡ None → docket_left_by party ≡ []
+none_left party closed = ap (λ (activity : Option ℕ). left_in activity party) closed
 
 -- where what is kept stays there is no change
 pub no_change : (tables : Tables) (state after : State) → IsSound state → tables_of state ≡ tables → tables_of after ≡ tables_of state → delta tables (tables_of after) ≡ []

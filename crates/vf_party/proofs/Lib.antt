@@ -5,3 +5,6 @@ pub mod DocketChanges
 pub mod FileChanges
 pub mod Kept
 pub mod Opens
+pub mod OwnDockets
+pub mod Retained
+pub mod Rows

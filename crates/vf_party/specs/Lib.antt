@@ -1,3 +1,5 @@
 pub mod Creations
+pub mod Dockets
+pub mod Files
 pub mod Represents
 pub mod Steps

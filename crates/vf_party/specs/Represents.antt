@@ -1,40 +1,56 @@
--- Which standing parties of the filestore the typed states represent (profile): what a state keeps is what is read off
--- the history, so that one clause speaks of every history that a state may stand after. No group is pending.
-use Rattle.std.specs.Prelude.{◌≡◌, None, Some}
+-- Which links and histories of standing parties the typed states represent (profile): what a state keeps is what is read
+-- off the history, so that one clause speaks of every history that a state may stand after.
+use Rattle.std.specs.Prelude.{◌≡◌, ℕ, None, Some}
 use Rattle.vf_filestore.specs.History as whole
-use Rattle.vf_filestore.specs.History.{association, regime, selection}
-use Rattle.vf_filestore.specs.Stage.{pending}
-use Rattle.vf_filestore.specs.State.{StandingParty}
+use Rattle.vf_filestore.specs.History.{History, association, done, last, position, regime, selection}
 use Rattle.vf_filestore.specs.Transfers.{under_way}
 use Rattle.vf_party.specs.declared.idle.Idle.{Idle}
 use Rattle.vf_party.specs.declared.states.Associated.{Associated}
+use Rattle.vf_party.specs.declared.states.Open.{Open}
+use Rattle.vf_party.specs.declared.states.OpenRegime.{OpenRegime}
 use Rattle.vf_party.specs.declared.states.Selected.{Selected}
 use Rattle.vf_regime_refusals.specs.Asked.{selection_of}
 use Rattle.vf_regime_refusals.specs.declared.association.Association.{Association}
 
-pub record IsIdle (idle : Idle) (party : StandingParty) : Type 0 where
-  pub linked : party.link ≡ idle.link
-  pub associated : association party.history ≡ None
-  pub selected : selection party.history ≡ None
-  pub opened : regime party.history ≡ None
-  pub moved : under_way party.history ≡ None
-  pub alone : pending party.trace ≡ None
+pub record IsIdle (idle : Idle) (link : ℕ) (history : History) : Type 0 where
+  pub linked : link ≡ idle.link
+  pub associated : association history ≡ None
+  pub selected : selection history ≡ None
+  pub opened : regime history ≡ None
+  pub moved : under_way history ≡ None
 
 abbrev pub association_of : Association → whole.Association
 association_of association = record { identity = association.identity; units = association.units; window = association.window }
 
-pub record IsAssociated (associated : Associated) (party : StandingParty) : Type 0 where
-  pub linked : party.link ≡ associated.association.link
-  pub stands : association party.history ≡ Some (association_of associated.association)
-  pub selected : selection party.history ≡ None
-  pub opened : regime party.history ≡ None
-  pub moved : under_way party.history ≡ None
-  pub alone : pending party.trace ≡ None
+pub record IsAssociated (associated : Associated) (link : ℕ) (history : History) : Type 0 where
+  pub linked : link ≡ associated.association.link
+  pub stands : association history ≡ Some (association_of associated.association)
+  pub selected : selection history ≡ None
+  pub opened : regime history ≡ None
+  pub moved : under_way history ≡ None
 
-pub record IsSelected (selected : Selected) (party : StandingParty) : Type 0 where
-  pub linked : party.link ≡ selected.associated.association.link
-  pub associated : association party.history ≡ Some (association_of selected.associated.association)
-  pub stands : selection party.history ≡ Some (selection_of selected.selection)
-  pub opened : regime party.history ≡ None
-  pub moved : under_way party.history ≡ None
-  pub alone : pending party.trace ≡ None
+pub record IsSelected (selected : Selected) (link : ℕ) (history : History) : Type 0 where
+  pub linked : link ≡ selected.associated.association.link
+  pub associated : association history ≡ Some (association_of selected.associated.association)
+  pub stands : selection history ≡ Some (selection_of selected.selection)
+  pub opened : regime history ≡ None
+  pub moved : under_way history ≡ None
+
+-- No code keeps the number of an open regime.
+abbrev pub regime_of : (number : ℕ) → OpenRegime → whole.Regime
+regime_of number regime = record { number = number; mode = regime.mode; controls = regime.controls; activity = regime.activity }
+
+-- an open regime, whether a transfer is under way in it or not
+pub record IsOpened (open : Open) (link : ℕ) (history : History) : Type 0 where
+  pub linked : link ≡ open.selected.associated.association.link
+  pub associated : association history ≡ Some (association_of open.selected.associated.association)
+  pub selected : selection history ≡ Some (selection_of open.selected.selection)
+  pub number : ℕ
+  pub stands : regime history ≡ Some (regime_of number open.regime)
+  pub placed : position history ≡ open.regime.position
+  pub counted : done history ≡ open.regime.done
+  pub ended : last history ≡ open.regime.last
+
+pub record IsOpen (open : Open) (link : ℕ) (history : History) : Type 0 where
+  pub opened : IsOpened open link history
+  pub moved : under_way history ≡ None

@@ -1,7 +1,6 @@
-ghost use Rattle.std.specs.Prelude.{◌≡◌, IfErr, IfOk, min, unwrap_or};
+ghost use Rattle.std.specs.Prelude.{◌≡◌, [], IfErr, IfOk, min, unwrap_or};
 ghost use Rattle.vf_elements.specs.declared.message.Message.TheVariants as messages;
 ghost use Rattle.vf_filestore.specs.History.{guest as guest_name};
-ghost use Rattle.vf_filestore.specs.State.{arrived};
 ghost use Rattle.vf_filestore.specs.Replies.{agreed_window as window_meant};
 ghost use Rattle.vf_filestore.specs.Units.{agreed_units as units_meant};
 ghost use Rattle.vf_party.specs.Represents.{IsAssociated, IsIdle};
@@ -26,7 +25,7 @@ pub struct Idle {
 impl Idle {
     /// The state of a party that has just arrived on a link.
     pub fn new(link: u32) -> Idle
-        ensures { IsIdle result (arrived link) }
+        ensures { IsIdle result link [] }
     {
         Idle { link }
     }

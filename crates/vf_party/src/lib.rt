@@ -6,12 +6,13 @@ mod associated;
 mod attributes;
 mod creating;
 mod deleting;
+mod dockets;
 mod idle;
 mod selected;
 mod states;
 mod step;
 
 pub use idle::Idle;
-pub use states::{Associated, Selected};
+pub use states::{Associated, Open, Selected};
 pub use step::{Step, StepError};
 pub use vf_elements::{Message, Said};

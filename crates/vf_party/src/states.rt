@@ -1,3 +1,5 @@
+use vf_base::Actions;
+use vf_pdu_fields::ContentControls;
 use vf_regime_refusals::{Association, Selection};
 
 /// A party with an association and no selected file.
@@ -11,4 +13,26 @@ pub struct Associated {
 pub struct Selected {
     pub(crate) associated: Associated,
     pub(crate) selection: Selection,
+}
+
+/// A party with an open file, in which no transfer is under way.
+#[derive(Drop)]
+pub struct Open {
+    pub(crate) selected: Selected,
+    pub(crate) regime: OpenRegime,
+}
+
+/// What is kept of an open regime beside its selection (ISO 8571-3, F-OPEN).
+#[derive(Drop)]
+pub(crate) struct OpenRegime {
+    pub(crate) mode: Actions,
+    pub(crate) controls: ContentControls,
+    /// With one the open is recoverable.
+    pub(crate) activity: Option<u32>,
+    /// The position in the file, in units.
+    pub(crate) position: u32,
+    /// How many transfers are concluded, at most 1,000,000.
+    pub(crate) done: u32,
+    /// How the last of them ended: 0, or the number of its diagnostic.
+    pub(crate) last: u16,
 }

@@ -1,20 +1,22 @@
-use Rattle.std.proofs.Common.{◌≡◌, [], ◌∷◌, None, Some, option_map, refl, ap, sym, subst, ◌∙◌}
+use Rattle.std.proofs.Common.{◌≡◌, [], ◌∷◌, None, Some, ap, sym, subst, ◌∙◌}
+use Rattle.vf_elements.specs.Stages.{takes}
 use Rattle.vf_elements.specs.declared.message.Message.TheVariants as messages
 use Rattle.vf_elements.specs.declared.message.Said.TheVariants as answers
 use Rattle.vf_filestore.specs.Aborts.{Setting}
-use Rattle.vf_filestore.specs.Decision.{decision, granted_unless, message_decision}
+use Rattle.vf_filestore.specs.Decision.{granted_unless}
 use Rattle.vf_filestore.specs.Diagnostics.{Row, first_row}
 use Rattle.vf_filestore.specs.History.{Nothing}
 use Rattle.vf_filestore.specs.Selecting.{initialize_rows}
-use Rattle.vf_filestore.specs.Stage.{with_item}
+use Rattle.vf_filestore.specs.Stage.{regime_stage}
+use Rattle.vf_filestore.specs.State.{activity_in}
 use Rattle.vf_pdu.specs.declared.pdu.Pdu.{Pdu}
 use Rattle.vf_pdu.specs.declared.pdu.Pdu.TheVariants.{InitializeRequest, InitializeResponse}
 use Rattle.vf_party.specs.declared.states.Associated.{Associated}
 use Rattle.vf_party.specs.declared.step.Step.{Step}
 use Rattle.vf_party.specs.Represents.{IsAssociated}
-use Rattle.vf_party.specs.Steps.{Concludes, party_by}
+use Rattle.vf_party.specs.Steps.{Concludes, history_by}
 use Rattle.vf_party.proofs.Concluding.{quiet_step}
-use Rattle.vf_party.proofs.Kept.{none_left, tables_stay}
+use Rattle.vf_party.proofs.Kept.{none_left, tables_stay, with_history}
 use Rattle.vf_party.proofs.idle.Idle.initialize.Goals as goal
 use Rattle.vf_tables.specs.declared.tables.Tables.{Tables}
 
@@ -24,10 +26,10 @@ returns-clause-consequence c = λ state party stands represents.
     let setting : Setting = record { moment = c.args.moment; serial = c.args.serial; token = c.args.token; sync = c.args.sync } in
     let made : Associated = record { association = record { link = c.args.self.link; identity = c.in-Ok.identity; units = c.agreed_units-units.result; window = c.agreed_window-window.result } } in
     let step : Step Associated = record { state = made; said = c.in-Ok-one_said.said; changes = c.new.result } in
-    let next = party_by state party setting (messages.Pdu request) Nothing in
+    let next = history_by state party setting (messages.Pdu request) Nothing in
     let tables = c.args.tables.now in
-    subst (λ (r : Pdu). decision state party setting (messages.Pdu r) ≡ message_decision state party setting (messages.Pdu r) → Concludes IsAssociated tables c.args.locks.now state party setting (messages.Pdu r) step) (sym c.in-InitializeRequest.is)
-    (λ asked. quiet_step IsAssociated tables c.args.locks.now c.args.locks.now state party setting (messages.Pdu request) Nothing step stands asked
+    subst (λ (r : Pdu). takes (regime_stage party.history) (messages.Pdu r) ≡ true → Concludes IsAssociated tables c.args.locks.now state party setting (messages.Pdu r) step) (sym c.in-InitializeRequest.is)
+    (λ taken. quiet_step IsAssociated tables c.args.locks.now c.args.locks.now state party setting (messages.Pdu request) Nothing step stands taken
     (ap (λ (row : Row). granted_unless row Nothing)
     ((λ i. first_row (initialize_rows (ap (λ (t : Tables). t.users) stands.kept i) (sym c.in-Ok.ensures i) (sym c.as_ref.ensures.value i))) ∙ sym c.in_default-refused_initialize.ensures))
     (c.in-Ok-one_said.ensures ∙ (λ i. answers.Pdu (InitializeResponse None (c.agreed_units-units.ensures i) (c.agreed_window-window.ensures i)) ∷ []))
@@ -38,8 +40,7 @@ returns-clause-consequence c = λ state party stands represents.
       selected = represents.selected;
       opened = represents.opened;
       moved = represents.moved;
-      alone = ap (option_map (with_item request)) represents.alone;
     })
     c.new.ensures
-    (tables_stay state party next (messages.Pdu request) stands.stands refl (none_left next represents.opened ∙ sym (none_left party represents.opened)))
+    (tables_stay state party next stands.stands (none_left (with_history next party) (ap activity_in represents.opened) ∙ sym (none_left party (ap activity_in represents.opened))))
     (λ held file. stands.held file ∙ sym (held file)))

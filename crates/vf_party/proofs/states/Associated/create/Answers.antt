@@ -1,5 +1,6 @@
-use Rattle.std.proofs.Common.{◌≡◌, ℕ, List, ◌∷◌, Some, option_map, refl, ap, sym, subst, ◌∙◌}
+use Rattle.std.proofs.Common.{◌≡◌, ℕ, List, ◌∷◌, Some, refl, ap, sym, subst, ◌∙◌}
 use Rattle.vf_base.specs.declared.action.Controls.{Controls}
+use Rattle.vf_elements.specs.Stages.{takes}
 use Rattle.vf_elements.specs.declared.message.Message.TheVariants as messages
 use Rattle.vf_files.specs.Files.{file_named}
 use Rattle.vf_files.specs.Rows.{unit_row}
@@ -7,13 +8,14 @@ use Rattle.vf_files.specs.declared.creation.NewFile.{NewFile}
 use Rattle.vf_filestore.specs.Aborts.{Setting}
 use Rattle.vf_filestore.specs.Changes.{file_changes}
 use Rattle.vf_filestore.specs.Controls.{attribute_controls, joined, not_opened}
-use Rattle.vf_filestore.specs.Decision.{Refuses, decision, granted_unless, made_unless, message_decision}
+use Rattle.vf_filestore.specs.Decision.{Refuses, granted_unless, made_unless, message_decision}
 use Rattle.vf_filestore.specs.Diagnostics.{Row, first_row}
 use Rattle.vf_filestore.specs.Effects.{created_where}
 use Rattle.vf_filestore.specs.Ending.{stamp_of}
+use Rattle.vf_filestore.specs.HoldersAfter.{concluded_by}
 use Rattle.vf_filestore.specs.Selecting.{Wanted, create_rows}
-use Rattle.vf_filestore.specs.Stage.{with_item}
-use Rattle.vf_filestore.specs.State.{identity_in, units_in}
+use Rattle.vf_filestore.specs.Stage.{regime_stage}
+use Rattle.vf_filestore.specs.State.{identity_in, units_in, activity_in}
 use Rattle.vf_filestore.specs.Units.{limited_management}
 use Rattle.vf_filestore.proofs.HeldCalls.{calls_follow}
 use Rattle.vf_locks.specs.Holders.{granted}
@@ -27,14 +29,14 @@ use Rattle.vf_party.specs.declared.states.Selected.{Selected}
 use Rattle.vf_party.specs.declared.step.Step.{Step}
 use Rattle.vf_party.specs.Creations.{changes_of}
 use Rattle.vf_party.specs.Represents.{IsSelected}
-use Rattle.vf_party.specs.Steps.{Concludes, party_by, state_by}
+use Rattle.vf_party.specs.Steps.{Concludes, history_by}
 use Rattle.vf_party.proofs.Concluding.{filed_step, found_is}
 use Rattle.vf_party.proofs.Creations.{changes_are, made_in, refusal_in, refusal_is}
-use Rattle.vf_party.proofs.Kept.{none_left, tables_filed}
+use Rattle.vf_party.proofs.Kept.{none_left, tables_filed, with_history}
 use Rattle.vf_party.proofs.states.Associated.create.Goals as goal
 
 pub returns-in-Err-clause-consequence : goal.returns-in-Err-clause-consequence
-returns-in-Err-clause-consequence c = λ state party stands represents asked.
+returns-in-Err-clause-consequence c = λ state party stands represents taken.
     let asks = c.in-CreateRequest in
     let setting : Setting = record { moment = c.args.moment; serial = c.args.serial; token = c.args.token; sync = c.args.sync } in
     let request = CreateRequest asks.over asks.name asks.contents asks.permitted asks.terms asks.requested asks.controls asks.password in
@@ -67,8 +69,8 @@ returns-clause-consequence c = λ state party stands represents.
     let made : Selected = record { associated = c.args.self; selection = selection } in
     let step : Step Selected = record { state = made; said = c.in-Ok-one_said.said; changes = c.in-Ok-made.changes } in
     let given = made_unless (file_named name state.files) in
-    let next = party_by state party setting message given in
-    let after = state_by state party setting message given in
+    let next = history_by state party setting message given in
+    let after = concluded_by state party setting message given in
     let tables = c.args.tables.now in
     let old = c.args.locks.now in
     let new = c.grant.new.self in
@@ -83,8 +85,8 @@ returns-clause-consequence c = λ state party stands represents.
     subst (λ (file : List ℕ). IsWith file (granted (Party party.link) controls (held file old)) old new) c.in-Ok.ensures
     (subst (λ (link : ℕ). IsWith c.in-Ok.file (granted (Party link) controls (held c.in-Ok.file old)) old new) (sym represents.linked)
     (subst (λ (all : Controls). IsWith c.in-Ok.file (granted (Party association.link) all (held c.in-Ok.file old)) old new) wanted c.in-Ok-grant.ensures.ok)) in
-    subst (λ (r : Pdu). decision state party setting (messages.Pdu r) ≡ message_decision state party setting (messages.Pdu r) → Concludes IsSelected tables new state party setting (messages.Pdu r) step) (sym asks.is)
-    (λ asked. filed_step IsSelected tables old new state party setting message given files step stands asked
+    subst (λ (r : Pdu). takes (regime_stage party.history) (messages.Pdu r) ≡ true → Concludes IsSelected tables new state party setting (messages.Pdu r) step) (sym asks.is)
+    (λ taken. filed_step IsSelected tables old new state party setting message given files step stands taken
     (ap (λ (row : Row). granted_unless row given)
     ((λ i. first_row (unit_row (units_in (represents.stands i)) limited_management
     ∷ create_rows (found_is tables old state party stands i) (record { link = represents.linked i; identity = identity_in (represents.stands i); password = asks.password; requested = requested; controls = sym c.attribute_controls.ensures i }) asks.over (record { moment = c.args.moment; identity = identity_in (represents.stands i) }) new_file))
@@ -96,9 +98,8 @@ returns-clause-consequence c = λ state party stands represents.
       stands = λ i. Some (record { file = sym c.in-Ok.ensures i; requested = requested; controls = sym c.attribute_controls.ensures i; password = asks.password });
       opened = represents.opened;
       moved = represents.moved;
-      alone = ap (option_map (with_item request)) represents.alone;
     })
     (ap made_in (sym c.in-Ok-made.is ∙ comes) ∙ changes_are found wanted_is asks.over stamp new_file association.units free
     ∙ (λ i. file_changes tables.files (created_where (made_unless (file_named name (sym stands.kept i).files)) new_file (record { moment = c.args.moment; identity = identity_in (sym represents.stands i) }) (sym stands.kept i).files)))
-    (tables_filed state party next message files stands.stands refl (none_left next represents.opened ∙ sym (none_left party represents.opened)))
+    (tables_filed state party next files stands.stands (none_left (with_history next party) (ap activity_in represents.opened) ∙ sym (none_left party (ap activity_in represents.opened))))
     (λ after_held. calls_follow old new state after name (granted (Party party.link) controls) stands.held with_controls after_held))

@@ -1,14 +1,16 @@
-use Rattle.std.proofs.Common.{◌≡◌, ℕ, Some, option_map, refl, ap, sym, subst, ◌∙◌}
+use Rattle.std.proofs.Common.{◌≡◌, ℕ, Some, ap, sym, subst, ◌∙◌}
 use Rattle.vf_base.specs.declared.action.Controls.{Controls}
+use Rattle.vf_elements.specs.Stages.{takes}
 use Rattle.vf_elements.specs.declared.message.Message.TheVariants as messages
 use Rattle.vf_filestore.specs.Aborts.{Setting}
 use Rattle.vf_filestore.specs.Controls.{attribute_controls, joined, not_opened}
-use Rattle.vf_filestore.specs.Decision.{decision, granted_unless, message_decision}
+use Rattle.vf_filestore.specs.Decision.{granted_unless}
 use Rattle.vf_filestore.specs.Diagnostics.{Row, first_row}
 use Rattle.vf_filestore.specs.History.{Nothing}
+use Rattle.vf_filestore.specs.HoldersAfter.{concluded_by}
 use Rattle.vf_filestore.specs.Selecting.{select_rows}
-use Rattle.vf_filestore.specs.Stage.{with_item}
-use Rattle.vf_filestore.specs.State.{identity_in}
+use Rattle.vf_filestore.specs.Stage.{regime_stage}
+use Rattle.vf_filestore.specs.State.{identity_in, activity_in}
 use Rattle.vf_filestore.proofs.HeldCalls.{calls_follow}
 use Rattle.vf_locks.specs.Holders.{granted}
 use Rattle.vf_locks.specs.Table.{IsWith, held}
@@ -19,9 +21,9 @@ use Rattle.vf_regime_refusals.specs.declared.association.Selection.{Selection}
 use Rattle.vf_party.specs.declared.states.Selected.{Selected}
 use Rattle.vf_party.specs.declared.step.Step.{Step}
 use Rattle.vf_party.specs.Represents.{IsSelected}
-use Rattle.vf_party.specs.Steps.{Concludes, party_by, state_by}
+use Rattle.vf_party.specs.Steps.{Concludes, history_by}
 use Rattle.vf_party.proofs.Concluding.{found_is, quiet_step}
-use Rattle.vf_party.proofs.Kept.{none_left, tables_stay}
+use Rattle.vf_party.proofs.Kept.{none_left, tables_stay, with_history}
 use Rattle.vf_party.proofs.states.Associated.select.Goals as goal
 
 pub returns-clause-consequence : goal.returns-clause-consequence
@@ -34,8 +36,8 @@ returns-clause-consequence c = λ state party stands represents.
     let selection : Selection = record { file = name; requested = requested; controls = c.attribute_controls.result; password = c.in-SelectRequest.password } in
     let made : Selected = record { associated = c.args.self; selection = selection } in
     let step : Step Selected = record { state = made; said = c.in-Ok-one_said.said; changes = c.new.result } in
-    let next = party_by state party setting message Nothing in
-    let after = state_by state party setting message Nothing in
+    let next = history_by state party setting message Nothing in
+    let after = concluded_by state party setting message Nothing in
     let tables = c.args.tables.now in
     let old = c.args.locks.now in
     let new = c.grant.new.self in
@@ -44,8 +46,8 @@ returns-clause-consequence c = λ state party stands represents.
     let with_controls : IsWith name (granted (Party party.link) controls (held name old)) old new =
     subst (λ (link : ℕ). IsWith name (granted (Party link) controls (held name old)) old new) (sym represents.linked)
     (subst (λ (all : Controls). IsWith name (granted (Party c.args.self.association.link) all (held name old)) old new) wanted c.in-Ok-grant.ensures.ok) in
-    subst (λ (r : Pdu). decision state party setting (messages.Pdu r) ≡ message_decision state party setting (messages.Pdu r) → Concludes IsSelected tables new state party setting (messages.Pdu r) step) (sym c.in-SelectRequest.is)
-    (λ asked. quiet_step IsSelected tables old new state party setting message Nothing step stands asked
+    subst (λ (r : Pdu). takes (regime_stage party.history) (messages.Pdu r) ≡ true → Concludes IsSelected tables new state party setting (messages.Pdu r) step) (sym c.in-SelectRequest.is)
+    (λ taken. quiet_step IsSelected tables old new state party setting message Nothing step stands taken
     (ap (λ (row : Row). granted_unless row Nothing)
     ((λ i. first_row (select_rows (found_is tables old state party stands i) (record { link = represents.linked i; identity = identity_in (represents.stands i); password = c.in-SelectRequest.password; requested = requested; controls = sym c.attribute_controls.ensures i }) name)) ∙ sym c.in-Ok.ensures ∙ c.in_default-refused.is))
     c.in-Ok-one_said.ensures represents.moved
@@ -55,8 +57,7 @@ returns-clause-consequence c = λ state party stands represents.
       stands = λ i. Some (record { file = name; requested = requested; controls = sym c.attribute_controls.ensures i; password = c.in-SelectRequest.password });
       opened = represents.opened;
       moved = represents.moved;
-      alone = ap (option_map (with_item request)) represents.alone;
     })
     c.new.ensures
-    (tables_stay state party next message stands.stands refl (none_left next represents.opened ∙ sym (none_left party represents.opened)))
+    (tables_stay state party next stands.stands (none_left (with_history next party) (ap activity_in represents.opened) ∙ sym (none_left party (ap activity_in represents.opened))))
     (λ after_held. calls_follow old new state after name (granted (Party party.link) controls) stands.held with_controls after_held))

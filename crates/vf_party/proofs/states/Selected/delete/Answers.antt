@@ -1,18 +1,19 @@
-use Rattle.std.proofs.Common.{◌≡◌, ℕ, [], ◌∷◌, Option, option_map, refl, ap, sym, subst, ◌∙◌}
+use Rattle.std.proofs.Common.{◌≡◌, ℕ, [], ◌∷◌, Option, refl, ap, sym, subst, ◌∙◌}
 use Rattle.std.specs.Prelude.{IfSome}
+use Rattle.vf_elements.specs.Stages.{takes}
 use Rattle.vf_elements.specs.declared.message.Message.TheVariants as messages
 use Rattle.vf_files.specs.Rows.{unit_row}
 use Rattle.vf_filestore.specs.Aborts.{Setting}
 use Rattle.vf_filestore.specs.Changes.{file_changes}
-use Rattle.vf_filestore.specs.Decision.{decision, granted_unless, message_decision}
+use Rattle.vf_filestore.specs.Decision.{granted_unless}
 use Rattle.vf_filestore.specs.Diagnostics.{Row, first_row}
 use Rattle.vf_filestore.specs.Effects.{without_file}
 use Rattle.vf_filestore.specs.History.{Nothing, Selection}
-use Rattle.vf_filestore.specs.HoldersAfter.{IsDeselected}
+use Rattle.vf_filestore.specs.HoldersAfter.{IsDeselected, concluded_by}
 use Rattle.vf_filestore.specs.Selecting.{delete_rows}
 use Rattle.vf_filestore.specs.Sound.{IsThere}
-use Rattle.vf_filestore.specs.Stage.{with_item}
-use Rattle.vf_filestore.specs.State.{file_in, name_in, units_in}
+use Rattle.vf_filestore.specs.Stage.{regime_stage}
+use Rattle.vf_filestore.specs.State.{file_in, name_in, units_in, activity_in}
 use Rattle.vf_filestore.specs.Units.{limited_management}
 use Rattle.vf_filestore.proofs.Decisions.{party_sound}
 use Rattle.vf_filestore.proofs.HeldCalls.{calls_follow}
@@ -25,10 +26,10 @@ use Rattle.vf_tables.specs.declared.change.Change.TheVariants.{DropFile}
 use Rattle.vf_party.specs.declared.states.Associated.{Associated}
 use Rattle.vf_party.specs.declared.step.Step.{Step}
 use Rattle.vf_party.specs.Represents.{IsAssociated}
-use Rattle.vf_party.specs.Steps.{Concludes, party_by, state_by}
+use Rattle.vf_party.specs.Steps.{Concludes, history_by}
 use Rattle.vf_party.proofs.Concluding.{filed_step, found_is}
 use Rattle.vf_party.proofs.FileChanges.{changes_dropped}
-use Rattle.vf_party.proofs.Kept.{none_left, tables_filed}
+use Rattle.vf_party.proofs.Kept.{none_left, tables_filed, with_history}
 use Rattle.vf_party.proofs.states.Selected.delete.Goals as goal
 
 pub returns-clause-consequence : goal.returns-clause-consequence
@@ -36,8 +37,8 @@ returns-clause-consequence c = λ state party stands represents.
     let setting : Setting = record { moment = c.args.moment; serial = c.args.serial; token = c.args.token; sync = c.args.sync } in
     let step : Step Associated = record { state = c.args.self.associated; said = c.in-Ok.said; changes = c.in-Ok-one_change.changes } in
     let message = messages.Pdu DeleteRequest in
-    let next = party_by state party setting message Nothing in
-    let after = state_by state party setting message Nothing in
+    let next = history_by state party setting message Nothing in
+    let after = concluded_by state party setting message Nothing in
     let tables = c.args.tables.now in
     let old = c.args.locks.now in
     let new = c.release.new.self in
@@ -47,8 +48,8 @@ returns-clause-consequence c = λ state party stands represents.
     = subst (λ (one : Option Selection). IfSome one (IsThere state.files)) represents.stands (party_sound state party.link party stands.sound stands.stands).sound.there in
     let released : IsWith file (others (Party party.link) (held file old)) old new =
     subst (λ (link : ℕ). IsWith file (others (Party link) (held file old)) old new) (sym represents.linked) c.release.ensures in
-    subst (λ (r : Pdu). decision state party setting (messages.Pdu r) ≡ message_decision state party setting (messages.Pdu r) → Concludes IsAssociated tables new state party setting (messages.Pdu r) step) (sym c.in-DeleteRequest.is)
-    (λ asked. filed_step IsAssociated tables old new state party setting message Nothing left step stands asked
+    subst (λ (r : Pdu). takes (regime_stage party.history) (messages.Pdu r) ≡ true → Concludes IsAssociated tables new state party setting (messages.Pdu r) step) (sym c.in-DeleteRequest.is)
+    (λ taken. filed_step IsAssociated tables old new state party setting message Nothing left step stands taken
     (ap (λ (row : Row). granted_unless row Nothing)
     ((λ i. first_row (unit_row (units_in (represents.associated i)) limited_management ∷ delete_rows (found_is tables old state party stands i) (represents.linked i) (represents.stands i))) ∙ sym c.in_default-refused_delete.ensures))
     c.in-Ok.ensures represents.moved
@@ -58,10 +59,9 @@ returns-clause-consequence c = λ state party stands represents.
       selected = refl;
       opened = represents.opened;
       moved = represents.moved;
-      alone = ap (option_map (with_item DeleteRequest)) represents.alone;
     })
     (c.in-Ok-one_change.ensures ∙ (λ i. DropFile (c.in-Ok-copy.ensures i) ∷ []) ∙ sym (changes_dropped file state.files stands.sound.filed there)
     ∙ (λ i. file_changes (stands.kept i).files (without_file (file_in (sym represents.stands i)) state.files)))
-    (tables_filed state party next message left stands.stands refl (none_left next represents.opened ∙ sym (none_left party represents.opened)))
+    (tables_filed state party next left stands.stands (none_left (with_history next party) (ap activity_in represents.opened) ∙ sym (none_left party (ap activity_in represents.opened))))
     (λ after_held. calls_follow old new state after file (others (Party party.link)) stands.held released
     (subst (λ (one : Option Selection). IsDeselected party.link one state after) represents.stands after_held)))

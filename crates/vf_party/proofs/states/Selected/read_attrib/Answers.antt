@@ -1,25 +1,26 @@
-use Rattle.std.proofs.Common.{◌≡◌, [], ◌∷◌, None, option_map, refl, ap, sym, subst, ◌∙◌}
+use Rattle.std.proofs.Common.{◌≡◌, [], ◌∷◌, None, option_map, ap, sym, subst, ◌∙◌}
+use Rattle.vf_elements.specs.Stages.{takes}
 use Rattle.vf_elements.specs.declared.message.Message.TheVariants as messages
 use Rattle.vf_elements.specs.declared.message.Said.TheVariants as answers
 use Rattle.vf_files.specs.Files.{file_named}
 use Rattle.vf_files.specs.Rows.{unit_row}
 use Rattle.vf_filestore.specs.Aborts.{Setting}
-use Rattle.vf_filestore.specs.Decision.{decision, granted_unless, message_decision}
+use Rattle.vf_filestore.specs.Decision.{granted_unless}
 use Rattle.vf_filestore.specs.Diagnostics.{Row, first_row}
 use Rattle.vf_filestore.specs.History.{Nothing}
 use Rattle.vf_filestore.specs.Replies.{attributes_of}
 use Rattle.vf_filestore.specs.Selecting.{read_attrib_rows}
-use Rattle.vf_filestore.specs.Stage.{with_item}
-use Rattle.vf_filestore.specs.State.{file_in, units_in}
+use Rattle.vf_filestore.specs.Stage.{regime_stage}
+use Rattle.vf_filestore.specs.State.{file_in, units_in, activity_in}
 use Rattle.vf_filestore.specs.Units.{limited_management}
 use Rattle.vf_pdu.specs.declared.pdu.Pdu.{Pdu}
 use Rattle.vf_pdu.specs.declared.pdu.Pdu.TheVariants.{ReadAttribRequest, ReadAttribResponse}
 use Rattle.vf_party.specs.declared.states.Selected.{Selected}
 use Rattle.vf_party.specs.declared.step.Step.{Step}
 use Rattle.vf_party.specs.Represents.{IsSelected}
-use Rattle.vf_party.specs.Steps.{Concludes, party_by}
+use Rattle.vf_party.specs.Steps.{Concludes, history_by}
 use Rattle.vf_party.proofs.Concluding.{quiet_step}
-use Rattle.vf_party.proofs.Kept.{none_left, tables_stay}
+use Rattle.vf_party.proofs.Kept.{none_left, tables_stay, with_history}
 use Rattle.vf_party.proofs.states.Selected.read_attrib.Goals as goal
 
 pub returns-clause-consequence : goal.returns-clause-consequence
@@ -28,10 +29,10 @@ returns-clause-consequence c = λ state party stands represents.
     let request = ReadAttribRequest names in
     let setting : Setting = record { moment = c.args.moment; serial = c.args.serial; token = c.args.token; sync = c.args.sync } in
     let step : Step Selected = record { state = c.args.self; said = c.in-Ok-one_said.said; changes = c.new.result } in
-    let next = party_by state party setting (messages.Pdu request) Nothing in
+    let next = history_by state party setting (messages.Pdu request) Nothing in
     let tables = c.args.tables.now in
-    subst (λ (r : Pdu). decision state party setting (messages.Pdu r) ≡ message_decision state party setting (messages.Pdu r) → Concludes IsSelected tables c.args.locks.now state party setting (messages.Pdu r) step) (sym c.in-ReadAttribRequest.is)
-    (λ asked. quiet_step IsSelected tables c.args.locks.now c.args.locks.now state party setting (messages.Pdu request) Nothing step stands asked
+    subst (λ (r : Pdu). takes (regime_stage party.history) (messages.Pdu r) ≡ true → Concludes IsSelected tables c.args.locks.now state party setting (messages.Pdu r) step) (sym c.in-ReadAttribRequest.is)
+    (λ taken. quiet_step IsSelected tables c.args.locks.now c.args.locks.now state party setting (messages.Pdu request) Nothing step stands taken
     (ap (λ (row : Row). granted_unless row Nothing)
     ((λ i. first_row (unit_row (units_in (represents.associated i)) limited_management ∷ read_attrib_rows (represents.stands i) names)) ∙ sym c.in_default-refused_read_attrib.ensures))
     (c.in-Ok-one_said.ensures
@@ -44,8 +45,7 @@ returns-clause-consequence c = λ state party stands represents.
       stands = represents.stands;
       opened = represents.opened;
       moved = represents.moved;
-      alone = ap (option_map (with_item request)) represents.alone;
     })
     c.new.ensures
-    (tables_stay state party next (messages.Pdu request) stands.stands refl (none_left next represents.opened ∙ sym (none_left party represents.opened)))
+    (tables_stay state party next stands.stands (none_left (with_history next party) (ap activity_in represents.opened) ∙ sym (none_left party (ap activity_in represents.opened))))
     (λ held file. stands.held file ∙ sym (held file)))
