@@ -1,12 +1,15 @@
 //! The docket of a recoverable open, as the store keeps it while the open stands (ISO 8571-3, docket; profile).
-ghost use Rattle.std.specs.Prelude.{◌≡◌, IfOk};
-ghost use Rattle.vf_party.specs.Dockets.{fields_of as fields_meant, fields_with as fields_with_meant, no_transfer};
+ghost use Rattle.std.specs.Prelude.{◌≡◌, [], IfOk};
+ghost use Rattle.vf_filestore.specs.Changes.{is_same_regime, is_same_setting, is_same_transfer};
+ghost use Rattle.vf_party.specs.Dockets.{docket_with, fields_of as fields_meant, fields_with as fields_with_meant, no_transfer, own_changes};
 
 use crate::Open;
+use crate::files::is_same_octets;
+use crate::step::one_change;
 use std::alloc::Global;
 use vf_base::{FaduId, NoMemory, copy_option};
 use vf_regime_refusals::joined;
-use vf_tables::{Direction, Regime};
+use vf_tables::{Change, Changes, Direction, Regime};
 
 /// What a docket has of the transfer that is under way in its open; where there is none, each field is as `none` has it.
 #[derive(Clone, Copy, Debug, PartialEq, Eq)]
@@ -85,4 +88,55 @@ fn fields_with(
         ended: false,
         version: moving.version,
     })
+}
+
+/// The changes by which a docket has these fields in the place of those before, where it has others; its pieces stay.
+pub(crate) fn field_changes(
+    alloc: Global,
+    before: Option<Regime>,
+    after: Option<Regime>,
+) -> Result<Changes, NoMemory>
+    ensures { IfOk result (λ changes. changes ≡ own_changes (docket_with before []) (docket_with after [])) }
+{
+    let (Some(before), Some(after)) = (before, after) else {
+        return Ok(Changes::new(alloc));
+    };
+    if is_same(&before, &after) {
+        return Ok(Changes::new(alloc));
+    }
+    let changes = one_change(alloc, Change::PutDocket { regime: after })?;
+    Ok(changes)
+}
+
+fn is_same(one: &Regime, other: &Regime) -> bool
+    ensures { result ≡ is_same_regime one.now other.now }
+{
+    has_same_setting(one, other) && has_same_transfer(one, other)
+}
+
+fn has_same_setting(one: &Regime, other: &Regime) -> bool
+    ensures { result ≡ is_same_setting one.now other.now }
+{
+    one.identity == other.identity
+        && one.activity == other.activity
+        && one.file == other.file
+        && one.requested == other.requested
+        && one.controls == other.controls
+        && one.mode == other.mode
+        && is_same_octets(&one.password, &other.password)
+        && one.window == other.window
+}
+
+fn has_same_transfer(one: &Regime, other: &Regime) -> bool
+    ensures { result ≡ is_same_transfer one.now other.now }
+{
+    one.position == other.position
+        && one.number == other.number
+        && one.last == other.last
+        && one.direction == other.direction
+        && one.fadu == other.fadu
+        && one.refused == other.refused
+        && one.point == other.point
+        && one.ended == other.ended
+        && one.version == other.version
 }
