@@ -14,7 +14,7 @@ use Rattle.vf_filestore.proofs.Decisions.{party_sound}
 use Rattle.vf_filestore.proofs.DocketSteps.{IsOtherDocket, all_pieces, changes_changed, others, skip}
 use Rattle.vf_filestore.proofs.DocketsMoved.{AreApart, all_between, apart, docket_for, later_other, left_is}
 use Rattle.vf_filestore.proofs.Kept.{IsOtherNumber, left_number, ordered}
-use Rattle.vf_filestore.proofs.Lists.{all_left, all_right, all_weaker, flat_map-append}
+use Rattle.vf_filestore.proofs.Lists.{all_left, all_right, all_weaker}
 use Rattle.vf_filestore.proofs.Meant.{find_at}
 use Rattle.vf_filestore.proofs.Nested.{nests}
 use Rattle.vf_filestore.proofs.OrderedRows.{IsSelected, has_row, placed, pulled, rows_between}
@@ -27,17 +27,17 @@ use Rattle.vf_party.proofs.Kept.{files_change, none_left, tables_filed, with_his
 use Rattle.vf_party.proofs.Retained.{rows_left}
 use Rattle.vf_tables.specs.Entries.{is_docket}
 use Rattle.vf_tables.specs.declared.change.Change.{Change}
-use Rattle.vf_tables.specs.declared.docket.Docket as tables
+use Rattle.vf_tables.specs.declared.docket.Docket as rows
 use Rattle.vf_tables.specs.declared.tables.Tables.{Tables}
 
 -- one row of others is another of the same open
-row_changed : (first later : List tables.Docket) (old new : tables.Docket) → IsDistinct is_same_open (first ++ old ∷ later)
+row_changed : (first later : List rows.Docket) (old new : rows.Docket) → IsDistinct is_same_open (first ++ old ∷ later)
     → new.regime.identity ≡ old.regime.identity → new.regime.activity ≡ old.regime.activity
     → all_docket_changes (first ++ old ∷ later) (first ++ new ∷ later) ++ all_piece_changes (first ++ old ∷ later) (first ++ new ∷ later) ≡ own_changes (old ∷ []) (new ∷ [])
 row_changed first later old new distinct identity activity =
     let all = first ++ old ∷ later in
     let found = all_found all distinct in
-    let like : (other : tables.Docket) → is_same_open new other ≡ is_same_open old other = λ other i. is_docket (identity i) (activity i) other in
+    let like : (other : rows.Docket) → is_same_open new other ≡ is_same_open old other = λ other i. is_docket (identity i) (activity i) other in
     let here : is_same_open new old ≡ true = like old ∙ open_itself old in
     let off = all_weaker (IsOtherDocket old) (IsOtherDocket new) first (λ other off. like other ∙ off) (others first later old distinct) in
     λ i. (skip first (old ∷ later) (new ∷ later) ∙ changes_changed old new later (open_flips old new ∙ here)) i
@@ -88,7 +88,7 @@ module _ (tables : Tables) (state : State) (party : StandingParty) (history : Hi
       = ap (λ (all : List Docket). flat_map row_of (ordered [] all)) all_was ∙ ap (flat_map row_of) (pulled first last old off ∙ spot.at old refl) ∙ rows_between spot.first spot.later old row_old in
       let dockets_is : (tables_of after).dockets ≡ rows_first ++ row_new.row ∷ rows_later
       = ap (λ (all : List Docket). flat_map row_of (ordered [] all)) all_is ∙ ap (flat_map row_of) (pulled first last new off_new ∙ spot.at new number) ∙ rows_between spot.first spot.later new row_new in
-      let changed = row_changed rows_first rows_later row_old.row row_new.row (subst (λ (rows : List tables.Docket). IsDistinct is_same_open rows) dockets_was (rows_apart state sound))
+      let changed = row_changed rows_first rows_later row_old.row row_new.row (subst (λ (rows : List rows.Docket). IsDistinct is_same_open rows) dockets_was (rows_apart state sound))
       (row_new.identity ∙ ap identity_in associated ∙ sym row_old.identity) (row_new.activity ∙ sym row_old.activity) in
       let left_was : rows_left party ≡ row_old.row ∷ [] = ap (flat_map row_of) (left_is party activity is) ∙ append-nil (row_of old) ∙ row_old.is in
       let left_is_now : rows_left next ≡ row_new.row ∷ [] = ap (flat_map row_of) (left_is next activity opened_after) ∙ append-nil (row_of new) ∙ row_new.is in

@@ -7,10 +7,12 @@ use Rattle.vf_elements.specs.Stages.{takes}
 use Rattle.vf_elements.specs.declared.message.Message.{Message}
 use Rattle.vf_elements.specs.declared.message.Message.TheVariants as messages
 use Rattle.vf_elements.specs.declared.message.Said.{Said}
+use Rattle.vf_elements.specs.declared.stage.Stage.{Stage}
+use Rattle.vf_elements.specs.declared.stage.Stage.TheVariants as stages
 use Rattle.vf_filestore.specs.Dockets.{docket_left_by, retained, secured, secures, since_selection}
 use Rattle.vf_filestore.specs.Dockets.{selects as is_selection}
 use Rattle.vf_filestore.specs.History.{Entry, Given, History, Regime, Selection, concluding, counting, done, last, opening, placing, position, regime, selection}
-use Rattle.vf_filestore.specs.Sound.{IsNested, IsPlaced}
+use Rattle.vf_filestore.specs.Sound.{IsNested, IsPlaced, stage_within}
 use Rattle.vf_filestore.specs.Stage.{regime_stage}
 use Rattle.vf_filestore.specs.State.{Docket, StandingParty, activity_of, identity_of}
 use Rattle.vf_filestore.specs.Tables.{regime_by, row_in, row_of, staged_by}
@@ -28,13 +30,25 @@ use Rattle.vf_transfer.specs.Transfer as transfer
 
 -- ---- an entry more
 
+-- every stage takes the end of its connection
+break_taken : (stage : Stage) → takes stage messages.Break ≡ true
+break_taken stages.Idle = refl
+break_taken stages.Associated = refl
+break_taken stages.Selected = refl
+break_taken stages.Opened = refl
+break_taken stages.Reading = refl
+break_taken stages.Shown = refl
+break_taken stages.Writing = refl
+break_taken stages.Written = refl
+break_taken stages.Grouping = refl
+
 pub placed_message : (history : History) (message : Message) → takes (regime_stage history) message ≡ true → IsPlaced history message
 placed_message history (messages.Pdu request) taken = placed_request history request taken
 placed_message history (messages.Element element) taken = within_stage history (messages.Element element) refl taken
 placed_message history messages.Check taken = within_stage history messages.Check refl taken
 placed_message history (messages.Acknowledge point) taken = within_stage history (messages.Acknowledge point) refl taken
 placed_message history (messages.Restart point) taken = within_stage history (messages.Restart point) refl taken
-placed_message history messages.Break taken = within_stage history messages.Break refl taken
+placed_message history messages.Break taken = break_taken (stage_within history)
 
 -- ---- from the last selection on, in which an open stands
 
@@ -87,13 +101,13 @@ module _ (ordinal : ℕ) (said : List Said) (given : Given) (earlier : History) 
 
 pub stays_since : (history : History) → IsNested history → IsSome (regime history) → StaysSince history
 stays_since [] nested some = absurd cc
-stays_since (entry ∷ earlier) nested some = by (is_selection entry.message) refl
+stays_since (entry ∷ earlier) nested some = by (stays_since earlier nested.1) (is_selection entry.message) refl
   where
-    by : (b : Bool) → is_selection entry.message ≡ b → StaysSince (entry ∷ earlier)
-    by true is =
+    by : (IsSome (regime earlier) → StaysSince earlier) → (b : Bool) → is_selection entry.message ≡ b → StaysSince (entry ∷ earlier)
+    by rest true is =
         absurd (unopened entry.ordinal entry.said entry.given earlier entry.message (view entry.message) is (selected_at earlier entry.message (view entry.message) is nested.0).no_regime some)
-    by false is =
-        let with = stays_with entry.ordinal entry.said entry.given earlier entry.message (view entry.message) is (stays_since earlier nested.1) some in
+    by rest false is =
+        let with = stays_with entry.ordinal entry.said entry.given earlier entry.message (view entry.message) is rest some in
         record {
           placed = (λ i. position (cond (is i) (entry ∷ []) (entry ∷ since_selection earlier))) ∙ with.placed;
           counted = (λ i. done (cond (is i) (entry ∷ []) (entry ∷ since_selection earlier))) ∙ with.counted;
@@ -113,7 +127,7 @@ row_with docket opened moving one place count outcome check pieces = record {
   staged = pieces;
 }
 
-module _ (identity : List ℕ) (activity : ℕ) (history other : History) (stays : (position other ≡ position history) × (done other ≡ done history) × (last other ≡ last history)) where
+module _ (identity : List ℕ) (activity : ℕ) (history other : History) (placed : position other ≡ position history) (counted : done other ≡ done history) (ended : last other ≡ last history) where
   abbrev whole : Docket
   whole = docket_at identity activity history
 
@@ -124,9 +138,9 @@ module _ (identity : List ℕ) (activity : ℕ) (history other : History) (stays
   row_same : (opened : Option Regime) (moving : Option Transfer) (one : Option Selection) → IfSome moving (AreMovingAlike history other)
       → row_in (docket_at identity activity other) opened moving one ≡ row_in whole opened moving one
   row_same opened moving None alike = refl
-  row_same opened None (Some one) alike = λ i. row_with whole opened None one (stays.0 i) (stays.1.0 i) (stays.1.1 i) 0 [] ∷ []
-  row_same opened (Some transfer) (Some one) alike =
-      λ i. row_with whole opened (Some transfer) one (stays.0 i) (stays.1.0 i) (stays.1.1 i) (transfer.point 0 (alike.happens i)) (pieces_same transfer.movement alike.happens i) ∷ []
+  row_same opened None (Some one) alike = λ i. row_with whole opened None one (placed i) (counted i) (ended i) 0 [] ∷ []
+  row_same opened (Some moved) (Some one) alike =
+      λ i. row_with whole opened (Some moved) one (placed i) (counted i) (ended i) (transfer.point 0 (alike.happens i)) (pieces_same moved.movement alike.happens i) ∷ []
 
 pub row_since : (identity : List ℕ) (activity : ℕ) (history : History) → IsNested history → IsSome (regime history)
     → row_of (docket_at identity activity (since_selection history)) ≡ row_of (docket_at identity activity history)
@@ -134,7 +148,7 @@ row_since identity activity history nested some =
     let alike = alike_since history nested in
     let stays = stays_since history nested some in
     (λ i. row_in (docket_at identity activity (since_selection history)) (alike.opens i) (alike.moves i) (alike.selects i))
-    ∙ row_same identity activity history (since_selection history) (stays.placed, stays.counted, stays.ended) (regime history) (under_way history) (selection history) alike.moving
+    ∙ row_same identity activity history (since_selection history) stays.placed stays.counted stays.ended (regime history) (under_way history) (selection history) alike.moving
 
 -- ---- what a party leaves
 

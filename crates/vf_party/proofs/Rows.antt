@@ -1,5 +1,5 @@
 -- The docket that a party with an open regime would leave, by what its typed state keeps.
-use Rattle.std.proofs.Common.{◌≡◌, ℕ, ◌+◌, List, [], ◌∷◌, flat_map, Option, None, Some, refl, ap, sym, ◌∙◌}
+use Rattle.std.proofs.Common.{◌≡◌, ℕ, ◌+◌, List, [], ◌∷◌, flat_map, Option, None, Some, refl, ap, ◌∙◌}
 use Rattle.vf_base.specs.declared.element.Element.{Element}
 use Rattle.vf_filestore.specs.Dockets.{retained, since_selection}
 use Rattle.vf_filestore.specs.History.{History}
@@ -33,17 +33,17 @@ has_none history none = record {
   staged = ap (staged_of history) none;
 }
 
-pub rows_opened : (open : Open) (party : StandingParty) (moving : Underway) (pieces : List (List Element)) → IsNested party.history → IsOpened open party.link party.history
-    → retained party.history ≡ since_selection party.history → HasTransfer moving pieces party.history → rows_left party ≡ docket_with (fields_of open moving) pieces
-rows_opened open party moving pieces nested is all has = by open.regime.activity refl
+pub rows_opened : (regimes : Open) (party : StandingParty) (moving : Underway) (pieces : List (List Element)) → IsNested party.history → IsOpened regimes party.link party.history
+    → retained party.history ≡ since_selection party.history → HasTransfer moving pieces party.history → rows_left party ≡ docket_with (fields_of regimes moving) pieces
+rows_opened regimes party moving pieces nested is all has = by regimes.regime.activity refl
   where
-    by : (activity : Option ℕ) → open.regime.activity ≡ activity → rows_left party ≡ docket_with (fields_by activity open moving) pieces
+    by : (activity : Option ℕ) → regimes.regime.activity ≡ activity → rows_left party ≡ docket_with (fields_by activity regimes moving) pieces
     by None none = ap (flat_map row_of) (none_left party (ap activity_in is.stands ∙ none))
     by (Some activity) some =
         left_row party activity nested (ap activity_in is.stands ∙ some) all
         ∙ (λ i. row_in (docket_at (identity_of party) activity party.history) (is.stands i) (under_way party.history) (is.selected i))
         ∙ (λ i. record {
-          regime = record (fields_with activity open moving) {
+          regime = record (fields_with activity regimes moving) {
             identity = identity_in (is.associated i);
             position = is.placed i;
             number = is.counted i + 1;
@@ -58,6 +58,6 @@ rows_opened open party moving pieces nested is all has = by open.regime.activity
         } ∷ [])
 
 -- where no transfer is under way
-pub rows_open : (open : Open) (party : StandingParty) → IsNested party.history → IsOpen open party.link party.history → rows_left party ≡ docket_with (fields_of open no_transfer) []
-rows_open open party nested is =
-    rows_opened open party no_transfer [] nested is.opened (retained_idle party.history is.moved) (has_none party.history is.moved)
+pub rows_open : (regimes : Open) (party : StandingParty) → IsNested party.history → IsOpen regimes party.link party.history → rows_left party ≡ docket_with (fields_of regimes no_transfer) []
+rows_open regimes party nested is =
+    rows_opened regimes party no_transfer [] nested is.opened (retained_idle party.history is.moved) (has_none party.history is.moved)

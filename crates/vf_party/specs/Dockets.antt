@@ -18,17 +18,17 @@ no_transfer = record { direction = Idle; fadu = Begin; refused = 0; point = 0; v
 
 -- the fields of the docket of an open with this activity, and with this transfer in it
 abbrev pub fields_with : (activity : ℕ) → Open → Underway → Regime
-fields_with activity open moving = record {
-  identity = open.selected.associated.association.identity;
+fields_with activity regimes moving = record {
+  identity = regimes.selected.associated.association.identity;
   activity = activity;
-  file = open.selected.selection.file;
-  requested = open.selected.selection.requested;
-  controls = joined open.regime.controls open.selected.selection.controls;
-  mode = open.regime.mode;
-  password = open.selected.selection.password;
-  position = open.regime.position;
-  number = open.regime.done + 1;
-  last = open.regime.last;
+  file = regimes.selected.selection.file;
+  requested = regimes.selected.selection.requested;
+  controls = joined regimes.regime.controls regimes.selected.selection.controls;
+  mode = regimes.regime.mode;
+  password = regimes.selected.selection.password;
+  position = regimes.regime.position;
+  number = regimes.regime.done + 1;
+  last = regimes.regime.last;
   window = 0;
   direction = moving.direction;
   fadu = moving.fadu;
@@ -39,12 +39,12 @@ fields_with activity open moving = record {
 }
 
 abbrev pub fields_by : Option ℕ → Open → Underway → Option Regime
-fields_by None open moving = None
-fields_by (Some activity) open moving = Some (fields_with activity open moving)
+fields_by None regimes moving = None
+fields_by (Some activity) regimes moving = Some (fields_with activity regimes moving)
 
--- those of an open, where it is recoverable
+-- those of an open regime, where it is recoverable
 abbrev pub fields_of : Open → Underway → Option Regime
-fields_of open moving = fields_by open.regime.activity open moving
+fields_of regimes moving = fields_by regimes.regime.activity regimes moving
 
 -- the docket with these pieces, where there is one
 abbrev pub docket_with : Option Regime → List (List Element) → List Docket

@@ -41,16 +41,16 @@ abbrev pub regime_of : (number : ℕ) → OpenRegime → whole.Regime
 regime_of number regime = record { number = number; mode = regime.mode; controls = regime.controls; activity = regime.activity }
 
 -- an open regime, whether a transfer is under way in it or not
-pub record IsOpened (open : Open) (link : ℕ) (history : History) : Type 0 where
-  pub linked : link ≡ open.selected.associated.association.link
-  pub associated : association history ≡ Some (association_of open.selected.associated.association)
-  pub selected : selection history ≡ Some (selection_of open.selected.selection)
+pub record IsOpened (regimes : Open) (link : ℕ) (history : History) : Type 0 where
+  pub linked : link ≡ regimes.selected.associated.association.link
+  pub associated : association history ≡ Some (association_of regimes.selected.associated.association)
+  pub selected : selection history ≡ Some (selection_of regimes.selected.selection)
   pub number : ℕ
-  pub stands : regime history ≡ Some (regime_of number open.regime)
-  pub placed : position history ≡ open.regime.position
-  pub counted : done history ≡ open.regime.done
-  pub ended : last history ≡ open.regime.last
+  pub stands : regime history ≡ Some (regime_of number regimes.regime)
+  pub placed : position history ≡ regimes.regime.position
+  pub counted : done history ≡ regimes.regime.done
+  pub ended : last history ≡ regimes.regime.last
 
-pub record IsOpen (open : Open) (link : ℕ) (history : History) : Type 0 where
-  pub opened : IsOpened open link history
+pub record IsOpen (regimes : Open) (link : ℕ) (history : History) : Type 0 where
+  pub opened : IsOpened regimes link history
   pub moved : under_way history ≡ None

@@ -1,6 +1,6 @@
 //! The docket of a recoverable open, as the store keeps it while the open stands (ISO 8571-3, docket; profile).
-ghost use Rattle.std.specs.Prelude.{◌≡◌, [], IfOk};
-ghost use Rattle.vf_filestore.specs.Changes.{is_same_regime, is_same_setting, is_same_transfer};
+ghost use Rattle.std.specs.Prelude.{◌≡◌, [], IfOk, if◌then◌else◌, not};
+ghost use Rattle.vf_filestore.specs.Changes.{is_same_direction as direction_meant, is_same_fadu as fadu_meant, is_same_regime, is_same_setting, is_same_transfer};
 ghost use Rattle.vf_party.specs.Dockets.{docket_with, fields_of as fields_meant, fields_with as fields_with_meant, no_transfer, own_changes};
 
 use crate::Open;
@@ -42,31 +42,36 @@ impl Underway {
 /// number counts, which no open has, want memory.
 pub(crate) fn fields_of(
     alloc: Global,
-    open: &Open,
+    regimes: &Open,
     moving: Underway,
 ) -> Result<Option<Regime>, NoMemory>
-    ensures { IfOk result (λ fields. fields ≡ fields_meant open.now moving) }
+    ensures { IfOk result (λ fields. fields ≡ fields_meant regimes.now moving) }
 {
-    let Some(activity) = open.regime.activity else {
+    let Some(activity) = regimes.regime.activity else {
         return Ok(None);
     };
-    let fields = fields_with(alloc, activity, open, moving)?;
+    let fields = fields_with(alloc, activity, regimes, moving)?;
     Ok(Some(fields))
 }
 
 fn fields_with(
     alloc: Global,
     activity: u32,
-    open: &Open,
+    regimes: &Open,
     moving: Underway,
 ) -> Result<Regime, NoMemory>
-    ensures { IfOk result (λ fields. fields ≡ fields_with_meant activity open.now moving) }
+    ensures { IfOk result (λ fields. fields ≡ fields_with_meant activity regimes.now moving) }
 {
-    let selection = &open.selected.selection;
-    let Some(number) = open.regime.done.checked_add(1) else {
+    let selection = &regimes.selected.selection;
+    let Some(number) = regimes.regime.done.checked_add(1) else {
         return Err(NoMemory);
     };
-    let identity = open.selected.associated.association.identity.copy(alloc)?;
+    let identity = regimes
+        .selected
+        .associated
+        .association
+        .identity
+        .copy(alloc)?;
     let file = selection.file.copy(alloc)?;
     let password = copy_option(alloc, &selection.password)?;
     Ok(Regime {
@@ -74,12 +79,12 @@ fn fields_with(
         activity,
         file,
         requested: selection.requested,
-        controls: joined(open.regime.controls, selection.controls),
-        mode: open.regime.mode,
+        controls: joined(regimes.regime.controls, selection.controls),
+        mode: regimes.regime.mode,
         password,
-        position: open.regime.position,
+        position: regimes.regime.position,
         number,
-        last: open.regime.last,
+        last: regimes.regime.last,
         window: 0,
         direction: moving.direction,
         fadu: moving.fadu,
@@ -133,10 +138,38 @@ fn has_same_transfer(one: &Regime, other: &Regime) -> bool
     one.position == other.position
         && one.number == other.number
         && one.last == other.last
-        && one.direction == other.direction
-        && one.fadu == other.fadu
+        && is_same_direction(one.direction, other.direction)
+        && is_same_fadu(one.fadu, other.fadu)
         && one.refused == other.refused
         && one.point == other.point
-        && one.ended == other.ended
+        && is_same_flag(one.ended, other.ended)
         && one.version == other.version
+}
+
+fn is_same_direction(one: Direction, other: Direction) -> bool
+    ensures { result ≡ direction_meant one other }
+{
+    match (one, other) {
+        (Direction::Idle, Direction::Idle) => true,
+        (Direction::Read { context }, Direction::Read { context: other }) => context == other,
+        (Direction::Write { operation }, Direction::Write { operation: other }) => {
+            operation == other
+        }
+        _ => false,
+    }
+}
+
+fn is_same_fadu(one: FaduId, other: FaduId) -> bool
+    ensures { result ≡ fadu_meant one other }
+{
+    one == other
+}
+
+fn is_same_flag(one: bool, other: bool) -> bool
+    ensures { result ≡ (if one then other else not other) }
+{
+    if one {
+        return other;
+    }
+    !other
 }

@@ -1,4 +1,4 @@
-use Rattle.std.proofs.Common.{◌≡◌, [], ◌∷◌, None, option_map, ap, sym, subst, ◌∙◌}
+use Rattle.std.proofs.Common.{◌≡◌, true, [], ◌∷◌, None, option_map, ap, sym, subst, ◌∙◌}
 use Rattle.vf_elements.specs.Stages.{takes}
 use Rattle.vf_elements.specs.declared.message.Message.TheVariants as messages
 use Rattle.vf_elements.specs.declared.message.Said.TheVariants as answers
