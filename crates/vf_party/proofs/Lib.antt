@@ -1,8 +1,10 @@
 pub mod Activities
 pub mod Concluding
 pub mod Creations
+pub mod Departures
 pub mod DocketChanges
 pub mod FileChanges
+pub mod Heard
 pub mod Kept
 pub mod Opens
 pub mod OwnDockets

@@ -9,6 +9,7 @@ mod deleting;
 mod dockets;
 mod files;
 mod idle;
+mod leaving;
 mod selected;
 mod states;
 mod step;
