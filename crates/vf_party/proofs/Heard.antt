@@ -18,6 +18,7 @@ use Rattle.vf_filestore.proofs.Decisions.{left_same, put_again}
 use Rattle.vf_filestore.proofs.Parties.{Located, located}
 use Rattle.vf_filestore.proofs.Same.{with_trace}
 use Rattle.vf_locks.specs.declared.held.Held.{Held}
+use Rattle.vf_party.proofs.Kept.{rows_stay}
 use Rattle.vf_tables.specs.declared.tables.Tables.{Tables}
 
 -- the same is kept, and each file has the same holders
@@ -66,3 +67,13 @@ heard_alike state party setting message given found =
       tables = ap tables_of heard ∙ alike.tables ∙ sym (ap tables_of plain);
       holders = λ file. (λ i. holders (heard i) file) ∙ alike.holders file ∙ sym (λ i. holders (plain i) file);
     }
+
+-- and one that does nothing but join it
+pub tables_heard : (state : State) (party : StandingParty) (message : Message) → party_of party.link state.parties ≡ Some party → tables_of (hearing state party message) ≡ tables_of state
+tables_heard state party message found =
+    ap (λ (left : List Docket). record {
+      users = state.users;
+      files = state.files;
+      dockets = flat_map row_of (fold (λ ordered docket. in_order docket ordered) [] (state.dockets ++ left));
+      tasks = state.tasks;
+    }) (rows_stay state.parties party (with_message message party) found refl (left_same party (message ∷ party.trace)))

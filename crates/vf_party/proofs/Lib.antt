@@ -1,4 +1,5 @@
 pub mod Activities
+pub mod Answering
 pub mod Concluding
 pub mod Creations
 pub mod Departures

@@ -1,3 +1,4 @@
+pub mod Answers
 pub mod Creations
 pub mod Dockets
 pub mod Files
