@@ -6,5 +6,6 @@ pub mod FileChanges
 pub mod Kept
 pub mod Opens
 pub mod OwnDockets
+pub mod Renames
 pub mod Retained
 pub mod Rows
