@@ -9,5 +9,6 @@ pub mod Heard
 pub mod Kept
 pub mod Opens
 pub mod OwnDockets
+pub mod Renames
 pub mod Retained
 pub mod Rows

@@ -4,6 +4,7 @@
 
 mod associated;
 mod attributes;
+mod changing;
 mod creating;
 mod deleting;
 mod dockets;
