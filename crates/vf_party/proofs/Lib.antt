@@ -1,9 +1,11 @@
 pub mod Activities
+pub mod Closes
 pub mod Concluding
 pub mod Creations
 pub mod DocketChanges
 pub mod FileChanges
 pub mod Kept
+pub mod OpenRows
 pub mod Opens
 pub mod OwnDockets
 pub mod Retained
