@@ -1,5 +1,6 @@
 pub mod Activities
 pub mod Answering
+pub mod Closes
 pub mod Concluding
 pub mod Creations
 pub mod Departures
@@ -7,6 +8,7 @@ pub mod DocketChanges
 pub mod FileChanges
 pub mod Heard
 pub mod Kept
+pub mod OpenRows
 pub mod Opens
 pub mod OwnDockets
 pub mod Renames

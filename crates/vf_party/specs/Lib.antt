@@ -4,5 +4,6 @@ pub mod Dockets
 pub mod Files
 pub mod Leaving
 pub mod Renames
+pub mod Openings
 pub mod Represents
 pub mod Steps

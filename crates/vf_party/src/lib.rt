@@ -11,6 +11,7 @@ mod dockets;
 mod files;
 mod idle;
 mod leaving;
+mod opening;
 mod selected;
 mod states;
 mod step;
