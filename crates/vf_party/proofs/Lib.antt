@@ -4,6 +4,7 @@ pub mod Creations
 pub mod DocketChanges
 pub mod FileChanges
 pub mod Kept
+pub mod Locations
 pub mod Opens
 pub mod OwnDockets
 pub mod Retained

@@ -9,6 +9,8 @@ mod deleting;
 mod dockets;
 mod files;
 mod idle;
+mod locating;
+mod positions;
 mod selected;
 mod states;
 mod step;
