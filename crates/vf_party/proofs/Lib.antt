@@ -2,6 +2,7 @@ pub mod Activities
 pub mod Concluding
 pub mod Creations
 pub mod DocketChanges
+pub mod Erasures
 pub mod FileChanges
 pub mod Kept
 pub mod Locations

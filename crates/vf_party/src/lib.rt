@@ -7,6 +7,7 @@ mod attributes;
 mod creating;
 mod deleting;
 mod dockets;
+mod erasing;
 mod files;
 mod idle;
 mod locating;

@@ -115,7 +115,7 @@ fn located_in(units: u16, position: u32, fadu: FaduId, file: &File) -> Result<u3
 }
 
 /// Whether the unit of file access is one of these.
-fn has_access(units: u16) -> bool
+pub(crate) fn has_access(units: u16) -> bool
     ensures { result ≡ includes_meant units file_access }
 {
     FILE_ACCESS & units == FILE_ACCESS
