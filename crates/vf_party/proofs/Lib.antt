@@ -5,10 +5,12 @@ pub mod Concluding
 pub mod Creations
 pub mod Departures
 pub mod DocketChanges
+pub mod Erasures
 pub mod FileChanges
 pub mod Heard
 pub mod Kept
 pub mod OpenRows
+pub mod Locations
 pub mod Opens
 pub mod OwnDockets
 pub mod Renames

@@ -1,9 +1,11 @@
 pub mod Answers
 pub mod Creations
 pub mod Dockets
+pub mod Erasures
 pub mod Files
 pub mod Leaving
 pub mod Renames
 pub mod Openings
+pub mod Locations
 pub mod Represents
 pub mod Steps
