@@ -9,8 +9,8 @@ pub mod Erasures
 pub mod FileChanges
 pub mod Heard
 pub mod Kept
-pub mod OpenRows
 pub mod Locations
+pub mod OpenRows
 pub mod Opens
 pub mod OwnDockets
 pub mod Renames

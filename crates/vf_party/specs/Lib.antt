@@ -4,8 +4,8 @@ pub mod Dockets
 pub mod Erasures
 pub mod Files
 pub mod Leaving
-pub mod Renames
-pub mod Openings
 pub mod Locations
+pub mod Openings
+pub mod Renames
 pub mod Represents
 pub mod Steps
