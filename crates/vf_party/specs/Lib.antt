@@ -1,6 +1,11 @@
+pub mod Answers
 pub mod Creations
 pub mod Dockets
+pub mod Erasures
 pub mod Files
+pub mod Leaving
+pub mod Locations
 pub mod Openings
+pub mod Renames
 pub mod Represents
 pub mod Steps

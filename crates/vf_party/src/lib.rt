@@ -4,12 +4,17 @@
 
 mod associated;
 mod attributes;
+mod changing;
 mod creating;
 mod deleting;
 mod dockets;
+mod erasing;
 mod files;
 mod idle;
+mod leaving;
 mod opening;
+mod locating;
+mod positions;
 mod selected;
 mod states;
 mod step;
