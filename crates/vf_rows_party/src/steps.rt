@@ -9,17 +9,10 @@ use vf_party::{Associated, Idle, Open, Selected, Step};
 use vf_pdu::Pdu;
 use vf_tables::{Change, Changes, Tables};
 
-<<<<<<< HEAD
-/// An association with limited and enhanced file management.
+/// An association with limited and enhanced file management, and recovery.
 fn associated(alloc: Global, locks: &mut Locks) -> Result<Step<Associated>, Fail> {
     let request = Pdu::InitializeRequest {
-        units: 31,
-=======
-/// An association with limited file management and recovery.
-fn associated(alloc: Global, locks: &mut Locks) -> Result<Step<Associated>, Fail> {
-    let request = Pdu::InitializeRequest {
-        units: 143,
->>>>>>> bf9a00458e5420729dd147a7da17d4620b4c910d
+        units: 159,
         identity: None,
         password: None,
         window: 1,
