@@ -1,3 +1,4 @@
+pub mod Aborting
 pub mod Answers
 pub mod Creations
 pub mod Dockets

@@ -2,6 +2,7 @@
 //! and steps from one to the next, over the store's tables and locks.
 #![tactic(auto)]
 
+mod aborting;
 mod associated;
 mod attributes;
 mod changing;

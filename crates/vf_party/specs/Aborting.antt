@@ -1,0 +1,25 @@
+-- What aborts a request in a quiet stage, by what typed states keep (profile).
+use Rattle.std.specs.Prelude.{ℕ, not, ◌&&◌, List, [], ◌∷◌, Option, nat_le}
+use Rattle.vf_files.specs.Rows.{includes}
+use Rattle.vf_filestore.specs.Aborts.{Setting, abort_where}
+use Rattle.vf_filestore.specs.Diagnostics.{numbers_spent, wrong_state}
+use Rattle.vf_filestore.specs.Limits.{most_transfers}
+use Rattle.vf_filestore.specs.Units.{grouping_unit, has_checks}
+use Rattle.vf_pdu.specs.declared.pdu.Pdu.{Pdu}
+use Rattle.vf_pdu.specs.declared.pdu.Pdu.TheVariants.{BeginGroupRequest, ReadRequest, WriteRequest}
+
+-- under these functional units
+abbrev pub aborts_of_units : (units : ℕ) → Pdu → List (Option ℕ)
+aborts_of_units units (BeginGroupRequest threshold) = abort_where (not (includes units grouping_unit)) wrong_state ∷ []
+aborts_of_units units _ = []
+
+-- an open regime has had all its transfers
+abbrev pub spent_aborts : (done : ℕ) → List (Option ℕ)
+spent_aborts done = abort_where (nat_le most_transfers done) numbers_spent ∷ []
+
+-- and in an open regime that has had so many transfers
+abbrev pub aborts_of_open : (units done : ℕ) → Setting → Pdu → List (Option ℕ)
+aborts_of_open units done setting (ReadRequest fadu context) =
+    abort_where (has_checks units && not setting.token) wrong_state ∷ spent_aborts done
+aborts_of_open units done setting (WriteRequest operation fadu) = spent_aborts done
+aborts_of_open units done setting request = aborts_of_units units request
