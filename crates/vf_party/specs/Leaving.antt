@@ -7,9 +7,7 @@ use Rattle.vf_filestore.specs.State.{State, StandingParty, activity_of, identity
 use Rattle.vf_locks.specs.Holders.{controls_of}
 use Rattle.vf_locks.specs.Table.{held}
 use Rattle.vf_locks.specs.declared.holder.Holder.{Holder}
-use Rattle.vf_party.specs.Quiets.{IsQuiet}
-use Rattle.vf_party.specs.Steps.{HoldersOfFiles, StandsIn}
-use Rattle.vf_party.specs.declared.quiet.Quiet.{Quiet}
+use Rattle.vf_party.specs.Steps.{HoldersOfFiles, Represents, StandsIn}
 use Rattle.vf_party.specs.declared.states.Selected.{Selected}
 use Rattle.vf_regime_refusals.specs.Asked.{selection_of}
 use Rattle.vf_tables.specs.declared.tables.Tables.{Tables}
@@ -26,8 +24,8 @@ LeavesFile selected activity old new =
     → selection party.history ≡ Some (selection_of selected.selection) → activity_of party ≡ activity
     → Keeps new (broken party.link state)
 
--- a party with an association is gone, in which no transfer is under way
-abbrev pub LeavesQuiet : Quiet → (before after : HoldersOfFiles) → Type 0
-LeavesQuiet quiet old new =
-    (tables : Tables) (state : State) (party : StandingParty) → StandsIn tables old state party → IsQuiet quiet party.link party.history
+-- a party is gone that a typed state represents
+abbrev pub LeavesHolders : {S : Type 0} → Represents S → S → (before after : HoldersOfFiles) → Type 0
+LeavesHolders represents self old new =
+    (tables : Tables) (state : State) (party : StandingParty) → StandsIn tables old state party → represents self party.link party.history
     → Keeps new (broken party.link state)

@@ -1,6 +1,7 @@
 //! What is left of a party whose association is gone (ISO 8571-3, docket; profile).
 ghost use Rattle.std.specs.Prelude.{◌≡◌};
-ghost use Rattle.vf_party.specs.Leaving.{LeavesFile, LeavesQuiet, may_pass as may_pass_meant};
+ghost use Rattle.vf_party.specs.Leaving.{LeavesFile, LeavesHolders, may_pass as may_pass_meant};
+ghost use Rattle.vf_party.specs.Quiets.{IsQuiet};
 
 use crate::{Quiet, Selected};
 use vf_base::Name;
@@ -8,7 +9,7 @@ use vf_locks::{Holder, Locks};
 
 /// What is left of a party in which no transfer is under way.
 pub(crate) fn leave_quiet(quiet: Quiet, locks: &mut Locks)
-    ensures { LeavesQuiet quiet locks.old locks.new }
+    ensures { LeavesHolders IsQuiet quiet locks.old locks.new }
 {
     match quiet {
         Quiet::Associated(_) => {}

@@ -16,6 +16,7 @@ mod items;
 mod leaving;
 mod locating;
 mod opening;
+mod party;
 mod positions;
 mod quiet;
 mod selected;
@@ -24,6 +25,7 @@ mod states;
 mod step;
 
 pub use idle::Idle;
+pub use party::{Grouping, Outcome, Party};
 pub use quiet::Quiet;
 pub use setting::Setting;
 pub use states::{Associated, Open, Selected};
