@@ -17,6 +17,7 @@ mod locating;
 mod opening;
 mod positions;
 mod quiet;
+mod refusals;
 mod selected;
 mod setting;
 mod states;
