@@ -13,6 +13,7 @@ pub mod Locations
 pub mod OpenRows
 pub mod Opens
 pub mod OwnDockets
+pub mod Refused
 pub mod Renames
 pub mod Requests
 pub mod Retained

@@ -9,6 +9,7 @@ pub mod Leaving
 pub mod Locations
 pub mod Openings
 pub mod Quiets
+pub mod Refusals
 pub mod Renames
 pub mod Represents
 pub mod Settings

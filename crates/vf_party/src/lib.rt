@@ -19,6 +19,7 @@ mod opening;
 mod party;
 mod positions;
 mod quiet;
+mod refusals;
 mod selected;
 mod setting;
 mod states;
