@@ -1,5 +1,5 @@
 -- What a step, a refusal and an end come to in the filestore, of a message outside of a group.
-use Rattle.std.proofs.Common.{◌≡◌, ℕ, Bool, true, false, cond, not, List, [], ◌∷◌, ◌++◌, is_some, Option, None, Some, refl, ap, sym, subst, ◌∙◌}
+use Rattle.std.proofs.Common.{◌≡◌, ℕ, Bool, true, false, cond, not, List, [], ◌∷◌, ◌++◌, is_some, None, Some, refl, ap, sym, subst, ◌∙◌}
 use Rattle.vf_base.specs.declared.diagnostic.Diagnostic.{Diagnostic}
 use Rattle.vf_elements.specs.Stages.{takes}
 use Rattle.vf_elements.specs.declared.message.Message.{Message}
@@ -7,16 +7,15 @@ use Rattle.vf_elements.specs.declared.message.Said.{Said}
 use Rattle.vf_elements.specs.declared.stage.Stage.TheVariants as stages
 use Rattle.vf_filestore.specs.Aborts.{Setting, aborts, first_abort}
 use Rattle.vf_filestore.specs.Changes.{delta}
-use Rattle.vf_filestore.specs.Conclusion.{Answered, concluding_entry, gone_where_aborted, grants, has_abort}
-use Rattle.vf_filestore.specs.Decision.{Decision, Aborts, Refuses, Grants, decision, decision_in, message_decision, unless_aborted}
+use Rattle.vf_filestore.specs.Conclusion.{Answered, concluding_entry, grants, has_abort}
+use Rattle.vf_filestore.specs.Decision.{Aborts, Refuses, Grants, decision, decision_in, message_decision, unless_aborted}
 use Rattle.vf_filestore.specs.Diagnostics.{wrong_state}
 use Rattle.vf_filestore.specs.Dockets.{broken}
 use Rattle.vf_filestore.specs.History.{Given, History}
 use Rattle.vf_filestore.specs.HoldersAfter.{Keeps, concluded_by, hearing}
-use Rattle.vf_filestore.specs.Stage.{Group, pending, regime_stage, stage}
+use Rattle.vf_filestore.specs.Stage.{pending, regime_stage, stage}
 use Rattle.vf_filestore.specs.Replies.{refusal}
 use Rattle.vf_filestore.specs.State.{State, StandingParty, is_of_link, party_of, with_party, without_party}
-use Rattle.vf_filestore.specs.Tables.{tables_of}
 use Rattle.vf_filestore.specs.Transition.{answered, associates, leaves, met, with_message}
 use Rattle.vf_filestore.proofs.Decisions.{broken_same}
 use Rattle.vf_filestore.proofs.HeldGone.{traces_hold}

@@ -1,6 +1,5 @@
 -- A party that is gone: what a call does to the holders of its file is what becomes of them in the state.
-use Rattle.std.proofs.Common.{◌≡◌, ℕ, Bool, true, false, ◌&&◌, List, Option, None, Some, is_none, is_some, refl, ap, sym, subst, ◌∙◌}
-use Rattle.std.specs.Prelude.{IsSome}
+use Rattle.std.proofs.Common.{◌≡◌, ℕ, true, false, ◌&&◌, List, Option, None, Some, is_none, is_some, ap, sym, subst, ◌∙◌}
 use Rattle.vf_filestore.specs.Dockets.{broken}
 use Rattle.vf_filestore.specs.History.{Selection, selection}
 use Rattle.vf_filestore.specs.HoldersAfter.{IsLeft}

@@ -4,7 +4,7 @@ use Rattle.std.proofs.Common.{◌≡◌, ℕ, List, [], ◌∷◌, ◌++◌, fla
 use Rattle.std.proofs.lemmas.List.Concat.{flat_map-append}
 use Rattle.vf_elements.specs.declared.message.Message.{Message}
 use Rattle.vf_filestore.specs.Aborts.{Setting}
-use Rattle.vf_filestore.specs.Conclusion.{concluded, concluding_entry, dockets_after, taken_up}
+use Rattle.vf_filestore.specs.Conclusion.{concluding_entry, dockets_after, taken_up}
 use Rattle.vf_filestore.specs.Dockets.{docket_left_by}
 use Rattle.vf_filestore.specs.Effects.{files_after}
 use Rattle.vf_filestore.specs.History.{Given}
@@ -15,11 +15,10 @@ use Rattle.vf_filestore.specs.Tables.{in_order, row_of, tables_of}
 use Rattle.vf_filestore.specs.Transition.{with_message}
 use Rattle.vf_filestore.proofs.Concluded.{after_entry, concluded_is}
 use Rattle.vf_filestore.proofs.Decisions.{left_same, put_again}
-use Rattle.vf_filestore.proofs.Parties.{Located, located}
+use Rattle.vf_filestore.proofs.Parties.{located}
 use Rattle.vf_filestore.proofs.Same.{with_trace}
 use Rattle.vf_locks.specs.declared.held.Held.{Held}
 use Rattle.vf_party.proofs.Kept.{rows_stay}
-use Rattle.vf_tables.specs.declared.tables.Tables.{Tables}
 
 -- the same is kept, and each file has the same holders
 pub record AreKeptAlike (one other : State) : Type 0 where

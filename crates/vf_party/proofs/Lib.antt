@@ -14,5 +14,6 @@ pub mod OpenRows
 pub mod Opens
 pub mod OwnDockets
 pub mod Renames
+pub mod Requests
 pub mod Retained
 pub mod Rows

@@ -3,9 +3,12 @@ pub mod Creations
 pub mod Dockets
 pub mod Erasures
 pub mod Files
+pub mod Items
 pub mod Leaving
 pub mod Locations
 pub mod Openings
+pub mod Quiets
 pub mod Renames
 pub mod Represents
+pub mod Settings
 pub mod Steps

@@ -22,11 +22,11 @@ use vf_regime_refusals::{joined, not_opened, refused_change_attrib};
 use vf_tables::{Changes, Files, Tables};
 
 impl Selected {
-    /// Takes a ChangeAttribRequest (ISO 8571-3, F-CHANGE-ATTRIB): the selected file has the attributes that are new, and the
-    /// stamp of the change; the party holds it by its new name. Refused with 33 without enhanced file management, 13 where
-    /// changing attributes wasn't requested at the selection, 31 where `others` isn't 0, 12 where the new name is another
-    /// file's, and 16 where there is a new name and the file has another holder. The state is given back as it was with the
-    /// diagnostic, or without memory.
+    /// Takes a ChangeAttribRequest (ISO 8571-3, F-CHANGE-ATTRIB): the selected file has the attributes that are new, and
+    /// the stamp of the change; the party holds it by its new name. Refused with 33 without enhanced file management, 13
+    /// where changing attributes wasn't requested at the selection, 31 where `others` isn't 0, 12 where the new name is
+    /// another file's, and 16 where there is a new name and the file has another holder. The state is given back as it
+    /// was with the diagnostic, or without memory.
     pub fn change_attrib(
         self,
         alloc: Global,
@@ -107,8 +107,8 @@ fn changes_of(
     Ok(changes)
 }
 
-/// The party holds the selected file by its new name, where it has one, and no longer by the old one. Without memory each
-/// file has the holders that it had.
+/// The party holds the selected file by its new name, where it has one, and no longer by the old one. Without memory
+/// each file has the holders that it had.
 fn hold_by(
     alloc: Global,
     state: &Selected,

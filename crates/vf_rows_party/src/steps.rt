@@ -9,10 +9,10 @@ use vf_party::{Associated, Idle, Open, Selected, Step};
 use vf_pdu::Pdu;
 use vf_tables::{Change, Changes, Tables};
 
-/// An association with limited file management and recovery.
+/// An association with limited and enhanced file management, and recovery.
 fn associated(alloc: Global, locks: &mut Locks) -> Result<Step<Associated>, Fail> {
     let request = Pdu::InitializeRequest {
-        units: 143,
+        units: 159,
         identity: None,
         password: None,
         window: 1,
@@ -51,7 +51,7 @@ fn create_request(alloc: Global) -> Result<Pdu, BaseError>
 }
 
 /// What the creation of `a` in an empty filestore leaves.
-fn created(alloc: Global, locks: &mut Locks) -> Result<Step<Selected>, Fail> {
+pub(crate) fn created(alloc: Global, locks: &mut Locks) -> Result<Step<Selected>, Fail> {
     let associated = associated(alloc, locks)?.state;
     let request = create_request(alloc)?;
     let moment = Moment::of(7)?;
@@ -165,7 +165,7 @@ fn deleted(
 }
 
 /// Tables with the file `a` alone.
-fn tables(alloc: Global) -> Result<Tables, Fail> {
+pub(crate) fn tables(alloc: Global) -> Result<Tables, Fail> {
     let mut locks = Locks::new(alloc);
     let changes = created(alloc, &mut locks)?.changes;
     tables_with(alloc, changes)
