@@ -1,3 +1,4 @@
+pub mod Abortions
 pub mod Activities
 pub mod Answering
 pub mod Closes

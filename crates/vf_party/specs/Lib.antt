@@ -14,3 +14,4 @@ pub mod Renames
 pub mod Represents
 pub mod Settings
 pub mod Steps
+pub mod Turns

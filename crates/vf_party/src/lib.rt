@@ -16,6 +16,7 @@ mod items;
 mod leaving;
 mod locating;
 mod opening;
+mod outcomes;
 mod party;
 mod positions;
 mod quiet;
