@@ -87,3 +87,14 @@ ComesTo after back next number mid new (Ok step) (Ok outcome) = IsOutcomeOf afte
 ComesTo after back next number mid new (Err (old, errors.Refused diagnostic)) (Ok outcome) = IsRefused (back old) (refusal_numbered number diagnostic) mid new outcome
 ComesTo after back next number mid new (Err (old, error)) (Err (party, memory)) = (party ≡ back old) × (new ≡ mid)
 ComesTo after back next number mid new _ _ = ⊥
+
+-- the party is gone, once this is said
+pub record IsEnded {S : Type 0} (represents : Represents S) (self : S) (said : List Said) (old new : HoldersOfFiles) (outcome : Outcome) : Type 0 where
+  pub gone : outcome.party ≡ None
+  pub says : outcome.said.items ≡ said
+  pub differs : outcome.changes ≡ []
+  pub leaves : LeavesHolders represents self old new
+
+abbrev pub EndsSaying : {S : Type 0} → Represents S → (S → Party) → S → List Said → (before after : HoldersOfFiles) → Result Outcome (Party × NoMemory) → Type 0
+EndsSaying represents party self said old new (Ok outcome) = IsEnded represents self said old new outcome
+EndsSaying represents party self said old new (Err (back, error)) = (back ≡ party self) × (new ≡ old)
