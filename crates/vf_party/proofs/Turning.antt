@@ -1,32 +1,39 @@
 -- What a party owes to a message outside of a group, from what a typed step owes.
-use Rattle.std.proofs.Common.{◌≡◌, ℕ, Bool, true, false, List, [], Option, None, Some, Result, Ok, Err, refl, ap, sym, subst, ◌∙◌}
+use Rattle.std.proofs.Common.{◌≡◌, ℕ, Bool, true, false, cond, List, [], ◌∷◌, is_some, Option, None, Some, Result, Ok, Err, refl, ap, sym, subst, ◌∙◌}
 use Rattle.std.specs.Prelude.{IfErr}
 use Rattle.vf_base.specs.declared.diagnostic.Diagnostic.{Diagnostic}
 use Rattle.vf_base.specs.declared.errors.NoMemory.{NoMemory}
+use Rattle.vf_elements.specs.Stages.{takes}
 use Rattle.vf_elements.specs.declared.message.Message.{Message}
 use Rattle.vf_elements.specs.declared.message.Said.{Said}
-use Rattle.vf_filestore.specs.Aborts.{Setting}
+use Rattle.vf_elements.specs.declared.message.Said.TheVariants as answers
+use Rattle.vf_elements.specs.declared.stage.Stage.TheVariants as stages
+use Rattle.vf_filestore.specs.Aborts.{Setting, first_abort}
+use Rattle.vf_filestore.specs.Aborts.{aborts as all_aborts}
 use Rattle.vf_filestore.specs.Changes.{delta}
 use Rattle.vf_filestore.specs.Conclusion.{Answered, has_abort}
-use Rattle.vf_filestore.specs.Decision.{Decision, Aborts, Refuses, Grants, Waits, Ends, Leaves, decision, message_decision}
+use Rattle.vf_filestore.specs.Decision.{Decision, Aborts, Refuses, Grants, Waits, Ends, Leaves, decision, decision_in, message_decision, unless_aborted}
+use Rattle.vf_filestore.specs.Diagnostics.{wrong_state}
 use Rattle.vf_filestore.specs.History.{Given}
-use Rattle.vf_filestore.specs.HoldersAfter.{Keeps}
+use Rattle.vf_filestore.specs.HoldersAfter.{Keeps, hearing}
 use Rattle.vf_filestore.specs.Records.{changes_where}
 use Rattle.vf_filestore.specs.Replies.{refusal}
+use Rattle.vf_filestore.specs.Stage.{pending, regime_stage, stage}
 use Rattle.vf_filestore.specs.State.{State, StandingParty, party_of}
 use Rattle.vf_filestore.specs.Tables.{tables_of}
-use Rattle.vf_filestore.specs.Transition.{answered, associates}
+use Rattle.vf_filestore.specs.Transition.{answered, associates, met, with_message}
+use Rattle.vf_filestore.specs.Transition.{leaves as leaves_with}
 use Rattle.vf_locks.specs.Table.{IsAsBefore}
 use Rattle.vf_party.specs.Answers.{GoesOn, IsAnswered}
 use Rattle.vf_party.specs.Refusals.{refusal_numbered}
 use Rattle.vf_party.specs.Steps.{Concludes, HoldersOfFiles, IsStep, MeetsStep, Represents, StandsIn}
-use Rattle.vf_party.specs.Turns.{ComesOn, ComesTo, IsAlone, IsNext, IsOutcomeOf, IsParty, IsRefused, IsTaken, IsTurnIn}
+use Rattle.vf_party.specs.Turns.{ComesOn, ComesTo, EndsSaying, IsAlone, IsEnded, IsNext, IsOutcomeOf, IsParty, IsRefused, IsTaken, IsTurnIn}
 use Rattle.vf_party.specs.declared.party.Outcome.{Outcome}
 use Rattle.vf_party.specs.declared.party.Party.{Party}
 use Rattle.vf_party.specs.declared.step.Step.{Step}
 use Rattle.vf_party.specs.declared.step.StepError.{StepError}
 use Rattle.vf_party.specs.declared.step.StepError.TheVariants as errors
-use Rattle.vf_party.proofs.Answering.{IsAsked, asked_decides, refusal_answers, step_answers, step_ends}
+use Rattle.vf_party.proofs.Answering.{IsAsked, asked_decides, end_answers, refusal_answers, step_answers, step_ends}
 use Rattle.vf_tables.specs.declared.tables.Tables.{Tables}
 
 -- a decision that is no end of a group
@@ -116,3 +123,53 @@ module _ {Old New : Type 0} (represents : Represents Old) (after : Represents Ne
       (comes.0 ∙ ap back kept, subst (λ (locks : HoldersOfFiles). IsAsBefore old locks) (sym comes.1) meets.1)
   turn_of (Err (was, errors.NoMemory)) (Err (given, error)) meets kept comes =
       (comes.0 ∙ ap back kept, subst (λ (locks : HoldersOfFiles). IsAsBefore old locks) (sym comes.1) meets)
+
+-- ---- ends
+
+module _ {S : Type 0} (represents : Represents S) (back : S → Party) (tables : Tables) (old new : HoldersOfFiles) (self : S) (setting : Setting) (message : Message)
+    (state : State) (party : StandingParty) (stands : StandsIn tables old state party) (alone : IsAlone represents self party) where
+  pub ended_turn : (said : List Said) (outcome : Outcome) (one : Decision) → IsSingle one → decision state party setting message ≡ one
+      → answered state party setting message ≡ leaves_with (hearing state party message) (with_message message party) said
+      → IsEnded represents self said old new outcome → IsTaken tables new state party setting message outcome
+  ended_turn said outcome one single decides comes is =
+      let ends = end_answers state party setting message tables old new said stands comes (is.leaves tables state party stands alone.represented) in
+      taken_of tables state party setting message stands.kept new outcome one single decides
+      (record { says = is.says ∙ ends.0.says; differs = is.differs ∙ ends.0.differs; held = ends.0.held })
+      (subst (λ (one : Option Party). IsNext one (party_of party.link (answered state party setting message).state.parties)) (sym is.gone) ends.1)
+
+  pub saying_turn : (said : List Said) (result : Result Outcome (Party × NoMemory)) (one : Decision) → IsSingle one → decision state party setting message ≡ one
+      → answered state party setting message ≡ leaves_with (hearing state party message) (with_message message party) said
+      → EndsSaying represents back self said old new result → IsTurnIn tables old new (back self) state party setting message result
+  saying_turn said (Ok outcome) one single decides comes is = ended_turn said outcome one single decides comes is
+  saying_turn said (Err (given, error)) one single decides comes is = (is.0, subst (λ (locks : HoldersOfFiles). IsAsBefore old locks) (sym is.1) (λ file. refl))
+
+  -- an abort
+  pub aborted_turn : (number : ℕ) (result : Result Outcome (Party × NoMemory)) → decision state party setting message ≡ Aborts number
+      → EndsSaying represents back self (answers.Abort number 0 ∷ []) old new result → IsTurnIn tables old new (back self) state party setting message result
+  aborted_turn number result decides is =
+      saying_turn (answers.Abort number 0 ∷ []) result (Aborts number) (aborts number) decides
+      (ap (met (hearing state party message) (with_message message party) setting message) decides) is
+
+  -- of a message that the stage doesn't take
+  pub untaken_turn : (result : Result Outcome (Party × NoMemory)) → takes (regime_stage party.history) message ≡ false
+      → EndsSaying represents back self (answers.Abort wrong_state 0 ∷ []) old new result → IsTurnIn tables old new (back self) state party setting message result
+  untaken_turn result untaken is = aborted_turn wrong_state result untaken_decides is
+    where
+      here : takes (stage party) message ≡ false
+      here = (λ i. takes (cond (is_some (alone.alone i)) stages.Grouping (regime_stage party.history)) message) ∙ untaken
+
+      untaken_decides : decision state party setting message ≡ Aborts wrong_state
+      untaken_decides = λ i. cond (here i) (decision_in (pending party.trace) state party setting message) (Aborts wrong_state)
+
+  -- of one that an abort's row refuses
+  pub barred_turn : (number : ℕ) (result : Result Outcome (Party × NoMemory)) → takes (regime_stage party.history) message ≡ true → first_abort (all_aborts party setting message) ≡ Some number
+      → EndsSaying represents back self (answers.Abort number 0 ∷ []) old new result → IsTurnIn tables old new (back self) state party setting message result
+  barred_turn number result taken barred is = aborted_turn number result barred_decides is
+    where
+      here : takes (stage party) message ≡ true
+      here = (λ i. takes (cond (is_some (alone.alone i)) stages.Grouping (regime_stage party.history)) message) ∙ taken
+
+      barred_decides : decision state party setting message ≡ Aborts number
+      barred_decides =
+          (λ i. cond (here i) (decision_in (alone.alone i) state party setting message) (Aborts wrong_state))
+          ∙ (λ i. unless_aborted (barred i) (message_decision state party setting message))
