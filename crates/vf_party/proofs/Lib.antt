@@ -5,6 +5,7 @@ pub mod Concluding
 pub mod Creations
 pub mod Departures
 pub mod DocketChanges
+pub mod Dues
 pub mod Erasures
 pub mod FileChanges
 pub mod Heard
@@ -13,6 +14,7 @@ pub mod Locations
 pub mod OpenRows
 pub mod Opens
 pub mod OwnDockets
+pub mod ReadsOn
 pub mod Renames
 pub mod Requests
 pub mod Retained
