@@ -6,6 +6,7 @@ pub mod Concluding
 pub mod Creations
 pub mod Departures
 pub mod DocketChanges
+pub mod Dues
 pub mod Erasures
 pub mod FileChanges
 pub mod Heard
@@ -15,6 +16,7 @@ pub mod OpenRows
 pub mod Opens
 pub mod OwnDockets
 pub mod Refused
+pub mod ReadsOn
 pub mod Renames
 pub mod Requests
 pub mod Retained

@@ -2,6 +2,7 @@ pub mod Aborting
 pub mod Answers
 pub mod Creations
 pub mod Dockets
+pub mod Dues
 pub mod Erasures
 pub mod Files
 pub mod Items
@@ -10,6 +11,8 @@ pub mod Locations
 pub mod Openings
 pub mod Quiets
 pub mod Refusals
+pub mod Reads
+pub mod Regimes
 pub mod Renames
 pub mod Represents
 pub mod Settings
