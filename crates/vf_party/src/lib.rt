@@ -9,7 +9,7 @@ mod changing;
 mod creating;
 mod deleting;
 mod dockets;
-mod ending;
+mod departing;
 mod due;
 mod erasing;
 mod files;
