@@ -17,6 +17,7 @@ mod locating;
 mod opening;
 mod positions;
 mod quiet;
+mod received;
 mod selected;
 mod setting;
 mod states;
