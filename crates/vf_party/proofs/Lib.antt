@@ -17,3 +17,5 @@ pub mod Renames
 pub mod Requests
 pub mod Retained
 pub mod Rows
+pub mod WriteDockets
+pub mod Writes

@@ -12,3 +12,4 @@ pub mod Renames
 pub mod Represents
 pub mod Settings
 pub mod Steps
+pub mod Writes

@@ -22,6 +22,7 @@ mod selected;
 mod setting;
 mod states;
 mod step;
+mod writing;
 
 pub use idle::Idle;
 pub use quiet::Quiet;
@@ -29,3 +30,4 @@ pub use setting::Setting;
 pub use states::{Associated, Open, Selected};
 pub use step::{Step, StepError};
 pub use vf_elements::{Message, Said};
+pub use writing::Writing;
