@@ -15,6 +15,7 @@ pub mod Opens
 pub mod OwnDockets
 pub mod Renames
 pub mod Requests
+pub mod Restarts
 pub mod Retained
 pub mod Rows
 pub mod WriteDockets

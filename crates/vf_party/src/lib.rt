@@ -5,6 +5,7 @@
 mod associated;
 mod attributes;
 mod changing;
+mod checking;
 mod creating;
 mod deleting;
 mod dockets;
