@@ -19,4 +19,5 @@ pub mod Restarts
 pub mod Retained
 pub mod Rows
 pub mod WriteDockets
+pub mod WriteEndings
 pub mod Writes

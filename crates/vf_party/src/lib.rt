@@ -9,6 +9,7 @@ mod checking;
 mod creating;
 mod deleting;
 mod dockets;
+mod ending;
 mod erasing;
 mod files;
 mod idle;
