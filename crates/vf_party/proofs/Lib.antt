@@ -19,6 +19,10 @@ pub mod Refused
 pub mod ReadsOn
 pub mod Renames
 pub mod Requests
+pub mod Restarts
 pub mod Retained
 pub mod Rows
 pub mod Turning
+pub mod WriteDockets
+pub mod WriteEndings
+pub mod Writes

@@ -18,3 +18,4 @@ pub mod Represents
 pub mod Settings
 pub mod Steps
 pub mod Turns
+pub mod Writes
