@@ -15,8 +15,8 @@ pub mod Locations
 pub mod OpenRows
 pub mod Opens
 pub mod OwnDockets
-pub mod Refused
 pub mod ReadsOn
+pub mod Refused
 pub mod Renames
 pub mod Requests
 pub mod Restarts

@@ -10,8 +10,8 @@ pub mod Leaving
 pub mod Locations
 pub mod Openings
 pub mod Quiets
-pub mod Refusals
 pub mod Reads
+pub mod Refusals
 pub mod Regimes
 pub mod Renames
 pub mod Represents
