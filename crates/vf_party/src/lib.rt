@@ -10,6 +10,7 @@ mod deleting;
 mod dockets;
 mod erasing;
 mod files;
+mod holding;
 mod idle;
 mod items;
 mod leaving;
