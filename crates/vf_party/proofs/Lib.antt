@@ -26,3 +26,4 @@ pub mod Turning
 pub mod WriteDockets
 pub mod WriteEndings
 pub mod Writes
+pub mod Unopposed

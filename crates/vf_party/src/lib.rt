@@ -15,6 +15,7 @@ mod due;
 mod ending;
 mod erasing;
 mod files;
+mod holding;
 mod idle;
 mod items;
 mod leaving;
