@@ -23,7 +23,7 @@ pub mod Restarts
 pub mod Retained
 pub mod Rows
 pub mod Turning
+pub mod Unopposed
 pub mod WriteDockets
 pub mod WriteEndings
 pub mod Writes
-pub mod Unopposed
