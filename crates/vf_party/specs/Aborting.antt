@@ -1,7 +1,7 @@
 -- What aborts a request in a quiet stage, by what typed states keep (profile).
-use Rattle.std.specs.Prelude.{ℕ, not, ◌&&◌, List, [], ◌∷◌, Option, nat_le}
+use Rattle.std.specs.Prelude.{ℕ, ◌+◌, ◌-◌, not, ◌&&◌, List, [], ◌∷◌, Option, nat_le}
 use Rattle.vf_files.specs.Rows.{includes}
-use Rattle.vf_filestore.specs.Aborts.{Setting, abort_where}
+use Rattle.vf_filestore.specs.Aborts.{Setting, abort_where, passes_serials}
 use Rattle.vf_filestore.specs.Diagnostics.{numbers_spent, wrong_state}
 use Rattle.vf_filestore.specs.Limits.{most_transfers}
 use Rattle.vf_filestore.specs.Units.{grouping_unit, has_checks}
@@ -23,3 +23,11 @@ aborts_of_open units done setting (ReadRequest fadu context) =
     abort_where (has_checks units && not setting.token) wrong_state ∷ spent_aborts done
 aborts_of_open units done setting (WriteRequest operation fadu) = spent_aborts done
 aborts_of_open units done setting request = aborts_of_units units request
+
+-- A RESTART under these functional units, of a transfer that began at a check, with this check as its last, where the
+-- session's next check has this number.
+abbrev pub aborts_of_restart : (units start check serial point : ℕ) → List (Option ℕ)
+aborts_of_restart units begun last serial point =
+    abort_where (not (has_checks units)) wrong_state
+    ∷ abort_where (not (nat_le begun point && nat_le point last)) wrong_state
+    ∷ abort_where (passes_serials ((serial + point) - last)) numbers_spent ∷ []

@@ -18,9 +18,11 @@ use Rattle.vf_locks.specs.Table.{IsAsBefore}
 use Rattle.vf_party.specs.Items.{is_item}
 use Rattle.vf_party.specs.Leaving.{LeavesHolders}
 use Rattle.vf_party.specs.Quiets.{IsQuiet}
+use Rattle.vf_party.specs.Reads.{IsReading}
 use Rattle.vf_party.specs.Refusals.{refusal_numbered}
 use Rattle.vf_party.specs.Represents.{IsIdle}
 use Rattle.vf_party.specs.Steps.{HoldersOfFiles, Represents, StandsIn}
+use Rattle.vf_party.specs.Writes.{IsWriting}
 use Rattle.vf_party.specs.declared.party.Grouping.{Grouping}
 use Rattle.vf_party.specs.declared.party.Outcome.{Outcome}
 use Rattle.vf_party.specs.declared.party.Party.{Party}
@@ -43,6 +45,8 @@ pub record IsGrouped (grouping : Grouping) (standing : StandingParty) : Type 0 w
 abbrev pub IsParty : Party → StandingParty → Type 0
 IsParty (parties.Idle idle) standing = IsAlone IsIdle idle standing
 IsParty (parties.Quiet quiet) standing = IsAlone IsQuiet quiet standing
+IsParty (parties.Reading reading) standing = IsAlone IsReading reading standing
+IsParty (parties.Writing writing) standing = IsAlone IsWriting writing standing
 IsParty (parties.Grouping grouping) standing = IsGrouped grouping standing
 
 -- the party that a message leaves, if it leaves one

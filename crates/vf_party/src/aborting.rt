@@ -1,9 +1,9 @@
 //! What aborts a request before anything else is asked (profile): an abort has no diagnostic, and ends the association.
-ghost use Rattle.std.specs.Prelude.{◌≡◌, ◌||◌};
+ghost use Rattle.std.specs.Prelude.{◌≡◌, ◌&&◌, nat_le};
 ghost use Rattle.vf_files.specs.Rows.{includes as includes_meant};
 ghost use Rattle.vf_filestore.specs.Aborts.{first_abort, passes_serials as passes_serials_meant};
 ghost use Rattle.vf_filestore.specs.Units.{has_checks as has_checks_meant};
-ghost use Rattle.vf_party.specs.Aborting.{aborts_of_open, aborts_of_units, spent_aborts};
+ghost use Rattle.vf_party.specs.Aborting.{aborts_of_open, aborts_of_restart, aborts_of_units, spent_aborts};
 ghost use Rattle.vf_party.specs.Settings.{setting_of};
 
 use crate::Setting;
@@ -29,7 +29,7 @@ const RECOVERY: u16 = 128;
 const MOST_TRANSFERS: u32 = 1_000_000;
 
 /// The highest number of a session.
-const MOST_SERIAL: u32 = 999_999;
+const MOST_SERIAL: u64 = 999_999;
 
 /// What aborts the begin of a group under these functional units.
 pub(crate) fn aborted_by_units(units: u16, request: &Pdu) -> Option<u16>
@@ -91,8 +91,38 @@ fn includes(units: u16, others: u16) -> bool
     others & units == others
 }
 
+/// What aborts a restart at a check under these functional units, of a transfer that began at the check `start` and whose
+/// last is `check`, where the session's next check has this number.
+pub(crate) fn aborted_restart(
+    units: u16,
+    start: u32,
+    check: u32,
+    serial: u32,
+    point: u32,
+) -> Option<u16>
+    ensures { result ≡ first_abort (aborts_of_restart units start check serial point) }
+{
+    if !has_checks(units) {
+        return Some(WRONG_STATE);
+    }
+    if !is_known(start, check, point) {
+        return Some(WRONG_STATE);
+    }
+    if passes_serials((u64::from(serial) + u64::from(point)).saturating_sub(u64::from(check))) {
+        return Some(NUMBERS_SPENT);
+    }
+    None
+}
+
+/// Whether a check is one of these.
+pub(crate) fn is_known(start: u32, last: u32, check: u32) -> bool
+    ensures { result ≡ (nat_le start check && nat_le check last) }
+{
+    start <= check && check <= last
+}
+
 /// Whether this is no number of a session.
-pub(crate) fn passes_serials(serial: u32) -> bool
+pub(crate) fn passes_serials(serial: u64) -> bool
     ensures { result ≡ passes_serials_meant serial }
 {
     MOST_SERIAL < serial
