@@ -5,6 +5,8 @@ use Rattle.vf_filestore.specs.Aborts.{Setting, abort_where, passes_serials}
 use Rattle.vf_filestore.specs.Diagnostics.{numbers_spent, wrong_state}
 use Rattle.vf_filestore.specs.Limits.{most_transfers}
 use Rattle.vf_filestore.specs.Units.{grouping_unit, has_checks}
+use Rattle.vf_party.specs.declared.quiet.Quiet.{Quiet}
+use Rattle.vf_party.specs.declared.quiet.Quiet.TheVariants as quiets
 use Rattle.vf_pdu.specs.declared.pdu.Pdu.{Pdu}
 use Rattle.vf_pdu.specs.declared.pdu.Pdu.TheVariants.{BeginGroupRequest, ReadRequest, WriteRequest}
 
@@ -31,3 +33,10 @@ aborts_of_restart units begun last serial point =
     abort_where (not (has_checks units)) wrong_state
     ∷ abort_where (not (nat_le begun point && nat_le point last)) wrong_state
     ∷ abort_where (passes_serials ((serial + point) - last)) numbers_spent ∷ []
+
+-- a request of a party in which no transfer is under way
+abbrev pub aborts_of_quiet : Quiet → Setting → Pdu → List (Option ℕ)
+aborts_of_quiet (quiets.Associated associated) setting request = aborts_of_units associated.association.units request
+aborts_of_quiet (quiets.Selected selected) setting request = aborts_of_units selected.associated.association.units request
+aborts_of_quiet (quiets.Open regimes) setting request =
+    aborts_of_open regimes.selected.associated.association.units regimes.regime.done setting request

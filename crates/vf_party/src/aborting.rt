@@ -3,10 +3,10 @@ ghost use Rattle.std.specs.Prelude.{◌≡◌, ◌&&◌, nat_le};
 ghost use Rattle.vf_files.specs.Rows.{includes as includes_meant};
 ghost use Rattle.vf_filestore.specs.Aborts.{first_abort, passes_serials as passes_serials_meant};
 ghost use Rattle.vf_filestore.specs.Units.{has_checks as has_checks_meant};
-ghost use Rattle.vf_party.specs.Aborting.{aborts_of_open, aborts_of_restart, aborts_of_units, spent_aborts};
+ghost use Rattle.vf_party.specs.Aborting.{aborts_of_open, aborts_of_quiet, aborts_of_restart, aborts_of_units, spent_aborts};
 ghost use Rattle.vf_party.specs.Settings.{setting_of};
 
-use crate::Setting;
+use crate::{Quiet, Setting};
 use crate::states::OpenRegime;
 use vf_pdu::Pdu;
 use vf_regime_refusals::Association;
@@ -31,8 +31,24 @@ const MOST_TRANSFERS: u32 = 1_000_000;
 /// The highest number of a session.
 const MOST_SERIAL: u64 = 999_999;
 
+/// What aborts a request of a party in which no transfer is under way.
+pub(crate) fn aborted_in_quiet(quiet: &Quiet, request: &Pdu, setting: Setting) -> Option<u16>
+    ensures { result ≡ first_abort (aborts_of_quiet quiet.now (setting_of setting) request.now) }
+{
+    match quiet {
+        Quiet::Associated(associated) => aborted_by_units(associated.association.units, request),
+        Quiet::Selected(selected) => {
+            aborted_by_units(selected.associated.association.units, request)
+        }
+        Quiet::Open(regimes) => {
+            let association = &regimes.selected.associated.association;
+            aborted_in_open(association, &regimes.regime, request, setting)
+        }
+    }
+}
+
 /// What aborts the begin of a group under these functional units.
-pub(crate) fn aborted_by_units(units: u16, request: &Pdu) -> Option<u16>
+fn aborted_by_units(units: u16, request: &Pdu) -> Option<u16>
     ensures { result ≡ first_abort (aborts_of_units units request.now) }
 {
     match request {
@@ -47,7 +63,7 @@ pub(crate) fn aborted_by_units(units: u16, request: &Pdu) -> Option<u16>
 }
 
 /// What aborts a request in an open regime in which no transfer is under way.
-pub(crate) fn aborted_in_open(
+fn aborted_in_open(
     association: &Association,
     regime: &OpenRegime,
     request: &Pdu,
