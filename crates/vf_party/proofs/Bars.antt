@@ -50,7 +50,7 @@ module _ (party : StandingParty) (setting : Setting) where
   selected_bars units is request taken = refl
 
   opened_bars : (units count : ℕ) → units_of party ≡ units → done party.history ≡ count → (request : Pdu) → takes stages.Opened (messages.Pdu request) ≡ true
-      → request_aborts party setting request ≡ aborts_of_open units count setting request
+      → request_aborts party setting request ≡ aborts_of_open units count setting.token request
   opened_bars units count is counted (BeginGroupRequest threshold) taken = λ i. abort_where (not (includes (is i) grouping_unit)) wrong_state ∷ []
   opened_bars units count is counted (ReadRequest fadu context) taken = λ i. abort_where (has_checks (is i) && not setting.token) wrong_state ∷ spent_aborts (counted i)
   opened_bars units count is counted (WriteRequest operation fadu) taken = λ i. spent_aborts (counted i)
@@ -59,7 +59,7 @@ module _ (party : StandingParty) (setting : Setting) where
   opened_bars units count is counted request taken = refl
 
   pub quiet_bars : (quiet : Quiet) (request : Pdu) → IsQuiet quiet party.link party.history → takes (stage_of quiet) (messages.Pdu request) ≡ true
-      → request_aborts party setting request ≡ aborts_of_quiet quiet setting request
+      → request_aborts party setting request ≡ aborts_of_quiet quiet setting.token request
   quiet_bars (quiets.Associated associated) request is taken = associated_bars associated.association.units (ap units_in is.stands) request taken
   quiet_bars (quiets.Selected selected) request is taken = selected_bars selected.associated.association.units (ap units_in is.associated) request taken
   quiet_bars (quiets.Open regimes) request is taken =

@@ -102,3 +102,9 @@ pub record IsEnded {S : Type 0} (represents : Represents S) (self : S) (said : L
 abbrev pub EndsSaying : {S : Type 0} → Represents S → (S → Party) → S → List Said → (before after : HoldersOfFiles) → Result Outcome (Party × NoMemory) → Type 0
 EndsSaying represents party self said old new (Ok outcome) = IsEnded represents self said old new outcome
 EndsSaying represents party self said old new (Err (back, error)) = (back ≡ party self) × (new ≡ old)
+
+-- what a party outside of a group owes to a message
+abbrev pub IsTurnOf : {S : Type 0} → Represents S → (S → Party) → Tables → (before after : HoldersOfFiles) → S → Setting → Message → Result Outcome (Party × NoMemory) → Type 0
+IsTurnOf represents party_of tables old new self setting message result =
+    (state : State) (party : StandingParty) → StandsIn tables old state party → IsAlone represents self party
+    → IsTurnIn tables old new (party_of self) state party setting message result

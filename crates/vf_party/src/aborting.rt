@@ -4,9 +4,8 @@ ghost use Rattle.vf_files.specs.Rows.{includes as includes_meant};
 ghost use Rattle.vf_filestore.specs.Aborts.{first_abort, passes_serials as passes_serials_meant};
 ghost use Rattle.vf_filestore.specs.Units.{has_checks as has_checks_meant};
 ghost use Rattle.vf_party.specs.Aborting.{aborts_of_open, aborts_of_quiet, aborts_of_restart, aborts_of_units, spent_aborts};
-ghost use Rattle.vf_party.specs.Settings.{setting_of};
 
-use crate::{Quiet, Setting};
+use crate::Quiet;
 use crate::states::OpenRegime;
 use vf_pdu::Pdu;
 use vf_regime_refusals::Association;
@@ -31,9 +30,10 @@ const MOST_TRANSFERS: u32 = 1_000_000;
 /// The highest number of a session.
 const MOST_SERIAL: u64 = 999_999;
 
-/// What aborts a request of a party in which no transfer is under way.
-pub(crate) fn aborted_in_quiet(quiet: &Quiet, request: &Pdu, setting: Setting) -> Option<u16>
-    ensures { result ≡ first_abort (aborts_of_quiet quiet.now (setting_of setting) request.now) }
+/// What aborts a request of a party in which no transfer is under way; `token` is whether this end has the token of minor
+/// synchronization.
+pub(crate) fn aborted_in_quiet(quiet: &Quiet, request: &Pdu, token: bool) -> Option<u16>
+    ensures { result ≡ first_abort (aborts_of_quiet quiet.now token request.now) }
 {
     match quiet {
         Quiet::Associated(associated) => aborted_by_units(associated.association.units, request),
@@ -42,7 +42,7 @@ pub(crate) fn aborted_in_quiet(quiet: &Quiet, request: &Pdu, setting: Setting) -
         }
         Quiet::Open(regimes) => {
             let association = &regimes.selected.associated.association;
-            aborted_in_open(association, &regimes.regime, request, setting)
+            aborted_in_open(association, &regimes.regime, request, token)
         }
     }
 }
@@ -67,13 +67,13 @@ fn aborted_in_open(
     association: &Association,
     regime: &OpenRegime,
     request: &Pdu,
-    setting: Setting,
+    token: bool,
 ) -> Option<u16>
-    ensures { result ≡ first_abort (aborts_of_open association.now.units regime.now.done (setting_of setting) request.now) }
+    ensures { result ≡ first_abort (aborts_of_open association.now.units regime.now.done token request.now) }
 {
     match request {
         Pdu::ReadRequest { .. } => {
-            if has_checks(association.units) && !setting.token {
+            if has_checks(association.units) && !token {
                 return Some(WRONG_STATE);
             }
             spent(regime.done)

@@ -35,6 +35,7 @@ mod selected;
 mod setting;
 mod states;
 mod step;
+mod taking_quiet;
 mod writing;
 
 pub use idle::Idle;
