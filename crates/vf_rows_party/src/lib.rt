@@ -6,4 +6,6 @@ mod acts;
 #[cfg(test)]
 mod changes;
 #[cfg(test)]
+mod reads;
+#[cfg(test)]
 mod steps;
