@@ -5,3 +5,5 @@
 mod changes;
 #[cfg(test)]
 mod steps;
+#[cfg(test)]
+mod writes;
