@@ -9,3 +9,5 @@ mod changes;
 mod reads;
 #[cfg(test)]
 mod steps;
+#[cfg(test)]
+mod writes;
