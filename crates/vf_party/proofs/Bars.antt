@@ -1,7 +1,8 @@
 -- What aborts a message, and which stage takes it, by what typed states keep.
-use Rattle.std.proofs.Common.{◌≡◌, ℕ, Bool, true, false, not, ◌&&◌, List, [], ◌∷◌, is_some, nat_le, Option, None, Some, refl, ap, sym, subst, ◌∙◌}
-use Rattle.vf_elements.specs.Stages.{takes}
+use Rattle.std.proofs.Common.{◌≡◌, ℕ, ◌==◌, Bool, true, false, not, ◌&&◌, List, [], ◌∷◌, is_some, nat_le, Option, None, Some, refl, ap, sym, subst, ◌∙◌}
+use Rattle.vf_elements.specs.Stages.{initialize, lists, takes}
 use Rattle.vf_elements.specs.declared.message.Message.TheVariants as messages
+use Rattle.vf_elements.specs.declared.stage.Stage.{Stage}
 use Rattle.vf_elements.specs.declared.stage.Stage.TheVariants as stages
 use Rattle.vf_filestore.specs.Aborts.{Setting, abort_where, first_abort, request_aborts}
 use Rattle.vf_filestore.specs.Diagnostics.{wrong_state}
@@ -10,13 +11,15 @@ use Rattle.vf_filestore.specs.History.{association, done, selection}
 use Rattle.vf_filestore.specs.Stage.{grouping, regime_stage, stage_by}
 use Rattle.vf_filestore.specs.State.{StandingParty, units_in, units_of}
 use Rattle.vf_filestore.specs.Transfers.{data_end, was_shown}
+use Rattle.vf_filestore.specs.Transition.{associates}
 use Rattle.vf_filestore.specs.Units.{grouping_unit, has_checks}
 use Rattle.vf_party.specs.Aborting.{aborts_of_open, aborts_of_quiet, aborts_of_units, spent_aborts}
 use Rattle.vf_party.specs.Quiets.{IsQuiet, stage_of}
 use Rattle.vf_party.specs.declared.quiet.Quiet.{Quiet}
 use Rattle.vf_party.specs.declared.quiet.Quiet.TheVariants as quiets
+use Rattle.vf_pdu.specs.PduNumbers.{number_of}
 use Rattle.vf_pdu.specs.declared.pdu.Pdu.{Pdu}
-use Rattle.vf_pdu.specs.declared.pdu.Pdu.TheVariants.{BeginGroupRequest, ReadRequest, WriteRequest, CancelRequest, RestartRequest}
+use Rattle.vf_pdu.specs.declared.pdu.Pdu.TheVariants.{InitializeRequest, BeginGroupRequest, ReadRequest, WriteRequest, CancelRequest, RestartRequest}
 
 -- ---- stages
 
@@ -71,3 +74,11 @@ module _ (party : StandingParty) (setting : Setting) where
 pub begins_none : (request : Pdu) → ((threshold : ℕ) → request ≡ BeginGroupRequest threshold → ⊥) → grouping request None ≡ None
 begins_none (BeginGroupRequest threshold) no_begin = absurd (no_begin threshold refl)
 begins_none request no_begin = refl
+
+pub no_begin : (request : Pdu) → (number_of request == 22) ≡ false → (threshold : ℕ) → request ≡ BeginGroupRequest threshold → ⊥
+no_begin request other threshold is = let never : (22 == 22) ≡ false = sym (ap (λ (r : Pdu). number_of r == 22) is) ∙ other in absurd cc
+
+-- a stage that takes no F-INITIALIZE takes no request that associates
+pub unassociating : (request : Pdu) (here : Stage) → lists here initialize ≡ false → takes here (messages.Pdu request) ≡ true → associates (messages.Pdu request) ≡ false
+unassociating (InitializeRequest units identity password window) here no_initialize taken = let never : true ≡ false = sym taken ∙ no_initialize in absurd cc
+unassociating request here no_initialize taken = refl

@@ -36,6 +36,7 @@ mod setting;
 mod states;
 mod step;
 mod taking_quiet;
+mod taking_regime;
 mod writing;
 
 pub use idle::Idle;

@@ -1,5 +1,5 @@
 //! What comes of a message in a regime in which no transfer is under way.
-ghost use Rattle.std.specs.Prelude.{◌≡◌, true};
+ghost use Rattle.std.specs.Prelude.{◌≡◌, ◌==◌, ◌||◌, true};
 ghost use Rattle.vf_elements.specs.Stages.{takes};
 ghost use Rattle.vf_elements.specs.declared.message.Message.TheVariants as messages;
 ghost use Rattle.vf_party.specs.Quiets.{IsQuiet, stage_of};
@@ -8,16 +8,17 @@ ghost use Rattle.vf_party.specs.Turns.{IsTurnOf};
 ghost use Rattle.vf_party.specs.declared.party.Party.TheVariants as parties;
 
 use crate::aborting::{WRONG_STATE, aborted_in_quiet};
-use crate::departing::{aborted, ended, ended_saying};
+use crate::departing::{aborted, ended};
 use crate::items::{is_item, take_item};
 use crate::outcomes::concluded;
-use crate::party::{Grouping, Outcome, Party};
-use crate::{Message, Quiet, Said, Setting};
+use crate::party::{Outcome, Party};
+use crate::taking_regime::take_own;
+use crate::{Message, Quiet, Setting};
 use std::alloc::Global;
-use vf_base::{NoMemory, Sequence};
+use vf_base::NoMemory;
 use vf_locks::Locks;
 use vf_pdu::Pdu;
-use vf_tables::{Changes, Tables};
+use vf_tables::Tables;
 
 /// Takes a message.
 pub(crate) fn take_quiet(
@@ -80,5 +81,15 @@ fn take_request(
         let answer = take_item(quiet, alloc, request, setting, tables, locks);
         return concluded(alloc, number, answer, locks);
     }
-    Ok(ended(alloc, quiet, Vec::new(alloc), locks))
+    if is_leaving(number) {
+        return Ok(ended(alloc, quiet, Vec::new(alloc), locks));
+    }
+    return take_own(quiet, alloc, request, setting, tables, locks);
+}
+
+/// Whether this is the number of an abort by the initiator (F-U-ABORT, F-P-ABORT).
+fn is_leaving(number: u16) -> bool
+    ensures { result ≡ (number == 4 || number == 5) }
+{
+    number == 4 || number == 5
 }
