@@ -1,25 +1,27 @@
 -- What aborts a message, and which stage takes it, by what typed states keep.
-use Rattle.std.proofs.Common.{◌≡◌, ℕ, ◌==◌, Bool, true, false, not, ◌&&◌, List, [], ◌∷◌, is_some, nat_le, Option, None, Some, refl, ap, sym, subst, ◌∙◌}
+use Rattle.std.proofs.Common.{◌≡◌, ℕ, ◌==◌, Bool, true, false, not, ◌&&◌, ◌||◌, List, [], ◌∷◌, is_some, nat_le, Option, None, Some, refl, ap, sym, subst, ◌∙◌}
 use Rattle.vf_elements.specs.Stages.{initialize, lists, takes}
 use Rattle.vf_elements.specs.declared.message.Message.TheVariants as messages
 use Rattle.vf_elements.specs.declared.stage.Stage.{Stage}
 use Rattle.vf_elements.specs.declared.stage.Stage.TheVariants as stages
 use Rattle.vf_filestore.specs.Aborts.{Setting, abort_where, first_abort, request_aborts}
+use Rattle.vf_filestore.specs.Decision.{Leaves, request_decision}
 use Rattle.vf_filestore.specs.Diagnostics.{wrong_state}
 use Rattle.vf_files.specs.Rows.{includes}
 use Rattle.vf_filestore.specs.History.{association, done, selection}
 use Rattle.vf_filestore.specs.Stage.{grouping, regime_stage, stage_by}
-use Rattle.vf_filestore.specs.State.{StandingParty, units_in, units_of}
+use Rattle.vf_filestore.specs.State.{State, StandingParty, units_in, units_of}
 use Rattle.vf_filestore.specs.Transfers.{data_end, was_shown}
 use Rattle.vf_filestore.specs.Transition.{associates}
 use Rattle.vf_filestore.specs.Units.{grouping_unit, has_checks}
 use Rattle.vf_party.specs.Aborting.{aborts_of_open, aborts_of_quiet, aborts_of_units, spent_aborts}
+use Rattle.vf_party.specs.Items.{is_item}
 use Rattle.vf_party.specs.Quiets.{IsQuiet, stage_of}
 use Rattle.vf_party.specs.declared.quiet.Quiet.{Quiet}
 use Rattle.vf_party.specs.declared.quiet.Quiet.TheVariants as quiets
 use Rattle.vf_pdu.specs.PduNumbers.{number_of}
 use Rattle.vf_pdu.specs.declared.pdu.Pdu.{Pdu}
-use Rattle.vf_pdu.specs.declared.pdu.Pdu.TheVariants.{InitializeRequest, BeginGroupRequest, ReadRequest, WriteRequest, CancelRequest, RestartRequest}
+use Rattle.vf_pdu.specs.declared.pdu.Pdu.TheVariants.{InitializeRequest, UserAbort, ProviderAbort, BeginGroupRequest, ReadRequest, WriteRequest, CancelRequest, RestartRequest}
 
 -- ---- stages
 
@@ -82,3 +84,18 @@ no_begin request other threshold is = let never : (22 == 22) ≡ false = sym (ap
 pub unassociating : (request : Pdu) (here : Stage) → lists here initialize ≡ false → takes here (messages.Pdu request) ≡ true → associates (messages.Pdu request) ≡ false
 unassociating (InitializeRequest units identity password window) here no_initialize taken = let never : true ≡ false = sym taken ∙ no_initialize in absurd cc
 unassociating request here no_initialize taken = refl
+
+pub item_begins_none : (request : Pdu) → is_item request ≡ true → (threshold : ℕ) → request ≡ BeginGroupRequest threshold → ⊥
+item_begins_none request item threshold is = let never : false ≡ true = sym (ap is_item is) ∙ item in absurd cc
+
+-- no quiet stage takes F-INITIALIZE
+pub quiet_stays : (quiet : Quiet) → lists (stage_of quiet) initialize ≡ false
+quiet_stays (quiets.Associated associated) = refl
+quiet_stays (quiets.Selected selected) = refl
+quiet_stays (quiets.Open regimes) = refl
+
+-- by an abort of its own the initiator leaves
+pub leaving_decides : (state : State) (party : StandingParty) (setting : Setting) (request : Pdu) → (number_of request == 4 || number_of request == 5) ≡ true → request_decision state party setting request ≡ Leaves
+leaving_decides state party setting (UserAbort number) is = refl
+leaving_decides state party setting (ProviderAbort number place) is = refl
+leaving_decides state party setting request is = absurd cc

@@ -40,7 +40,7 @@ use Rattle.vf_party.specs.Represents.{IsAssociated, IsOpen}
 use Rattle.vf_party.specs.declared.step.Step.{Step}
 use Rattle.vf_party.specs.declared.step.StepError.{StepError}
 use Rattle.vf_party.specs.declared.step.StepError.TheVariants as errors
-use Rattle.vf_party.proofs.Answering.{IsAsked, asked_decides, end_answers, refusal_answers, step_answers, step_ends}
+use Rattle.vf_party.proofs.Answering.{IsAsked, asked_decides, end_answers, found_heard, refusal_answers, step_answers, step_ends, waits_answers}
 use Rattle.vf_tables.specs.declared.tables.Tables.{Tables}
 
 -- a decision that is no end of a group
@@ -168,6 +168,15 @@ module _ {S : Type 0} (represents : Represents S) (back : S → Party) (tables :
       untaken_decides : decision state party setting message ≡ Aborts wrong_state
       untaken_decides = λ i. cond (here i) (decision_in (pending party.trace) state party setting message) (Aborts wrong_state)
 
+  -- what nothing bars comes to what its rows say
+  pub unbarred_decides : takes (regime_stage party.history) message ≡ true → first_abort (all_aborts party setting message) ≡ None → decision state party setting message ≡ message_decision state party setting message
+  unbarred_decides taken unbarred =
+      (λ i. cond (here i) (decision_in (alone.alone i) state party setting message) (Aborts wrong_state))
+      ∙ (λ i. unless_aborted (unbarred i) (message_decision state party setting message))
+    where
+      here : takes (stage party) message ≡ true
+      here = (λ i. takes (cond (is_some (alone.alone i)) stages.Grouping (regime_stage party.history)) message) ∙ taken
+
   -- of one that an abort's row refuses
   pub barred_turn : (number : ℕ) (result : Result Outcome (Party × NoMemory)) → takes (regime_stage party.history) message ≡ true → first_abort (all_aborts party setting message) ≡ Some number
       → EndsSaying represents back self (answers.Abort number 0 ∷ []) old new result → IsTurnIn tables old new (back self) state party setting message result
@@ -180,6 +189,22 @@ module _ {S : Type 0} (represents : Represents S) (back : S → Party) (tables :
       barred_decides =
           (λ i. cond (here i) (decision_in (alone.alone i) state party setting message) (Aborts wrong_state))
           ∙ (λ i. unless_aborted (barred i) (message_decision state party setting message))
+
+-- ---- what waits
+
+module _ (tables : Tables) (locks : HoldersOfFiles) (setting : Setting) (message : Message) (state : State) (party : StandingParty) (stands : StandsIn tables locks state party) where
+  pub waits_turn : (outcome : Outcome) (next : Party) → decision state party setting message ≡ Waits → outcome.party ≡ Some next → outcome.said.items ≡ [] → outcome.changes ≡ []
+      → IsParty next (with_message message party) → IsTaken tables locks state party setting message outcome
+  waits_turn outcome next decides goes says differs represents =
+      let answer : Answered = record { said = []; state = hearing state party message } in
+      let is : answered state party setting message ≡ answer = ap (met (hearing state party message) (with_message message party) setting message) decides in
+      let owed = waits_answers state party setting message tables locks stands in
+      taken_of tables state party setting message stands.kept locks outcome Waits waits decides
+      (subst (λ (one : Answered). IsAnswered tables locks outcome.said.items outcome.changes one) (sym is)
+      (record { says = says; differs = differs ∙ owed.differs; held = owed.held }))
+      (subst (λ (one : Answered). IsNext outcome.party (party_of party.link one.state.parties)) (sym is)
+      (subst (λ (one : Option Party). IsNext one (party_of party.link (hearing state party message).parties)) (sym goes)
+      (with_message message party, found_heard state party message stands.stands, represents)))
 
 -- ---- typed states
 

@@ -27,6 +27,7 @@ use Rattle.vf_party.specs.declared.party.Grouping.{Grouping}
 use Rattle.vf_party.specs.declared.party.Outcome.{Outcome}
 use Rattle.vf_party.specs.declared.party.Party.{Party}
 use Rattle.vf_party.specs.declared.party.Party.TheVariants as parties
+use Rattle.vf_party.specs.declared.quiet.Quiet.{Quiet}
 use Rattle.vf_party.specs.declared.step.Step.{Step}
 use Rattle.vf_party.specs.declared.step.StepError.{StepError}
 use Rattle.vf_party.specs.declared.step.StepError.TheVariants as errors
@@ -108,3 +109,9 @@ abbrev pub IsTurnOf : {S : Type 0} → Represents S → (S → Party) → Tables
 IsTurnOf represents party_of tables old new self setting message result =
     (state : State) (party : StandingParty) → StandsIn tables old state party → IsAlone represents self party
     → IsTurnIn tables old new (party_of self) state party setting message result
+
+-- a group begins: nothing is said
+pub record IsBegun (quiet : Quiet) (threshold : ℕ) (outcome : Outcome) : Type 0 where
+  pub groups : outcome.party ≡ Some (parties.Grouping (record { quiet = quiet; threshold = threshold; items = [] }))
+  pub says : outcome.said.items ≡ []
+  pub differs : outcome.changes ≡ []
