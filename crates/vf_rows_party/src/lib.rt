@@ -7,3 +7,5 @@ mod acts;
 mod changes;
 #[cfg(test)]
 mod steps;
+#[cfg(test)]
+mod writes;
