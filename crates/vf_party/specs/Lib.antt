@@ -8,6 +8,7 @@ pub mod Files
 pub mod Items
 pub mod Leaving
 pub mod Locations
+pub mod Moving
 pub mod Openings
 pub mod Quiets
 pub mod Reads

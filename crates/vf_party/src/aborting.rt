@@ -1,17 +1,24 @@
 //! What aborts a request before anything else is asked (profile): an abort has no diagnostic, and ends the association.
-ghost use Rattle.std.specs.Prelude.{◌≡◌, ◌&&◌, nat_le};
+ghost use Rattle.std.specs.Prelude.{◌≡◌, ◌&&◌, [], ◌∷◌, nat_le, not};
 ghost use Rattle.vf_files.specs.Rows.{includes as includes_meant};
-ghost use Rattle.vf_filestore.specs.Aborts.{first_abort, passes_serials as passes_serials_meant};
+ghost use Rattle.vf_filestore.specs.Aborts.{abort_where, first_abort, passes_serials as passes_serials_meant};
+ghost use Rattle.vf_filestore.specs.Diagnostics.{numbers_spent, wrong_state};
 ghost use Rattle.vf_filestore.specs.Units.{has_checks as has_checks_meant};
-ghost use Rattle.vf_party.specs.Aborting.{aborts_of_open, aborts_of_quiet, aborts_of_restart, aborts_of_units, spent_aborts};
+ghost use Rattle.vf_transfer.specs.Checks.{offered};
+ghost use Rattle.vf_party.specs.Aborting.{aborts_of_open, aborts_of_quiet, aborts_of_reading, aborts_of_restart, aborts_of_units, aborts_of_writing, passes_with as passes_with_meant, spent_aborts};
 
-use crate::Quiet;
+use crate::{Message, Quiet, Reading, Writing};
 use crate::states::OpenRegime;
+use vf_base::Element;
 use vf_pdu::Pdu;
 use vf_regime_refusals::Association;
+use vf_tree::octets_of;
 
 /// The number of the abort of what the stage doesn't take, or may not come in it.
 pub(crate) const WRONG_STATE: u16 = 102;
+
+/// That of a value by which those of a write pass their limits.
+const TOO_LONG: u16 = 104;
 
 /// That of a number which the session or the open has no more of.
 pub(crate) const NUMBERS_SPENT: u16 = 105;
@@ -26,6 +33,12 @@ const RECOVERY: u16 = 128;
 
 /// An open has at most so many transfers.
 const MOST_TRANSFERS: u32 = 1_000_000;
+
+/// Octets of the strings of a write under way that stand, at most.
+const MOST_SURVIVOR_OCTETS: u64 = 17_825_792;
+
+/// Values of a write under way that stand: fewer than this.
+const MOST_SURVIVORS: usize = 262_145;
 
 /// The highest number of a session.
 const MOST_SERIAL: u64 = 999_999;
@@ -94,7 +107,7 @@ fn spent(done: u32) -> Option<u16>
 }
 
 /// Whether checks, acknowledgements and restarts are agreed.
-pub(crate) fn has_checks(units: u16) -> bool
+fn has_checks(units: u16) -> bool
     ensures { result ≡ has_checks_meant units }
 {
     includes(units, RESTART) || includes(units, RECOVERY)
@@ -107,9 +120,91 @@ fn includes(units: u16, others: u16) -> bool
     others & units == others
 }
 
+/// What aborts a message of a party that reads, where the session's next check has this number.
+pub(crate) fn aborted_in_reading(reading: &Reading, message: &Message, serial: u32) -> Option<u16>
+    ensures { result ≡ first_abort (aborts_of_reading reading.now serial message.now) }
+{
+    match message {
+        Message::Acknowledge { point } => unknown(reading.start, reading.check, *point),
+        Message::Restart { point } => aborted_read_restart(reading, serial, *point),
+        Message::Pdu(Pdu::RestartRequest { point }) => {
+            aborted_read_restart(reading, serial, *point)
+        }
+        Message::Pdu(Pdu::CancelRequest { .. }) => spent_serials(serial),
+        _ => None,
+    }
+}
+
+fn aborted_read_restart(reading: &Reading, serial: u32, point: u32) -> Option<u16>
+    ensures { result ≡ first_abort (aborts_of_restart reading.now.opened.selected.associated.association.units reading.now.start reading.now.check serial point) }
+{
+    let units = reading.opened.selected.associated.association.units;
+    aborted_restart(units, reading.start, reading.check, serial, point)
+}
+
+/// What aborts the acknowledgement of a check that isn't one of these.
+fn unknown(start: u32, last: u32, check: u32) -> Option<u16>
+    ensures { result ≡ first_abort (abort_where (not (nat_le start check && nat_le check last)) wrong_state ∷ []) }
+{
+    if !is_known(start, last, check) {
+        return Some(WRONG_STATE);
+    }
+    None
+}
+
+/// What aborts a cancel where the session has no number left.
+fn spent_serials(serial: u32) -> Option<u16>
+    ensures { result ≡ first_abort (abort_where (passes_serials_meant serial) numbers_spent ∷ []) }
+{
+    if passes_serials(u64::from(serial)) {
+        return Some(NUMBERS_SPENT);
+    }
+    None
+}
+
+/// What aborts a message of a party that writes, where the session's next check has this number.
+pub(crate) fn aborted_in_writing(writing: &Writing, message: &Message, serial: u32) -> Option<u16>
+    ensures { result ≡ first_abort (aborts_of_writing writing.now serial message.now) }
+{
+    match message {
+        Message::Element(element) => {
+            if passes_with(writing.octets, writing.received.values().len(), element) {
+                return Some(TOO_LONG);
+            }
+            None
+        }
+        Message::Check => {
+            if !has_checks(writing.regimes.selected.associated.association.units) {
+                return Some(WRONG_STATE);
+            }
+            None
+        }
+        Message::Restart { point } => aborted_write_restart(writing, serial, *point),
+        Message::Pdu(Pdu::RestartRequest { point }) => {
+            aborted_write_restart(writing, serial, *point)
+        }
+        Message::Pdu(Pdu::CancelRequest { .. }) => spent_serials(serial),
+        _ => None,
+    }
+}
+
+/// Whether with one more the values of a write, so many and of so many octets, would pass their limits.
+fn passes_with(octets: u64, count: usize, element: &Element) -> bool
+    ensures { result ≡ passes_with_meant octets count element.now }
+{
+    MOST_SURVIVOR_OCTETS < octets.saturating_add(octets_of(element)) || MOST_SURVIVORS <= count
+}
+
+fn aborted_write_restart(writing: &Writing, serial: u32, point: u32) -> Option<u16>
+    ensures { result ≡ first_abort (aborts_of_restart writing.now.regimes.selected.associated.association.units writing.now.start (offered writing.now.received.checks) serial point) }
+{
+    let units = writing.regimes.selected.associated.association.units;
+    aborted_restart(units, writing.start, writing.received.point(), serial, point)
+}
+
 /// What aborts a restart at a check under these functional units, of a transfer that began at the check `start` and whose
 /// last is `check`, where the session's next check has this number.
-pub(crate) fn aborted_restart(
+fn aborted_restart(
     units: u16,
     start: u32,
     check: u32,
@@ -131,14 +226,14 @@ pub(crate) fn aborted_restart(
 }
 
 /// Whether a check is one of these.
-pub(crate) fn is_known(start: u32, last: u32, check: u32) -> bool
+fn is_known(start: u32, last: u32, check: u32) -> bool
     ensures { result ≡ (nat_le start check && nat_le check last) }
 {
     start <= check && check <= last
 }
 
 /// Whether this is no number of a session.
-pub(crate) fn passes_serials(serial: u64) -> bool
+fn passes_serials(serial: u64) -> bool
     ensures { result ≡ passes_serials_meant serial }
 {
     MOST_SERIAL < serial
