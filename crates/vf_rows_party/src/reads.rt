@@ -4,7 +4,7 @@ use std::alloc::Global;
 use std::test::Fail;
 use vf_base::{Context, DataUnit, Element, FaduId, Moment, NoMemory, Octets, Sequence};
 use vf_locks::Locks;
-use vf_party::{Open, Reading, Step};
+use vf_party::{Open, Reading};
 use vf_pdu::Pdu;
 use vf_tables::{Change, Tables};
 
@@ -35,106 +35,97 @@ fn tables(alloc: Global) -> Result<Tables, Fail> {
     Ok(tables)
 }
 
-/// What the read of all strings leaves.
+/// A read of all strings, and how much is said at first.
 fn read(
     alloc: Global,
     regimes: Open,
     tables: &Tables,
     locks: &mut Locks,
-) -> Result<Step<Reading>, Fail> {
+) -> Result<(Reading, usize), Fail> {
     let request = Pdu::ReadRequest {
         fadu: FaduId::Begin,
         context: Context::UA,
     };
     let moment = Moment::of(8)?;
     match regimes.read(alloc, request, moment, 1, true, true, tables, locks) {
-        Ok(step) => Ok(step),
+        Ok(step) => Ok((step.state, step.said.len())),
         Err(_) => Err(Fail::from("no read")),
     }
 }
 
-/// What the acknowledgement of a check leaves.
+/// The read with a check acknowledged, and how much is said then.
 fn acknowledged(
     alloc: Global,
     reading: Reading,
     point: u32,
     tables: &Tables,
     locks: &mut Locks,
-) -> Result<Step<Reading>, Fail> {
+) -> Result<(Reading, usize), Fail> {
     let moment = Moment::of(8)?;
     match reading.acknowledge(alloc, point, moment, 2, true, true, tables, locks) {
-        Ok(step) => Ok(step),
+        Ok(step) => Ok((step.state, step.said.len())),
         Err(_) => Err(Fail::from("no acknowledgement")),
     }
 }
 
-/// How much is said once a read is restarted at its begin, and what this leaves.
+/// The read once it is restarted at its begin, and how much is said then.
 fn restarted(
     alloc: Global,
     reading: Reading,
     tables: &Tables,
     locks: &mut Locks,
-) -> Result<Step<Reading>, Fail> {
+) -> Result<(Reading, usize), Fail> {
     let moment = Moment::of(8)?;
     match reading.restart(alloc, 0, moment, 2, true, true, tables, locks) {
-        Ok(step) => Ok(step),
+        Ok(step) => Ok((step.state, step.said.len())),
         Err(_) => Err(Fail::from("no restart")),
     }
 }
 
-/// What the end of a read leaves.
+/// How many changes the end of a read makes.
 fn ended(
     alloc: Global,
     reading: Reading,
     tables: &Tables,
     locks: &mut Locks,
-) -> Result<Step<Open>, Fail> {
+) -> Result<usize, Fail> {
     let moment = Moment::of(8)?;
     let request = Pdu::TransferEndRequest;
     match reading.transfer_end(alloc, request, moment, 3, true, true, tables, locks) {
-        Ok(step) => Ok(step),
+        Ok(step) => Ok(step.changes.len()),
         Err(_) => Err(Fail::from("no end of a read")),
     }
 }
 
-/// What the cancel of a read leaves.
+/// How many changes the cancel of a read makes.
 fn cancelled(
     alloc: Global,
     reading: Reading,
     tables: &Tables,
     locks: &mut Locks,
-) -> Result<Step<Open>, Fail> {
+) -> Result<usize, Fail> {
     let moment = Moment::of(8)?;
     let request = Pdu::CancelRequest { diagnostic: None };
     match reading.cancel(alloc, request, moment, 2, true, true, tables, locks) {
-        Ok(step) => Ok(step),
+        Ok(step) => Ok(step.changes.len()),
         Err(_) => Err(Fail::from("no cancel")),
     }
 }
 
-/// A read of `a` that has just begun.
-fn begun(alloc: Global, tables: &Tables, locks: &mut Locks) -> Result<Step<Reading>, Fail> {
+/// A read of `a` that has just begun, and how much is said at first.
+fn begun(alloc: Global, tables: &Tables, locks: &mut Locks) -> Result<(Reading, usize), Fail> {
     let state = created(alloc, locks)?.state;
     let state = opened(alloc, state, tables, locks)?.state;
     read(alloc, state, tables, locks)
 }
 
 /// How much is said at first, and with each of two acknowledgements; and how many changes the end of the read makes.
-fn read_to_the_end(
-    alloc: Global,
-    tables: &Tables,
-    locks: &mut Locks,
-) -> Result<[usize; 4], Fail> {
-    let first = begun(alloc, tables, locks)?;
-    let second = acknowledged(alloc, first.state, 1, tables, locks)?;
-    let third = acknowledged(alloc, second.state, 2, tables, locks)?;
-    let last = ended(alloc, third.state, tables, locks)?;
-    Ok([
-        first.said.len(),
-        second.said.len(),
-        third.said.len(),
-        last.changes.len(),
-    ])
+fn read_to_the_end(alloc: Global, tables: &Tables, locks: &mut Locks) -> Result<[usize; 4], Fail> {
+    let (reading, first) = begun(alloc, tables, locks)?;
+    let (reading, second) = acknowledged(alloc, reading, 1, tables, locks)?;
+    let (reading, third) = acknowledged(alloc, reading, 2, tables, locks)?;
+    let last = ended(alloc, reading, tables, locks)?;
+    Ok([first, second, third, last])
 }
 
 #[test]
@@ -153,10 +144,10 @@ fn restarted_and_cancelled(
     tables: &Tables,
     locks: &mut Locks,
 ) -> Result<(usize, usize), Fail> {
-    let first = begun(alloc, tables, locks)?;
-    let again = restarted(alloc, first.state, tables, locks)?;
-    let last = cancelled(alloc, again.state, tables, locks)?;
-    Ok((again.said.len(), last.changes.len()))
+    let (reading, _first) = begun(alloc, tables, locks)?;
+    let (reading, again) = restarted(alloc, reading, tables, locks)?;
+    let last = cancelled(alloc, reading, tables, locks)?;
+    Ok((again, last))
 }
 
 #[test]
