@@ -1,25 +1,38 @@
 -- What aborts a message, and which stage takes it, by what typed states keep.
-use Rattle.std.proofs.Common.{◌≡◌, ℕ, ◌==◌, Bool, true, false, not, ◌&&◌, ◌||◌, List, [], ◌∷◌, is_some, nat_le, Option, None, Some, refl, ap, sym, subst, ◌∙◌}
+use Rattle.std.proofs.Common.{◌≡◌, ℕ, ◌+◌, ◌-◌, ◌==◌, Bool, true, false, cond, not, length, nat_lt, ◌&&◌, ◌||◌, List, [], ◌∷◌, is_some, nat_le, Option, None, Some, refl, ap, sym, subst, ◌∙◌}
 use Rattle.vf_elements.specs.Stages.{initialize, lists, takes}
+use Rattle.vf_base.specs.declared.diagnostic.Diagnostic.{Diagnostic}
+use Rattle.vf_elements.specs.declared.message.Message.{Message}
 use Rattle.vf_elements.specs.declared.message.Message.TheVariants as messages
 use Rattle.vf_elements.specs.declared.stage.Stage.{Stage}
 use Rattle.vf_elements.specs.declared.stage.Stage.TheVariants as stages
-use Rattle.vf_filestore.specs.Aborts.{Setting, abort_where, first_abort, request_aborts}
+use Rattle.vf_filestore.specs.Aborts.{Setting, abort_where, aborts, passes_serials, request_aborts, restart_aborts}
 use Rattle.vf_filestore.specs.Decision.{Leaves, request_decision}
-use Rattle.vf_filestore.specs.Diagnostics.{wrong_state}
+use Rattle.vf_filestore.specs.Diagnostics.{numbers_spent, too_long, wrong_state}
 use Rattle.vf_files.specs.Rows.{includes}
-use Rattle.vf_filestore.specs.History.{association, done, selection}
+use Rattle.vf_filestore.specs.History.{History, association, done, regime, selection}
+use Rattle.vf_filestore.specs.Limits.{most_survivor_octets, most_survivors}
 use Rattle.vf_filestore.specs.Stage.{grouping, regime_stage, stage_by}
 use Rattle.vf_filestore.specs.State.{State, StandingParty, units_in, units_of}
-use Rattle.vf_filestore.specs.Transfers.{data_end, was_shown}
+use Rattle.vf_filestore.specs.Transfers.{data_end, happened, last_check, survivors, was_shown}
 use Rattle.vf_filestore.specs.Transition.{associates}
 use Rattle.vf_filestore.specs.Units.{grouping_unit, has_checks}
-use Rattle.vf_party.specs.Aborting.{aborts_of_open, aborts_of_quiet, aborts_of_units, spent_aborts}
+use Rattle.vf_party.specs.Aborting.{aborts_of_open, aborts_of_quiet, aborts_of_reading, aborts_of_restart, aborts_of_units, aborts_of_writing, spent_aborts}
 use Rattle.vf_party.specs.Items.{is_item}
 use Rattle.vf_party.specs.Quiets.{IsQuiet, stage_of}
+use Rattle.vf_party.specs.Moving.{stage_of_writing}
+use Rattle.vf_party.specs.Reads.{IsReading}
+use Rattle.vf_party.specs.Reads.{stage_of as reading_stage_of}
+use Rattle.vf_party.specs.Writes.{IsWriting}
+use Rattle.vf_party.specs.declared.reading.Reading.{Reading}
+use Rattle.vf_party.specs.declared.writing.Writing.{Writing}
 use Rattle.vf_party.specs.declared.quiet.Quiet.{Quiet}
 use Rattle.vf_party.specs.declared.quiet.Quiet.TheVariants as quiets
 use Rattle.vf_pdu.specs.PduNumbers.{number_of}
+use Rattle.vf_transfer.proofs.Entries.{offers_last}
+use Rattle.vf_transfer.specs.Checks.{offered}
+use Rattle.vf_transfer.specs.Transfer as transfer
+use Rattle.vf_tree.specs.FileTree.{octets_of}
 use Rattle.vf_pdu.specs.declared.pdu.Pdu.{Pdu}
 use Rattle.vf_pdu.specs.declared.pdu.Pdu.TheVariants.{InitializeRequest, UserAbort, ProviderAbort, BeginGroupRequest, ReadRequest, WriteRequest, CancelRequest, RestartRequest}
 
@@ -99,3 +112,69 @@ pub leaving_decides : (state : State) (party : StandingParty) (setting : Setting
 leaving_decides state party setting (UserAbort number) is = refl
 leaving_decides state party setting (ProviderAbort number place) is = refl
 leaving_decides state party setting request is = absurd cc
+
+-- ---- transfers
+
+neither : (b : Bool) (one other : Stage) (message : Message) → takes one message ≡ false → takes other message ≡ false → takes (cond b one other) message ≡ true → ⊥
+neither true one other message first second taken = let never : true ≡ false = sym taken ∙ first in absurd cc
+neither false one other message first second taken = let never : true ≡ false = sym taken ∙ second in absurd cc
+
+module _ (party : StandingParty) (setting : Setting) where
+  module _ (reading : Reading) (is : IsReading reading party.link party.history) where
+    read_restart : (check : ℕ) → restart_aborts party setting check ≡ aborts_of_restart reading.opened.selected.associated.association.units reading.start reading.check setting.serial check
+    read_restart check =
+        λ i. abort_where (not (has_checks (units_in (is.within.associated i)))) wrong_state
+        ∷ abort_where (not (nat_le (is.started i) check && nat_le check (is.checked i))) wrong_state
+        ∷ abort_where (passes_serials ((setting.serial + check) - is.checked i)) numbers_spent ∷ []
+
+    read_request_bars : (request : Pdu) → takes (reading_stage_of reading) (messages.Pdu request) ≡ true → request_aborts party setting request ≡ aborts_of_reading reading setting.serial (messages.Pdu request)
+    read_request_bars (RestartRequest check) taken = read_restart check
+    read_request_bars (CancelRequest diagnostic) taken = refl
+    read_request_bars (BeginGroupRequest threshold) taken = absurd (neither reading.shown stages.Shown stages.Reading (messages.Pdu (BeginGroupRequest threshold)) refl refl taken)
+    read_request_bars (ReadRequest fadu context) taken = absurd (neither reading.shown stages.Shown stages.Reading (messages.Pdu (ReadRequest fadu context)) refl refl taken)
+    read_request_bars (WriteRequest operation fadu) taken = absurd (neither reading.shown stages.Shown stages.Reading (messages.Pdu (WriteRequest operation fadu)) refl refl taken)
+    read_request_bars request taken = refl
+
+    pub reading_bars : (message : Message) → takes (reading_stage_of reading) message ≡ true → aborts party setting message ≡ aborts_of_reading reading setting.serial message
+    reading_bars (messages.Pdu request) taken = read_request_bars request taken
+    reading_bars (messages.Element element) taken = absurd (neither reading.shown stages.Shown stages.Reading (messages.Element element) refl refl taken)
+    reading_bars messages.Check taken = absurd (neither reading.shown stages.Shown stages.Reading messages.Check refl refl taken)
+    reading_bars (messages.Acknowledge check) taken = λ i. abort_where (not (nat_le (is.started i) check && nat_le check (is.checked i))) wrong_state ∷ []
+    reading_bars (messages.Restart check) taken = read_restart check
+    reading_bars messages.Break taken = refl
+
+  module _ (writing : Writing) (is : IsWriting writing party.link party.history) where
+    last_is : last_check party.history ≡ offered writing.received.checks
+    last_is = ap (λ start. transfer.last_check start (happened party.history)) (sym is.counted) ∙ sym (offers_last writing.received.checks (happened party.history) is.received.checks)
+
+    values_are : survivors party.history ≡ writing.received.values
+    values_are = ap (λ start. transfer.survivors start (happened party.history)) (sym is.counted) ∙ sym is.received.values
+
+    write_restart : (check : ℕ) → restart_aborts party setting check ≡ aborts_of_restart writing.regimes.selected.associated.association.units writing.start (offered writing.received.checks) setting.serial check
+    write_restart check =
+        λ i. abort_where (not (has_checks (units_in (is.opened.associated i)))) wrong_state
+        ∷ abort_where (not (nat_le (is.started i) check && nat_le check (last_is i))) wrong_state
+        ∷ abort_where (passes_serials ((setting.serial + check) - last_is i)) numbers_spent ∷ []
+
+    write_request_bars : (request : Pdu) → takes (stage_of_writing writing) (messages.Pdu request) ≡ true → request_aborts party setting request ≡ aborts_of_writing writing setting.serial (messages.Pdu request)
+    write_request_bars (RestartRequest check) taken = write_restart check
+    write_request_bars (CancelRequest diagnostic) taken = refl
+    write_request_bars (BeginGroupRequest threshold) taken = absurd (neither (is_some writing.ended) stages.Written stages.Writing (messages.Pdu (BeginGroupRequest threshold)) refl refl taken)
+    write_request_bars (ReadRequest fadu context) taken = absurd (neither (is_some writing.ended) stages.Written stages.Writing (messages.Pdu (ReadRequest fadu context)) refl refl taken)
+    write_request_bars (WriteRequest operation fadu) taken = absurd (neither (is_some writing.ended) stages.Written stages.Writing (messages.Pdu (WriteRequest operation fadu)) refl refl taken)
+    write_request_bars request taken = refl
+
+    pub writing_bars : (message : Message) → takes (stage_of_writing writing) message ≡ true → aborts party setting message ≡ aborts_of_writing writing setting.serial message
+    writing_bars (messages.Pdu request) taken = write_request_bars request taken
+    writing_bars (messages.Element element) taken =
+        λ i. abort_where (nat_lt most_survivor_octets (is.weighed i + octets_of element) || nat_le most_survivors (length (values_are i))) too_long ∷ []
+    writing_bars messages.Check taken = λ i. abort_where (not (has_checks (units_in (is.opened.associated i)))) wrong_state ∷ []
+    writing_bars (messages.Acknowledge check) taken = absurd (neither (is_some writing.ended) stages.Written stages.Writing (messages.Acknowledge check) refl refl taken)
+    writing_bars (messages.Restart check) taken = write_restart check
+    writing_bars messages.Break taken = refl
+
+-- the stage of a party that writes
+pub writing_stage : (writing : Writing) (link : ℕ) (history : History) → IsWriting writing link history → regime_stage history ≡ stage_of_writing writing
+writing_stage writing link history is =
+    (λ i. stage_by (association history) (selection history) (regime history) (is.moved i) (is_some (data_end history)) (was_shown history))
+    ∙ ap (λ (ended : Option (Option Diagnostic)). cond (is_some ended) stages.Written stages.Writing) is.ended

@@ -36,7 +36,9 @@ mod setting;
 mod states;
 mod step;
 mod taking_quiet;
+mod taking_reading;
 mod taking_regime;
+mod taking_writing;
 mod writing;
 
 pub use idle::Idle;
