@@ -76,11 +76,9 @@ module _ (tables : Tables) (state : State) (party : StandingParty) (setting : Se
     next = next;
   }
 
-module _ {Old New : Type 0} (represents : Represents Old) (after : Represents New) (back : Old → Party) (next : New → Party) (enters_back : Enters represents back) (enters : Enters after next)
-    (tables : Tables) (old mid new : HoldersOfFiles) (self : Old) (setting : Setting) (message : Message) (number : ℕ)
-    (refusal_is : (diagnostic : Diagnostic) → refusal diagnostic message ≡ refusal_numbered number diagnostic) (stays : associates message ≡ false)
-    (state : State) (party : StandingParty) (stands : StandsIn tables old state party) (alone : IsAlone represents self party) (asked : IsAsked state party setting message) where
-  good_turn : (step : Step New) (outcome : Outcome) → Concludes after tables mid state party setting message step → IsOutcomeOf after next mid new step outcome
+module _ {New : Type 0} (after : Represents New) (next : New → Party) (enters : Enters after next) (tables : Tables) (old mid new : HoldersOfFiles) (setting : Setting) (message : Message)
+    (state : State) (party : StandingParty) (stands : StandsIn tables old state party) (asked : IsAsked state party setting message) where
+  pub good_turn : (step : Step New) (outcome : Outcome) → Concludes after tables mid state party setting message step → IsOutcomeOf after next mid new step outcome
       → IsTaken tables new state party setting message outcome
   good_turn step outcome concludes is = by (has_abort step.said.items) refl is.comes
     where
@@ -106,6 +104,10 @@ module _ {Old New : Type 0} (represents : Represents Old) (after : Represents Ne
           (subst (λ (one : Option Party). IsNext one (party_of party.link (answered state party setting message).state.parties)) (sym comes.0)
           (on.1.party, on.1.stands, enters step.state on.1.party (record { represented = on.1.represented; alone = on.1.alone })))
 
+module _ {Old New : Type 0} (represents : Represents Old) (after : Represents New) (back : Old → Party) (next : New → Party) (enters_back : Enters represents back) (enters : Enters after next)
+    (tables : Tables) (old mid new : HoldersOfFiles) (self : Old) (setting : Setting) (message : Message) (number : ℕ)
+    (refusal_is : (diagnostic : Diagnostic) → refusal diagnostic message ≡ refusal_numbered number diagnostic) (stays : associates message ≡ false)
+    (state : State) (party : StandingParty) (stands : StandsIn tables old state party) (alone : IsAlone represents self party) (asked : IsAsked state party setting message) where
   refused_turn : (diagnostic : Diagnostic) (outcome : Outcome) → (message_decision state party setting message ≡ Refuses diagnostic) × IsAsBefore old mid
       → IsRefused (back self) (refusal_numbered number diagnostic) mid new outcome → IsTaken tables new state party setting message outcome
   refused_turn diagnostic outcome refused is =
@@ -121,7 +123,7 @@ module _ {Old New : Type 0} (represents : Represents Old) (after : Represents Ne
 
   pub turn_of : (answer : Result (Step New) (Old × StepError)) (result : Result Outcome (Party × NoMemory)) → MeetsStep after tables old mid state party setting message answer
       → IfErr answer (λ back. back.0 ≡ self) → ComesTo after back next number mid new answer result → IsTurnIn tables old new (back self) state party setting message result
-  turn_of (Ok step) (Ok outcome) meets kept comes = good_turn step outcome meets comes
+  turn_of (Ok step) (Ok outcome) meets kept comes = good_turn after next enters tables old mid new setting message state party stands asked step outcome meets comes
   turn_of (Ok step) (Err (party, error)) meets kept comes = absurd comes
   turn_of (Err (was, errors.Refused diagnostic)) (Ok outcome) meets kept comes =
       refused_turn diagnostic outcome meets (subst (λ (one : Old). IsRefused (back one) (refusal_numbered number diagnostic) mid new outcome) kept comes)
@@ -134,12 +136,12 @@ module _ {Old New : Type 0} (represents : Represents Old) (after : Represents Ne
 -- ---- ends
 
 module _ {S : Type 0} (represents : Represents S) (back : S → Party) (tables : Tables) (old new : HoldersOfFiles) (self : S) (setting : Setting) (message : Message)
-    (state : State) (party : StandingParty) (stands : StandsIn tables old state party) (alone : IsAlone represents self party) where
+    (state : State) (party : StandingParty) (stands : StandsIn tables old state party) (represented : represents self party.link party.history) where
   pub ended_turn : (said : List Said) (outcome : Outcome) (one : Decision) → IsSingle one → decision state party setting message ≡ one
       → answered state party setting message ≡ leaves_with (hearing state party message) (with_message message party) said
       → IsEnded represents self said old new outcome → IsTaken tables new state party setting message outcome
   ended_turn said outcome one single decides comes is =
-      let ends = end_answers state party setting message tables old new said stands comes (is.leaves tables state party stands alone.represented) in
+      let ends = end_answers state party setting message tables old new said stands comes (is.leaves tables state party stands represented) in
       taken_of tables state party setting message stands.kept new outcome one single decides
       (record { says = is.says ∙ ends.0.says; differs = is.differs ∙ ends.0.differs; held = ends.0.held })
       (subst (λ (one : Option Party). IsNext one (party_of party.link (answered state party setting message).state.parties)) (sym is.gone) ends.1)
@@ -157,10 +159,12 @@ module _ {S : Type 0} (represents : Represents S) (back : S → Party) (tables :
       saying_turn (answers.Abort number 0 ∷ []) result (Aborts number) (aborts number) decides
       (ap (met (hearing state party message) (with_message message party) setting message) decides) is
 
+module _ {S : Type 0} (represents : Represents S) (back : S → Party) (tables : Tables) (old new : HoldersOfFiles) (self : S) (setting : Setting) (message : Message)
+    (state : State) (party : StandingParty) (stands : StandsIn tables old state party) (alone : IsAlone represents self party) where
   -- of a message that the stage doesn't take
   pub untaken_turn : (result : Result Outcome (Party × NoMemory)) → takes (regime_stage party.history) message ≡ false
       → EndsSaying represents back self (answers.Abort wrong_state 0 ∷ []) old new result → IsTurnIn tables old new (back self) state party setting message result
-  untaken_turn result untaken is = aborted_turn wrong_state result untaken_decides is
+  untaken_turn result untaken is = aborted_turn represents back tables old new self setting message state party stands alone.represented wrong_state result untaken_decides is
     where
       here : takes (stage party) message ≡ false
       here = (λ i. takes (cond (is_some (alone.alone i)) stages.Grouping (regime_stage party.history)) message) ∙ untaken
@@ -180,7 +184,7 @@ module _ {S : Type 0} (represents : Represents S) (back : S → Party) (tables :
   -- of one that an abort's row refuses
   pub barred_turn : (number : ℕ) (result : Result Outcome (Party × NoMemory)) → takes (regime_stage party.history) message ≡ true → first_abort (all_aborts party setting message) ≡ Some number
       → EndsSaying represents back self (answers.Abort number 0 ∷ []) old new result → IsTurnIn tables old new (back self) state party setting message result
-  barred_turn number result taken barred is = aborted_turn number result barred_decides is
+  barred_turn number result taken barred is = aborted_turn represents back tables old new self setting message state party stands alone.represented number result barred_decides is
     where
       here : takes (stage party) message ≡ true
       here = (λ i. takes (cond (is_some (alone.alone i)) stages.Grouping (regime_stage party.history)) message) ∙ taken

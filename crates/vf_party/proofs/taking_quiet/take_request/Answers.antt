@@ -43,7 +43,7 @@ returns-then-is_leaving c = λ state party stands alone.
     let unbarred = ap first_abort (quiet_bars party setting c.args.quiet c.args.request alone.represented c.requires) ∙ sym c.aborted_in_quiet-bar.ensures ∙ c.in_default.is in
     let decides = unbarred_decides IsQuiet parties.Quiet c.args.tables.now c.args.locks.now c.args.locks.now c.args.quiet setting message state party stands alone taken unbarred
     ∙ leaving_decides state party setting c.args.request ((λ i. sym c.number-number.ensures i == 4 || sym c.number-number.ensures i == 5) ∙ sym c.is_leaving.ensures ∙ c.if-is_leaving.true) in
-    ended_turn IsQuiet parties.Quiet c.args.tables.now c.args.locks.now c.ended.new.locks c.args.quiet setting message state party stands alone
+    ended_turn IsQuiet parties.Quiet c.args.tables.now c.args.locks.now c.ended.new.locks c.args.quiet setting message state party stands alone.represented
     c.new.result.items c.ended.result Leaves leaves decides
     (ap (met (hearing state party message) (with_message message party) setting message) decides ∙ (λ i. leaves_with (hearing state party message) (with_message message party) (sym c.new.ensures.items i)))
     c.ended.ensures

@@ -21,7 +21,7 @@ returns c = λ state party stands alone.
     let taken = ap (λ stage. takes stage message) (quiet_stage c.args.quiet party alone.represented) ∙ c.requires in
     let decides = unbarred_decides IsQuiet parties.Quiet c.args.tables.now c.args.locks.now c.args.locks.now c.args.quiet setting message state party stands alone taken (ap (λ (one : Message). first_abort (aborts party setting one)) c.in-Break.is)
     ∙ ap (λ (one : Message). message_decision state party setting one) c.in-Break.is in
-    ended_turn IsQuiet parties.Quiet c.args.tables.now c.args.locks.now c.ended.new.locks c.args.quiet setting message state party stands alone
+    ended_turn IsQuiet parties.Quiet c.args.tables.now c.args.locks.now c.ended.new.locks c.args.quiet setting message state party stands alone.represented
     c.new.result.items c.ended.result Leaves leaves decides
     (ap (met (hearing state party message) (with_message message party) setting message) decides ∙ (λ i. leaves_with (hearing state party message) (with_message message party) (sym c.new.ensures.items i)))
     c.ended.ensures

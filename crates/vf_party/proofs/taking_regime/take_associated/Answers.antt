@@ -14,7 +14,7 @@ use Rattle.vf_party.specs.declared.quiet.Quiet.TheVariants as quiets
 use Rattle.vf_pdu.specs.declared.pdu.Pdu.{Pdu}
 use Rattle.vf_pdu.specs.declared.pdu.Pdu.TheVariants.{TerminateResponse}
 use Rattle.vf_party.proofs.Bars.{quiet_bars, quiet_stage}
-use Rattle.vf_party.proofs.Turning.{associated_alone, associated_party, ends, saying_turn, unbarred_decides}
+use Rattle.vf_party.proofs.Turning.{associated_party, ends, saying_turn, unbarred_decides}
 use Rattle.vf_party.proofs.taking_regime.take_associated.Goals as goal
 
 pub returns-in-TerminateRequest : goal.returns-in-TerminateRequest
@@ -26,5 +26,5 @@ returns-in-TerminateRequest c = λ state party stands alone.
     let unbarred = ap first_abort (quiet_bars party setting quiet c.args.request alone.represented c.requires.taken) ∙ c.requires.unbarred in
     let decides = unbarred_decides IsQuiet parties.Quiet c.args.tables.now c.args.locks.now c.args.locks.now quiet setting message state party stands alone taken unbarred
     ∙ ap (λ (request : Pdu). message_decision state party setting (messages.Pdu request)) c.in-TerminateRequest.is in
-    saying_turn IsAssociated associated_party c.args.tables.now c.args.locks.now c.terminate.new.locks c.args.associated setting message state party stands (associated_alone c.args.associated party alone)
+    saying_turn IsAssociated associated_party c.args.tables.now c.args.locks.now c.terminate.new.locks c.args.associated setting message state party stands alone.represented
     (answers.Pdu TerminateResponse ∷ []) c.terminate.result Ends ends decides (ap (met (hearing state party message) (with_message message party) setting message) decides) c.terminate.ensures

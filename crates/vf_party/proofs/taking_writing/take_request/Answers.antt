@@ -89,7 +89,7 @@ returns-in-UserAbort c = λ state party stands alone.
     let unbarred = ap first_abort (writing_bars party setting c.args.writing alone.represented message c.requires.taken) ∙ c.requires.unbarred in
     let decides = unbarred_decides IsWriting parties.Writing c.args.tables.now c.args.locks.now c.args.locks.now c.args.writing setting message state party stands alone taken unbarred
     ∙ ap (λ (one : Pdu). message_decision state party setting (messages.Pdu one)) c.in-UserAbort.is in
-    ended_turn IsWriting parties.Writing c.args.tables.now c.args.locks.now c.ended.new.locks c.args.writing setting message state party stands alone
+    ended_turn IsWriting parties.Writing c.args.tables.now c.args.locks.now c.ended.new.locks c.args.writing setting message state party stands alone.represented
     c.new.result.items c.ended.result Leaves leaves decides
     (ap (met (hearing state party message) (with_message message party) setting message) decides ∙ (λ i. leaves_with (hearing state party message) (with_message message party) (sym c.new.ensures.items i)))
     c.ended.ensures
@@ -102,7 +102,7 @@ returns-in-ProviderAbort c = λ state party stands alone.
     let unbarred = ap first_abort (writing_bars party setting c.args.writing alone.represented message c.requires.taken) ∙ c.requires.unbarred in
     let decides = unbarred_decides IsWriting parties.Writing c.args.tables.now c.args.locks.now c.args.locks.now c.args.writing setting message state party stands alone taken unbarred
     ∙ ap (λ (one : Pdu). message_decision state party setting (messages.Pdu one)) c.in-ProviderAbort.is in
-    ended_turn IsWriting parties.Writing c.args.tables.now c.args.locks.now c.ended-in-ProviderAbort.new.locks c.args.writing setting message state party stands alone
+    ended_turn IsWriting parties.Writing c.args.tables.now c.args.locks.now c.ended-in-ProviderAbort.new.locks c.args.writing setting message state party stands alone.represented
     c.new-in-ProviderAbort.result.items c.ended-in-ProviderAbort.result Leaves leaves decides
     (ap (met (hearing state party message) (with_message message party) setting message) decides ∙ (λ i. leaves_with (hearing state party message) (with_message message party) (sym c.new-in-ProviderAbort.ensures.items i)))
     c.ended-in-ProviderAbort.ensures

@@ -67,7 +67,7 @@ returns c = λ state party stands alone.
     let unbarred = ap first_abort (writing_bars party setting c.args.writing alone.represented message c.requires.taken) ∙ c.requires.unbarred in
     let decides = unbarred_decides IsWriting parties.Writing c.args.tables.now c.args.locks.now c.args.locks.now c.args.writing setting message state party stands alone taken unbarred
     ∙ ap (λ (one : Message). message_decision state party setting one) c.in-Break.is in
-    ended_turn IsWriting parties.Writing c.args.tables.now c.args.locks.now c.ended.new.locks c.args.writing setting message state party stands alone
+    ended_turn IsWriting parties.Writing c.args.tables.now c.args.locks.now c.ended.new.locks c.args.writing setting message state party stands alone.represented
     c.new.result.items c.ended.result Leaves leaves decides
     (ap (met (hearing state party message) (with_message message party) setting message) decides ∙ (λ i. leaves_with (hearing state party message) (with_message message party) (sym c.new.ensures.items i)))
     c.ended.ensures
