@@ -18,3 +18,4 @@ pub mod Renames
 pub mod Requests
 pub mod Retained
 pub mod Rows
+pub mod Trials

@@ -13,3 +13,4 @@ pub mod Renames
 pub mod Represents
 pub mod Settings
 pub mod Steps
+pub mod Trials

@@ -22,6 +22,7 @@ mod selected;
 mod setting;
 mod states;
 mod step;
+mod trying;
 
 pub use idle::Idle;
 pub use quiet::Quiet;
