@@ -7,9 +7,11 @@ pub mod Departures
 pub mod DocketChanges
 pub mod Erasures
 pub mod FileChanges
+pub mod GroupEnds
 pub mod Heard
 pub mod Kept
 pub mod Locations
+pub mod NoChanges
 pub mod OpenRows
 pub mod Opens
 pub mod OwnDockets

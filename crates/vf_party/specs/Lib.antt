@@ -3,6 +3,7 @@ pub mod Creations
 pub mod Dockets
 pub mod Erasures
 pub mod Files
+pub mod GroupEnds
 pub mod Items
 pub mod Leaving
 pub mod Locations
@@ -11,6 +12,7 @@ pub mod Quiets
 pub mod Refusals
 pub mod Renames
 pub mod Represents
+pub mod Sameness
 pub mod Settings
 pub mod Steps
 pub mod Trials

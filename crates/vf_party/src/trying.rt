@@ -102,7 +102,7 @@ fn joined(
 }
 
 /// What was said, and then what was said later.
-fn said_before(said: Vec<Said>, later: Vec<Said>) -> Result<Vec<Said>, NoMemory>
+pub(crate) fn said_before(said: Vec<Said>, later: Vec<Said>) -> Result<Vec<Said>, NoMemory>
     ensures { IfOk result (λ all. all.items ≡ said.items ++ later.items) }
 {
     let mut all = said;
