@@ -1,13 +1,12 @@
 -- What the end of a group comes to in the filestore.
-use Rattle.std.proofs.Common.{◌≡◌, ◌≤◌, ◌<◌, ℕ, Bool, true, false, cond, List, [], ◌∷◌, flat_map, is_some, Option, None, Some, refl, ap, sym, subst, ◌∙◌, nat_le, arith}
+use Rattle.std.proofs.Common.{◌≡◌, ◌≤◌, ◌<◌, ℕ, true, false, cond, List, [], ◌∷◌, flat_map, is_some, Some, refl, ap, sym, subst, ◌∙◌, nat_le, arith}
 use Rattle.std.specs.Prelude.{count_by}
 use Rattle.vf_elements.specs.Stages.{takes}
-use Rattle.vf_elements.specs.declared.message.Message.{Message}
 use Rattle.vf_elements.specs.declared.stage.Stage.TheVariants as stages
 use Rattle.vf_filestore.specs.Aborts.{Setting}
 use Rattle.vf_filestore.specs.Changes.{delta}
 use Rattle.vf_filestore.specs.Conclusion.{Answered}
-use Rattle.vf_filestore.specs.Decision.{Aborts, Groups, decision, decision_in}
+use Rattle.vf_filestore.specs.Decision.{Aborts, decision_in}
 use Rattle.vf_filestore.specs.Diagnostics.{wrong_state}
 use Rattle.vf_filestore.specs.Groups as groups
 use Rattle.vf_filestore.specs.Groups.{between, group_answer, is_good, said_in_vain, said_of, trial}
@@ -30,7 +29,6 @@ use Rattle.vf_party.specs.declared.trying.Trial.{Trial}
 use Rattle.vf_party.proofs.Heard.{tables_heard}
 use Rattle.vf_party.proofs.Kept.{no_change}
 use Rattle.vf_party.proofs.NoChanges.{any_unless_same}
-use Rattle.vf_pdu.specs.declared.pdu.Pdu.{Pdu}
 use Rattle.vf_tables.specs.declared.change.Change.{Change}
 use Rattle.vf_tables.specs.declared.tables.Tables.{Tables}
 
@@ -49,7 +47,6 @@ module _ (state : State) (party : StandingParty) (setting : Setting) (group : Gr
 
   abbrev whole : groups.Trial
   whole = trial party.link setting group.items heard
-
 
   -- the stage is that of a group, which takes its end
   end_taken : pending party.trace ≡ Some group → takes (stage party) end_message ≡ true

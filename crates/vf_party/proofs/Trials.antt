@@ -1,5 +1,5 @@
 -- An item of a group that is tried, and items after it, in the words of the filestore.
-use Rattle.std.proofs.Common.{◌≡◌, ℕ, ◌+◌, Bool, true, false, cond, List, [], ◌∷◌, ◌++◌, append-nil, flat_map, is_some, Option, None, Some, unwrap_or, Result, Ok, Err, refl, ap, sym, subst, ◌∙◌}
+use Rattle.std.proofs.Common.{◌≡◌, ℕ, ◌+◌, Bool, true, false, cond, List, [], ◌∷◌, ◌++◌, append-nil, is_some, Option, None, Some, unwrap_or, Result, Ok, Err, refl, ap, sym, subst, ◌∙◌}
 use Rattle.std.specs.Prelude.{IfErr}
 use Rattle.std.proofs.lemmas.List.Concat.{flat_map-append}
 use Rattle.std.proofs.lemmas.List.Sums.{sum_by-append}
@@ -17,7 +17,7 @@ use Rattle.vf_filestore.specs.Dockets.{broken}
 use Rattle.vf_filestore.specs.Groups as groups
 use Rattle.vf_filestore.specs.Groups.{is_good, said_in_vain, said_of, trial, trial_by, trial_step}
 use Rattle.vf_filestore.specs.History.{Given, History}
-use Rattle.vf_filestore.specs.HoldersAfter.{Keeps, concluded_by}
+use Rattle.vf_filestore.specs.HoldersAfter.{concluded_by}
 use Rattle.vf_filestore.specs.Records.{changes_between, changes_by_items}
 use Rattle.vf_filestore.specs.Replies.{refusal_of_request, request_replies}
 use Rattle.vf_filestore.specs.Sound.{IsItem, IsSound}
@@ -46,7 +46,6 @@ use Rattle.vf_pdu.specs.PduNumbers.{number_of}
 use Rattle.vf_pdu.specs.declared.pdu.Pdu.{Pdu}
 use Rattle.vf_pdu.specs.declared.pdu.Pdu.TheVariants.{SelectRequest, CreateRequest, DeselectRequest, DeleteRequest, ReadAttribRequest, ChangeAttribRequest, OpenRequest, CloseRequest}
 use Rattle.vf_tables.specs.Changes.{after_all}
-use Rattle.vf_tables.specs.declared.change.Change.{Change}
 use Rattle.vf_tables.specs.declared.tables.Tables.{Tables}
 
 -- ---- items

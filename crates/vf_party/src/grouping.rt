@@ -9,8 +9,8 @@ ghost use Rattle.vf_party.specs.Settings.{setting_of};
 ghost use Rattle.vf_party.specs.Trials.{AreTried};
 ghost use Rattle.vf_party.specs.declared.step.StepError.TheVariants as errors;
 
-use crate::step::one_said;
 use crate::sameness::are_same;
+use crate::step::one_said;
 use crate::trying::{Trial, said_before, try_items};
 use crate::{Quiet, Said, Setting, Step, StepError};
 use std::alloc::Global;
@@ -40,7 +40,10 @@ pub(crate) fn end_group(
     let Ok(attempt) = tried(alloc, &quiet, items, setting, tables, locks) else {
         return Err((quiet, StepError::NoMemory));
     };
-    let Attempt { trial, locks: after } = attempt;
+    let Attempt {
+        trial,
+        locks: after,
+    } = attempt;
     if (threshold as usize) <= trial.good {
         let Ok(step) = performed(alloc, tables, trial) else {
             return Err((quiet, StepError::NoMemory));

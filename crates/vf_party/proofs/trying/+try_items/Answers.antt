@@ -1,4 +1,4 @@
-use Rattle.std.proofs.Common.{List, sym, subst, ◌∷◌}
+use Rattle.std.proofs.Common.{List, sym, subst}
 use Rattle.vf_party.specs.Settings.{setting_of}
 use Rattle.vf_party.specs.Trials.{AreTriedIn}
 use Rattle.vf_party.proofs.Trials.{items_tried}

@@ -13,7 +13,6 @@ use Rattle.vf_party.specs.Steps.{MeetsStep}
 use Rattle.vf_party.specs.Trials.{ComesOf, IsBadItem}
 use Rattle.vf_party.proofs.Trials.{answered_item, left_decides, refused_item, stage_is, taken_none, taken_some}
 use Rattle.vf_party.proofs.trying.try_item.Goals as goal
-use Rattle.vf_pdu.specs.PduNumbers.{number_of}
 use Rattle.vf_pdu.specs.declared.pdu.Pdu.{Pdu}
 
 pub returns-in_default-clause-trial : goal.returns-in_default-clause-trial
