@@ -1,6 +1,8 @@
+pub mod Aborting
 pub mod Answers
 pub mod Creations
 pub mod Dockets
+pub mod Dues
 pub mod Erasures
 pub mod Files
 pub mod GroupEnds
@@ -9,10 +11,14 @@ pub mod Leaving
 pub mod Locations
 pub mod Openings
 pub mod Quiets
+pub mod Reads
 pub mod Refusals
+pub mod Regimes
 pub mod Renames
 pub mod Represents
 pub mod Sameness
 pub mod Settings
 pub mod Steps
 pub mod Trials
+pub mod Turns
+pub mod Writes

@@ -178,7 +178,7 @@ fn changes_after(
 }
 
 /// The change of a file that is there and isn't as it was.
-fn changes_of(
+pub(crate) fn changes_of(
     alloc: Global,
     before: Option<&File>,
     after: Option<File>,
