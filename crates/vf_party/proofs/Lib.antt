@@ -10,9 +10,11 @@ pub mod DocketChanges
 pub mod Dues
 pub mod Erasures
 pub mod FileChanges
+pub mod GroupEnds
 pub mod Heard
 pub mod Kept
 pub mod Locations
+pub mod NoChanges
 pub mod OpenRows
 pub mod Opens
 pub mod OwnDockets
@@ -23,6 +25,7 @@ pub mod Requests
 pub mod Restarts
 pub mod Retained
 pub mod Rows
+pub mod Trials
 pub mod Turning
 pub mod Unopposed
 pub mod WriteDockets

@@ -5,6 +5,7 @@ pub mod Dockets
 pub mod Dues
 pub mod Erasures
 pub mod Files
+pub mod GroupEnds
 pub mod Items
 pub mod Leaving
 pub mod Locations
@@ -16,7 +17,9 @@ pub mod Refusals
 pub mod Regimes
 pub mod Renames
 pub mod Represents
+pub mod Sameness
 pub mod Settings
 pub mod Steps
+pub mod Trials
 pub mod Turns
 pub mod Writes

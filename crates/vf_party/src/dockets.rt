@@ -113,7 +113,7 @@ pub(crate) fn field_changes(
     Ok(changes)
 }
 
-fn is_same(one: &Regime, other: &Regime) -> bool
+pub(crate) fn is_same(one: &Regime, other: &Regime) -> bool
     ensures { result ≡ is_same_regime one.now other.now }
 {
     has_same_setting(one, other) && has_same_transfer(one, other)

@@ -34,7 +34,7 @@ pub(crate) fn file_change(alloc: Global, before: &File, after: File) -> Result<C
 }
 
 #[tactic(auto, unfolding(vf_attr::specs::Attributes::are_same_attributes))]
-fn have_same_attributes(file: &File, other: &File) -> bool
+pub(crate) fn have_same_attributes(file: &File, other: &File) -> bool
     ensures { result ≡ are_same_attributes (attributes_of file.now) (attributes_of other.now) }
 {
     file.version == other.version

@@ -1,0 +1,246 @@
+//! The items of a group, tried in their order (ISO 8571-3, grouping; profile).
+ghost use Rattle.std.specs.Prelude.{◌≡◌, ◌≤◌, ◌<◌, ◌+◌, ◌^◌, [], ◌∷◌, ◌++◌, IfOk, length, true};
+ghost use Rattle.std.specs.List.{AllByRecursion};
+ghost use Rattle.vf_party.specs.Items.{is_item as is_item_meant};
+ghost use Rattle.vf_party.specs.Quiets.{stage_of};
+ghost use Rattle.vf_party.specs.Settings.{setting_of};
+ghost use Rattle.vf_party.specs.Trials.{AreTried, ComesOf, IsBadItem, IsGoodItem, IsJoined, IsUntried, pdu_of, taken_in};
+ghost use Rattle.vf_tables.specs.Changes.{after_all};
+
+use crate::items::take_item;
+use crate::refusals::refusal;
+use crate::step::followed_by;
+use crate::{Message, Quiet, Said, Setting, Step, StepError};
+use std::alloc::Global;
+use vf_base::{Diagnostic, NoMemory};
+use vf_files::plain;
+use vf_locks::Locks;
+use vf_pdu::Pdu;
+use vf_tables::{Changes, Tables};
+
+/// The group of a request that could have been performed isn't performed.
+const BELOW_THRESHOLD: u16 = 30;
+
+/// An item of a group is a request that its regime doesn't take.
+const WRONG_REGIME: u16 = 37;
+
+/// What comes of items of a group that are tried, each as if the good ones before it had been performed.
+#[derive(Drop)]
+pub(crate) struct Trial {
+    /// The party after the good items.
+    pub(crate) quiet: Quiet,
+    /// What is said to the items, where their group is performed.
+    pub(crate) said: Vec<Said>,
+    /// What is said to them where it isn't: that they could have been, or their own diagnostics.
+    pub(crate) vain: Vec<Said>,
+    /// How many of them are good.
+    pub(crate) good: usize,
+    /// What the good ones change in the tables, one after another.
+    pub(crate) changes: Changes,
+    /// The tables with these changes.
+    pub(crate) tables: Tables,
+}
+
+/// Tries the items of a group in their order. One that its regime doesn't take is refused with 37.
+pub(crate) fn try_items(
+    alloc: Global,
+    quiet: Quiet,
+    items: &[Pdu],
+    setting: &Setting,
+    tables: Tables,
+    locks: &mut Locks,
+) -> Result<Trial, NoMemory>
+    requires { AllByRecursion (λ item. is_item_meant item ≡ true) items.now }
+    ensures trial { IfOk result (AreTried quiet tables locks.old locks.new (setting_of setting.now) items.now) }
+    ensures counted { IfOk result (λ trial. trial.good ≤ length items.now) }
+{
+    let Some((item, others)) = items.split_first() else {
+        return Ok(untried(alloc, quiet, tables));
+    };
+    let first = try_item(alloc, quiet, item, setting, tables, locks)?;
+    let later = try_items(alloc, first.quiet, others, setting, first.tables, locks)?;
+    let trial = joined(first.said, first.vain, first.good, first.changes, later)?;
+    Ok(trial)
+}
+
+/// What comes of no items.
+fn untried(alloc: Global, quiet: Quiet, tables: Tables) -> Trial
+    ensures { IsUntried quiet tables result }
+{
+    Trial {
+        quiet,
+        said: Vec::new(alloc),
+        vain: Vec::new(alloc),
+        good: 0,
+        changes: Changes::new(alloc),
+        tables,
+    }
+}
+
+/// What came of an item, and then that of later ones.
+fn joined(
+    said: Vec<Said>,
+    vain: Vec<Said>,
+    good: usize,
+    changes: Changes,
+    later: Trial,
+) -> Result<Trial, NoMemory>
+    requires { good + later.good < 2 ^ 64 }
+    ensures { IfOk result (IsJoined said.items vain.items good changes later) }
+{
+    let said = said_before(said, later.said)?;
+    let vain = said_before(vain, later.vain)?;
+    let changes = followed_by(changes, later.changes)?;
+    Ok(Trial {
+        quiet: later.quiet,
+        said,
+        vain,
+        good: good + later.good,
+        changes,
+        tables: later.tables,
+    })
+}
+
+/// What was said, and then what was said later.
+pub(crate) fn said_before(said: Vec<Said>, later: Vec<Said>) -> Result<Vec<Said>, NoMemory>
+    ensures { IfOk result (λ all. all.items ≡ said.items ++ later.items) }
+{
+    let mut all = said;
+    for one in later {
+        all.push(one)?;
+    }
+    Ok(all)
+}
+
+/// Tries one item of a group. Where its regime doesn't take it, it is refused with 37.
+pub(crate) fn try_item(
+    alloc: Global,
+    quiet: Quiet,
+    item: &Pdu,
+    setting: &Setting,
+    tables: Tables,
+    locks: &mut Locks,
+) -> Result<Trial, NoMemory>
+    requires { is_item_meant item.now ≡ true }
+    ensures trial { IfOk result (AreTried quiet tables locks.old locks.new (setting_of setting.now) (item.now ∷ [])) }
+    ensures counted { IfOk result (λ trial. trial.good ≤ 1) }
+{
+    let Some(request) = taken(alloc, &quiet, item)? else {
+        let trial = refused(alloc, quiet, item.number(), plain(WRONG_REGIME), tables)?;
+        return Ok(trial);
+    };
+    let answer = take_item(quiet, alloc, request, same(setting), &tables, locks);
+    let trial = answered(alloc, item.number(), answer, tables)?;
+    Ok(trial)
+}
+
+fn same(setting: &Setting) -> Setting
+    ensures { result ≡ setting.now }
+{
+    Setting {
+        moment: setting.moment,
+        serial: setting.serial,
+        token: setting.token,
+        sync: setting.sync,
+    }
+}
+
+/// A copy of the item, where its regime takes it.
+fn taken(alloc: Global, quiet: &Quiet, item: &Pdu) -> Result<Option<Pdu>, NoMemory>
+    ensures { IfOk result (λ request. request ≡ taken_in (stage_of quiet.now) item.now) }
+{
+    let copy = item.copy(alloc)?;
+    let message = Message::Pdu(copy);
+    if !quiet.stage().takes(&message) {
+        return Ok(None);
+    }
+    Ok(pdu_in(message))
+}
+
+/// The PDU that the message is, if it is one.
+fn pdu_in(message: Message) -> Option<Pdu>
+    ensures { result ≡ pdu_of message }
+{
+    match message {
+        Message::Pdu(pdu) => Some(pdu),
+        _other => None,
+    }
+}
+
+/// What comes of a request of this number to which a step answered this.
+fn answered(
+    alloc: Global,
+    number: u16,
+    answer: Result<Step<Quiet>, (Quiet, StepError)>,
+    tables: Tables,
+) -> Result<Trial, NoMemory>
+    ensures { IfOk result (ComesOf number answer tables) }
+{
+    match answer {
+        Ok(step) => {
+            let trial = granted(alloc, number, step, tables)?;
+            return Ok(trial);
+        }
+        Err((quiet, error)) => {
+            let StepError::Refused(diagnostic) = error else {
+                return Err(NoMemory);
+            };
+            let trial = refused(alloc, quiet, number, diagnostic, tables)?;
+            return Ok(trial);
+        }
+    }
+}
+
+/// What comes of a request of this number that is granted by this step.
+fn granted(alloc: Global, number: u16, step: Step<Quiet>, tables: Tables) -> Result<Trial, NoMemory>
+    ensures { IfOk result (IsGoodItem number step tables) }
+{
+    let Step {
+        state,
+        said,
+        changes,
+    } = step;
+    let vain = refusal(alloc, number, plain(BELOW_THRESHOLD))?;
+    let tables = after_changes(alloc, tables, &changes)?;
+    Ok(Trial {
+        quiet: state,
+        said,
+        vain,
+        good: 1,
+        changes,
+        tables,
+    })
+}
+
+/// What comes of a request of this number that the diagnostic refuses.
+fn refused(
+    alloc: Global,
+    quiet: Quiet,
+    number: u16,
+    diagnostic: Diagnostic,
+    tables: Tables,
+) -> Result<Trial, NoMemory>
+    ensures { IfOk result (IsBadItem quiet number diagnostic tables) }
+{
+    let said = refusal(alloc, number, diagnostic)?;
+    let vain = refusal(alloc, number, diagnostic)?;
+    Ok(Trial {
+        quiet,
+        said,
+        vain,
+        good: 0,
+        changes: Changes::new(alloc),
+        tables,
+    })
+}
+
+/// The tables after these changes; they are copied only where there are any.
+fn after_changes(alloc: Global, tables: Tables, changes: &Changes) -> Result<Tables, NoMemory>
+    ensures { IfOk result (λ after. after ≡ after_all tables changes.now) }
+{
+    if changes.as_slice().is_empty() {
+        return Ok(tables);
+    }
+    let tables = tables.with(alloc, changes.as_slice())?;
+    Ok(tables)
+}
