@@ -1,7 +1,6 @@
 -- What a party owes to a message (ISO 8571-4; profile): what it says, what changes in what a store keeps, who holds each
 -- file, and the party after it are those of the filestore.
 use Rattle.std.specs.Prelude.{◌≡◌, ℕ, Bool, true, false, List, [], Option, None, Some, Result, Ok, Err}
-use Rattle.std.specs.List.{AllByRecursion}
 use Rattle.vf_base.specs.declared.errors.NoMemory.{NoMemory}
 use Rattle.vf_elements.specs.declared.message.Message.{Message}
 use Rattle.vf_elements.specs.declared.message.Said.{Said}
@@ -9,25 +8,28 @@ use Rattle.vf_elements.specs.declared.message.Said.TheVariants as answers
 use Rattle.vf_filestore.specs.Aborts.{Setting}
 use Rattle.vf_filestore.specs.Conclusion.{has_abort}
 use Rattle.vf_filestore.specs.Decision.{decision}
+use Rattle.vf_filestore.specs.History.{History}
 use Rattle.vf_filestore.specs.HoldersAfter.{Keeps}
 use Rattle.vf_filestore.specs.Records.{changes_where}
 use Rattle.vf_filestore.specs.Stage.{pending}
 use Rattle.vf_filestore.specs.State.{State, StandingParty, party_of}
 use Rattle.vf_filestore.specs.Transition.{answered}
 use Rattle.vf_locks.specs.Table.{IsAsBefore}
-use Rattle.vf_party.specs.Items.{is_item}
 use Rattle.vf_party.specs.Leaving.{LeavesHolders}
 use Rattle.vf_party.specs.Quiets.{IsQuiet}
 use Rattle.vf_party.specs.Reads.{IsReading}
 use Rattle.vf_party.specs.Refusals.{refusal_numbered}
-use Rattle.vf_party.specs.Represents.{IsIdle}
+use Rattle.vf_party.specs.Represents.{IsAssociated, IsIdle}
 use Rattle.vf_party.specs.Steps.{HoldersOfFiles, Represents, StandsIn}
 use Rattle.vf_party.specs.Writes.{IsWriting}
 use Rattle.vf_party.specs.declared.party.Grouping.{Grouping}
 use Rattle.vf_party.specs.declared.party.Outcome.{Outcome}
 use Rattle.vf_party.specs.declared.party.Party.{Party}
 use Rattle.vf_party.specs.declared.party.Party.TheVariants as parties
+use Rattle.vf_party.specs.declared.idle.Idle.{Idle}
 use Rattle.vf_party.specs.declared.quiet.Quiet.{Quiet}
+use Rattle.vf_party.specs.declared.quiet.Quiet.TheVariants as quiets
+use Rattle.vf_party.specs.declared.states.Associated.{Associated}
 use Rattle.vf_party.specs.declared.step.Step.{Step}
 use Rattle.vf_party.specs.declared.step.StepError.{StepError}
 use Rattle.vf_party.specs.declared.step.StepError.TheVariants as errors
@@ -41,7 +43,6 @@ pub record IsAlone {S : Type 0} (represents : Represents S) (self : S) (standing
 pub record IsGrouped (grouping : Grouping) (standing : StandingParty) : Type 0 where
   pub represented : IsQuiet grouping.quiet standing.link standing.history
   pub grouped : pending standing.trace ≡ Some (record { threshold = grouping.threshold; items = grouping.items })
-  pub items : AllByRecursion (λ item. is_item item ≡ true) grouping.items
 
 abbrev pub IsParty : Party → StandingParty → Type 0
 IsParty (parties.Idle idle) standing = IsAlone IsIdle idle standing
@@ -115,3 +116,20 @@ pub record IsBegun (quiet : Quiet) (threshold : ℕ) (outcome : Outcome) : Type 
   pub groups : outcome.party ≡ Some (parties.Grouping (record { quiet = quiet; threshold = threshold; items = [] }))
   pub says : outcome.said.items ≡ []
   pub differs : outcome.changes ≡ []
+
+-- what a party in a group owes to a message
+abbrev pub IsTurnInGroup : Tables → (before after : HoldersOfFiles) → Grouping → Setting → Message → Result Outcome (Party × NoMemory) → Type 0
+IsTurnInGroup tables old new grouping setting message result =
+    (state : State) (party : StandingParty) → StandsIn tables old state party → IsGrouped grouping party
+    → IsTurnIn tables old new (parties.Grouping grouping) state party setting message result
+
+-- a party whose group is still pending is one of its regimes
+abbrev pub IsWithin : Grouping → (link : ℕ) → History → Type 0
+IsWithin grouping link history = IsQuiet grouping.quiet link history
+
+-- the association of an idle party is as its request's step has it
+abbrev pub Associates : (before after : HoldersOfFiles) → Result (Step Associated) (Idle × StepError) → Result Outcome (Party × NoMemory) → Type 0
+Associates mid new (Ok step) (Ok outcome) = IsOutcomeOf IsAssociated (λ associated. parties.Quiet (quiets.Associated associated)) mid new step outcome
+Associates mid new (Err (idle, errors.Refused diagnostic)) (Ok outcome) = IsEnded IsIdle idle (refusal_numbered 0 diagnostic) mid new outcome
+Associates mid new (Err (idle, error)) (Err (party, memory)) = (party ≡ parties.Idle idle) × (new ≡ mid)
+Associates mid new _ _ = ⊥

@@ -38,6 +38,8 @@ mod selected;
 mod setting;
 mod states;
 mod step;
+mod taking_grouping;
+mod taking_idle;
 mod taking_quiet;
 mod taking_reading;
 mod taking_regime;

@@ -43,7 +43,7 @@ pub(crate) fn concluded<Old: PartyState, New: PartyState>(
 }
 
 /// What comes of a good step; where it says an abort, the party is gone.
-fn outcome_of<New: PartyState>(step: Step<New>, locks: &mut Locks) -> Outcome
+pub(crate) fn outcome_of<New: PartyState>(step: Step<New>, locks: &mut Locks) -> Outcome
     ensures { IsOutcomeOf New.represents New.party_of locks.old locks.new step result }
 {
     if has_abort(step.said.as_slice()) {

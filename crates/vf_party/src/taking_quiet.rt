@@ -88,7 +88,7 @@ fn take_request(
 }
 
 /// Whether this is the number of an abort by the initiator (F-U-ABORT, F-P-ABORT).
-fn is_leaving(number: u16) -> bool
+pub(crate) fn is_leaving(number: u16) -> bool
     ensures { result ≡ (number == 4 || number == 5) }
 {
     number == 4 || number == 5

@@ -25,5 +25,4 @@ returns-in-BeginGroupRequest c = λ state party stands alone.
     (record {
       represented = alone.represented;
       grouped = ap (grouping c.args.request) alone.alone ∙ ap (λ (request : Pdu). grouping request None) c.in-BeginGroupRequest.is;
-      items = tt;
     })
