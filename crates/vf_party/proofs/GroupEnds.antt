@@ -20,6 +20,7 @@ use Rattle.vf_filestore.proofs.Decisions.{heard_sound, party_sound, traced}
 use Rattle.vf_filestore.proofs.HeldGone.{traces_hold}
 use Rattle.vf_filestore.proofs.Parties.{found_at, located, with_at}
 use Rattle.vf_party.specs.GroupEnds.{HasEnded, IsPerformed, changes_at_end, end_message}
+use Rattle.vf_party.specs.Items.{AreItems}
 use Rattle.vf_party.specs.Quiets.{IsQuiet}
 use Rattle.vf_party.specs.Steps.{HoldersOfFiles, StandsIn}
 use Rattle.vf_party.specs.Trials.{AreTried, AreTriedIn}
@@ -64,7 +65,7 @@ module _ (state : State) (party : StandingParty) (setting : Setting) (group : Gr
       ap (party_of party.link) (ap (with_party hearer) at.is ∙ with_at party.link at.before at.after party hearer at.absent refl refl)
       ∙ found_at party.link at.before at.after hearer at.absent refl
 
-  module _ (tables : Tables) (old : HoldersOfFiles) (quiet : Quiet) (stands : StandsIn tables old state party) (alone : pending party.trace ≡ Some group) where
+  module _ (tables : Tables) (old : HoldersOfFiles) (quiet : Quiet) (stands : StandsIn tables old state party) (alone : pending party.trace ≡ Some group) (items : AreItems group.items) where
     heard_stands : StandsIn tables old heard hearer
     heard_stands = record {
       sound = heard_sound state party.link party (end_message ∷ party.trace) stands.sound stands.stands
@@ -77,7 +78,7 @@ module _ (state : State) (party : StandingParty) (setting : Setting) (group : Gr
     -- the items, tried once the end has joined the trace
     tried_heard : (tried : Trial) (new : HoldersOfFiles) → AreTried quiet tables old new setting group.items tried → IsQuiet quiet party.link party.history
         → AreTriedIn new setting group.items heard hearer tried
-    tried_heard tried new are represents = are heard hearer heard_stands represents
+    tried_heard tried new are represents = are heard hearer heard_stands represents items
 
     pub performed_ends : (new : HoldersOfFiles) (tried : Trial) (step : Step Quiet) → AreTried quiet tables old new setting group.items tried → IsQuiet quiet party.link party.history
         → group.threshold ≤ tried.good → IsPerformed tables tried step

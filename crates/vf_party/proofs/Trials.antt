@@ -29,7 +29,7 @@ use Rattle.vf_filestore.proofs.Decisions.{trial_sound}
 use Rattle.vf_filestore.proofs.Parties.{found_at, located, with_at}
 use Rattle.vf_filestore.proofs.Recorded.{items_lead}
 use Rattle.vf_locks.specs.Table.{IsAsBefore}
-use Rattle.vf_party.specs.Items.{is_item}
+use Rattle.vf_party.specs.Items.{AreItems, is_item}
 use Rattle.vf_party.specs.Quiets.{IsQuiet, stage_of}
 use Rattle.vf_party.specs.Refusals.{refusal_numbered}
 use Rattle.vf_party.specs.Steps.{Concludes, HoldersOfFiles, MeetsStep, StandsIn, history_by}
@@ -209,18 +209,24 @@ module _ (state : State) (party : StandingParty) (setting : Setting) (item : Pdu
 
 -- ---- what a stage takes
 
-pub taken_some : (stage : Stage) (item request : Pdu) → taken_in stage item ≡ Some request → (takes stage (messages.Pdu item) ≡ true) × (item ≡ request)
-taken_some stage item request is = by (takes stage (messages.Pdu item)) refl is
-  where
-    by : (b : Bool) → takes stage (messages.Pdu item) ≡ b → cond b (Some item) None ≡ Some request → (takes stage (messages.Pdu item) ≡ true) × (item ≡ request)
-    by true taken is = (taken, ap (λ (one : Option Pdu). unwrap_or one item) is)
-    by false taken is = absurd cc
+pub record IsTaken (stage : Stage) (item request : Pdu) : Type 0 where
+  pub is : is_item item ≡ true
+  pub taken : takes stage (messages.Pdu item) ≡ true
+  pub same : item ≡ request
 
-pub taken_none : (stage : Stage) (item : Pdu) → ((request : Pdu) → taken_in stage item ≡ Some request → ⊥) → takes stage (messages.Pdu item) ≡ false
-taken_none stage item never = by (takes stage (messages.Pdu item)) refl
+pub taken_some : (stage : Stage) (item request : Pdu) → taken_in stage item ≡ Some request → IsTaken stage item request
+taken_some stage item request is = by (is_item item) refl (takes stage (messages.Pdu item)) refl is
+  where
+    by : (b : Bool) → is_item item ≡ b → (c : Bool) → takes stage (messages.Pdu item) ≡ c → cond b (cond c (Some item) None) None ≡ Some request → IsTaken stage item request
+    by true listed true taken is = record { is = listed; taken = taken; same = ap (λ (one : Option Pdu). unwrap_or one item) is }
+    by true listed false taken is = absurd cc
+    by false listed c taken is = absurd cc
+
+pub taken_none : (stage : Stage) (item : Pdu) → is_item item ≡ true → ((request : Pdu) → taken_in stage item ≡ Some request → ⊥) → takes stage (messages.Pdu item) ≡ false
+taken_none stage item listed never = by (takes stage (messages.Pdu item)) refl
   where
     by : (b : Bool) → takes stage (messages.Pdu item) ≡ b → takes stage (messages.Pdu item) ≡ false
-    by true taken = absurd (never item (λ i. cond (taken i) (Some item) None))
+    by true taken = absurd (never item (λ i. cond (listed i) (cond (taken i) (Some item) None) None))
     by false left = left
 
 -- ---- items after an item
@@ -250,9 +256,9 @@ trial_followed link setting item items state = by (party_of link state.parties)
 
 module _ (state : State) (party : StandingParty) (setting : Setting) where
   pub items_tried : (item : Pdu) (items : List Pdu) (mid new : HoldersOfFiles) (first later all : Trial) → AreTriedIn mid setting (item ∷ []) state party first
-      → AreTried first.quiet first.tables mid new setting items later → IsJoined first.said.items first.vain.items first.good first.changes later all
+      → AreItems items → AreTried first.quiet first.tables mid new setting items later → IsJoined first.said.items first.vain.items first.good first.changes later all
       → AreTriedIn new setting (item ∷ items) state party all
-  items_tried item items mid new first later all one are joined =
+  items_tried item items mid new first later all one listed are joined =
       let link = party.link in
       let begun = trial link setting (item ∷ []) state in
       let next = begun.state in
@@ -261,7 +267,7 @@ module _ (state : State) (party : StandingParty) (setting : Setting) where
       let rest : HasTried new link party.trace changes ended later
       = subst (λ (trace : List Message). HasTried new link trace changes ended later) one.traced
       (subst (λ (l : ℕ). HasTried new l one.party.trace (changes_by_items l setting items next) (trial l setting items next) later) one.linked
-      (are next one.party one.stands one.represented)) in
+      (are next one.party one.stands one.represented listed)) in
       let owed : HasTried new link party.trace (changes_by_items link setting (item ∷ items) state) (trials begun ended) all = record {
         says = joined.says ∙ (λ i. one.says i ++ rest.says i) ∙ sym (flat_map-append said_of begun.tried ended.tried);
         warns = joined.warns ∙ (λ i. one.warns i ++ rest.warns i) ∙ sym (flat_map-append said_in_vain begun.tried ended.tried);

@@ -13,6 +13,7 @@ use Rattle.vf_filestore.specs.State.{State, StandingParty}
 use Rattle.vf_filestore.specs.Transition.{answered, with_message}
 use Rattle.vf_locks.specs.Table.{IsAsBefore}
 use Rattle.vf_party.specs.Answers.{GoesOn}
+use Rattle.vf_party.specs.Items.{AreItems}
 use Rattle.vf_party.specs.Quiets.{IsQuiet}
 use Rattle.vf_party.specs.Sameness.{unless_same}
 use Rattle.vf_party.specs.Steps.{HoldersOfFiles, StandsIn}
@@ -43,7 +44,7 @@ pub record HasEnded (locks : HoldersOfFiles) (link : ℕ) (changes : List Change
 abbrev pub IsEnd : Quiet → (threshold : ℕ) → List Pdu → Tables → (before after : HoldersOfFiles) → Setting → Result (Step Quiet) (Quiet × StepError) → Type 0
 IsEnd quiet threshold items tables old new setting (Ok step) =
     (state : State) (party : StandingParty) → StandsIn tables old state party → IsQuiet quiet party.link party.history
-    → pending party.trace ≡ Some (record { threshold = threshold; items = items })
+    → pending party.trace ≡ Some (record { threshold = threshold; items = items }) → AreItems items
     → HasEnded new party.link (changes_at_end state party setting (record { threshold = threshold; items = items })) (answered state party setting end_message) step
 IsEnd quiet threshold items tables old new setting (Err back) = IsAsBefore old new
 

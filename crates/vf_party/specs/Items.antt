@@ -1,6 +1,6 @@
 -- The requests that may be items of a group (ISO 8571-3, grouping; which they are is profile).
-use Rattle.std.specs.Prelude.{ℕ, Bool, List, [], ◌∷◌, nat_eq}
-use Rattle.std.specs.List.{list_any}
+use Rattle.std.specs.Prelude.{◌≡◌, ℕ, Bool, true, List, [], ◌∷◌, nat_eq}
+use Rattle.std.specs.List.{AllByRecursion, list_any}
 use Rattle.vf_pdu.specs.PduNumbers.{number_of}
 use Rattle.vf_pdu.specs.declared.pdu.Pdu.{Pdu}
 
@@ -10,3 +10,6 @@ numbers_of_items = 6 ∷ 8 ∷ 10 ∷ 12 ∷ 14 ∷ 16 ∷ 18 ∷ 20 ∷ []
 
 abbrev pub is_item : Pdu → Bool
 is_item request = list_any (nat_eq (number_of request)) numbers_of_items
+
+abbrev pub AreItems : List Pdu → Type 0
+AreItems items = AllByRecursion (λ item. is_item item ≡ true) items

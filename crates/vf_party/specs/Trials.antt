@@ -12,6 +12,7 @@ use Rattle.vf_filestore.specs.Groups as groups
 use Rattle.vf_filestore.specs.Groups.{is_good, said_in_vain, said_of}
 use Rattle.vf_filestore.specs.Records.{changes_by_items}
 use Rattle.vf_filestore.specs.State.{State, StandingParty}
+use Rattle.vf_party.specs.Items.{AreItems, is_item}
 use Rattle.vf_party.specs.Quiets.{IsQuiet}
 use Rattle.vf_party.specs.Refusals.{refusal_numbered}
 use Rattle.vf_party.specs.Steps.{HoldersOfFiles, StandsIn}
@@ -72,9 +73,9 @@ abbrev pub pdu_of : Message → Option Pdu
 pdu_of (messages.Pdu pdu) = Some pdu
 pdu_of _ = None
 
--- the item, where this stage takes it
+-- the item, where it is one and this stage takes it
 abbrev pub taken_in : Stage → Pdu → Option Pdu
-taken_in stage item = if takes stage (messages.Pdu item) then Some item else None
+taken_in stage item = if is_item item then (if takes stage (messages.Pdu item) then Some item else None) else None
 
 -- ITEMS. This came of them in the filestore: what is said to them, in a group that is performed and in one that isn't, how
 -- many are good, and what changes; and after them the party of the link stands in the state.
@@ -93,9 +94,9 @@ abbrev pub AreTriedIn : HoldersOfFiles → Setting → List Pdu → State → St
 AreTriedIn locks setting items state party trial =
     HasTried locks party.link party.trace (changes_by_items party.link setting items state) (groups.trial party.link setting items state) trial
 
--- what code owes that tries items: so it is in every sound state of which it has these tables and locks, and in which a
+-- what code owes that tries what are items: so it is in every sound state of which it has these tables and locks, and in which a
 -- party stands that the typed state represents
 abbrev pub AreTried : Quiet → Tables → (before after : HoldersOfFiles) → Setting → List Pdu → Trial → Type 0
 AreTried quiet tables old new setting items trial =
-    (state : State) (party : StandingParty) → StandsIn tables old state party → IsQuiet quiet party.link party.history
+    (state : State) (party : StandingParty) → StandsIn tables old state party → IsQuiet quiet party.link party.history → AreItems items
     → AreTriedIn new setting items state party trial

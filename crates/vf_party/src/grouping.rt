@@ -1,9 +1,7 @@
 //! The end of a group, at which it comes to all of its items or to none (ISO 8571-3, F-END-GROUP; profile).
-ghost use Rattle.std.specs.Prelude.{◌≡◌, IfErr, IfOk, true};
-ghost use Rattle.std.specs.List.{AllByRecursion};
+ghost use Rattle.std.specs.Prelude.{◌≡◌, IfErr, IfOk};
 ghost use Rattle.vf_filestore.specs.Groups.{between as between_meant};
 ghost use Rattle.vf_party.specs.GroupEnds.{IsEnd, IsPerformed};
-ghost use Rattle.vf_party.specs.Items.{is_item as is_item_meant};
 ghost use Rattle.vf_party.specs.Sameness.{unless_same as unless_same_meant};
 ghost use Rattle.vf_party.specs.Settings.{setting_of};
 ghost use Rattle.vf_party.specs.Trials.{AreTried};
@@ -32,7 +30,6 @@ pub(crate) fn end_group(
     tables: &Tables,
     locks: &mut Locks,
 ) -> Result<Step<Quiet>, (Quiet, StepError)>
-    requires { AllByRecursion (λ item. is_item_meant item ≡ true) items.now }
     ensures consequence { IsEnd quiet threshold items.now tables.now locks.old locks.new (setting_of setting.now) result }
     ensures kept { IfErr result (λ back. back.0 ≡ quiet) }
     ensures memory { IfErr result (λ back. back.1 ≡ errors.NoMemory) }
@@ -77,7 +74,6 @@ fn tried(
     tables: &Tables,
     locks: &Locks,
 ) -> Result<Attempt, NoMemory>
-    requires { AllByRecursion (λ item. is_item_meant item ≡ true) items.now }
     ensures { IfOk result (λ attempt. AreTried quiet.now tables.now locks.now attempt.locks (setting_of setting.now) items.now attempt.trial) }
 {
     let quiet = quiet.copy(alloc)?;

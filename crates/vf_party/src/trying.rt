@@ -1,13 +1,11 @@
 //! The items of a group, tried in their order (ISO 8571-3, grouping; profile).
-ghost use Rattle.std.specs.Prelude.{◌≡◌, ◌≤◌, ◌<◌, ◌+◌, ◌^◌, [], ◌∷◌, ◌++◌, IfOk, length, true};
-ghost use Rattle.std.specs.List.{AllByRecursion};
-ghost use Rattle.vf_party.specs.Items.{is_item as is_item_meant};
+ghost use Rattle.std.specs.Prelude.{◌≡◌, ◌≤◌, ◌<◌, ◌+◌, ◌^◌, [], ◌∷◌, ◌++◌, IfOk, length};
 ghost use Rattle.vf_party.specs.Quiets.{stage_of};
 ghost use Rattle.vf_party.specs.Settings.{setting_of};
 ghost use Rattle.vf_party.specs.Trials.{AreTried, ComesOf, IsBadItem, IsGoodItem, IsJoined, IsUntried, pdu_of, taken_in};
 ghost use Rattle.vf_tables.specs.Changes.{after_all};
 
-use crate::items::take_item;
+use crate::items::{is_item, take_item};
 use crate::refusals::refusal;
 use crate::step::followed_by;
 use crate::{Message, Quiet, Said, Setting, Step, StepError};
@@ -50,7 +48,6 @@ pub(crate) fn try_items(
     tables: Tables,
     locks: &mut Locks,
 ) -> Result<Trial, NoMemory>
-    requires { AllByRecursion (λ item. is_item_meant item ≡ true) items.now }
     ensures trial { IfOk result (AreTried quiet tables locks.old locks.new (setting_of setting.now) items.now) }
     ensures counted { IfOk result (λ trial. trial.good ≤ length items.now) }
 {
@@ -121,7 +118,6 @@ pub(crate) fn try_item(
     tables: Tables,
     locks: &mut Locks,
 ) -> Result<Trial, NoMemory>
-    requires { is_item_meant item.now ≡ true }
     ensures trial { IfOk result (AreTried quiet tables locks.old locks.new (setting_of setting.now) (item.now ∷ [])) }
     ensures counted { IfOk result (λ trial. trial.good ≤ 1) }
 {
@@ -145,10 +141,13 @@ fn same(setting: &Setting) -> Setting
     }
 }
 
-/// A copy of the item, where its regime takes it.
+/// A copy of the item, where it is one and its regime takes it.
 fn taken(alloc: Global, quiet: &Quiet, item: &Pdu) -> Result<Option<Pdu>, NoMemory>
     ensures { IfOk result (λ request. request ≡ taken_in (stage_of quiet.now) item.now) }
 {
+    if !is_item(item) {
+        return Ok(None);
+    }
     let copy = item.copy(alloc)?;
     let message = Message::Pdu(copy);
     if !quiet.stage().takes(&message) {

@@ -1,4 +1,5 @@
-use Rattle.std.proofs.Common.{List, sym, subst}
+use Rattle.std.proofs.Common.{List, sym, subst, ◌∷◌}
+use Rattle.vf_party.specs.Items.{AreItems}
 use Rattle.vf_party.specs.Settings.{setting_of}
 use Rattle.vf_party.specs.Trials.{AreTriedIn}
 use Rattle.vf_party.proofs.Trials.{items_tried}
@@ -6,11 +7,12 @@ use Rattle.vf_party.proofs.trying.+try_items.Goals as goal
 use Rattle.vf_pdu.specs.declared.pdu.Pdu.{Pdu}
 
 pub returns-clause-trial : goal.returns-clause-trial
-returns-clause-trial t c = λ state party stands represents.
+returns-clause-trial t c = λ state party stands represents are.
     let setting = setting_of c.args.setting.now in
     let all = c.in_ok-trial.trial in
     let new = c.try_items.new.locks in
     let parts = c.in-Some.ensures.cases in
     subst (λ (items : List Pdu). AreTriedIn new setting items state party all) (sym parts.0)
-    (items_tried state party setting c.in-Some.item.now c.in-Some.others.now c.try_item.new.locks new c.in_ok-first.first c.in_ok-later.later all
-    (c.in_ok-first.ensures.trial state party stands represents) c.in_ok-later.ensures.trial c.in_ok-trial.ensures)
+    (let each : AreItems (c.in-Some.item.now ∷ c.in-Some.others.now) = subst (λ (items : List Pdu). AreItems items) parts.0 are in
+    items_tried state party setting c.in-Some.item.now c.in-Some.others.now c.try_item.new.locks new c.in_ok-first.first c.in_ok-later.later all
+    (c.in_ok-first.ensures.trial state party stands represents (each.0, tt)) each.1 c.in_ok-later.ensures.trial c.in_ok-trial.ensures)

@@ -16,7 +16,7 @@ use Rattle.vf_party.proofs.trying.try_item.Goals as goal
 use Rattle.vf_pdu.specs.declared.pdu.Pdu.{Pdu}
 
 pub returns-in_default-clause-trial : goal.returns-in_default-clause-trial
-returns-in_default-clause-trial c = λ state party stands represents.
+returns-in_default-clause-trial c = λ state party stands represents are.
     let setting = setting_of c.args.setting.now in
     let item = c.args.item.now in
     let tables = c.args.tables in
@@ -24,7 +24,7 @@ returns-in_default-clause-trial c = λ state party stands represents.
     let quiet = c.args.quiet in
     let left : takes (regime_stage party.history) (messages.Pdu item) ≡ false
     = ap (λ (stage : Stage). takes stage (messages.Pdu item)) (stage_is quiet party.link party.history represents)
-    ∙ taken_none (stage_of quiet) item (λ request is. c.in_default.not-Some request (c.in_ok-request.ensures ∙ is)) in
+    ∙ taken_none (stage_of quiet) item are.0 (λ request is. c.in_default.not-Some request (c.in_ok-request.ensures ∙ is)) in
     refused_item state party setting item tables locks locks quiet c.plain.result c.in_ok-trial.trial stands represents
     (left_decides state party setting item left ∙ ap (λ (diagnostic : Diagnostic). Refuses diagnostic) (sym c.plain.ensures)) (λ file. refl)
     (subst (λ (number : ℕ). IsBadItem quiet number c.plain.result tables c.in_ok-trial.trial) c.number.ensures c.in_ok-trial.ensures)
@@ -32,15 +32,15 @@ returns-in_default-clause-trial c = λ state party stands represents.
 pub take_item-answer-requires-clause-item : goal.take_item-answer-requires-clause-item
 take_item-answer-requires-clause-item c =
     let taken = taken_some (stage_of c.args.quiet) c.args.item.now c.in-Some.request (sym c.in_ok-request.ensures ∙ c.in-Some.is) in
-    subst (λ (request : Pdu). is_item request ≡ true) taken.1 c.requires
+    subst (λ (request : Pdu). is_item request ≡ true) taken.same taken.is
 
 pub take_item-answer-requires-clause-taken : goal.take_item-answer-requires-clause-taken
 take_item-answer-requires-clause-taken c =
     let taken = taken_some (stage_of c.args.quiet) c.args.item.now c.in-Some.request (sym c.in_ok-request.ensures ∙ c.in-Some.is) in
-    subst (λ (request : Pdu). takes (stage_of c.args.quiet) (messages.Pdu request) ≡ true) taken.1 taken.0
+    subst (λ (request : Pdu). takes (stage_of c.args.quiet) (messages.Pdu request) ≡ true) taken.same taken.taken
 
 pub returns-clause-trial : goal.returns-clause-trial
-returns-clause-trial c = λ state party stands represents.
+returns-clause-trial c = λ state party stands represents are.
     let setting = setting_of c.args.setting.now in
     let item = c.args.item.now in
     let tables = c.args.tables in
@@ -51,10 +51,10 @@ returns-clause-trial c = λ state party stands represents.
     let tried = c.in_ok-trial-2.trial in
     let taken = taken_some (stage_of quiet) item c.in-Some.request (sym c.in_ok-request.ensures ∙ c.in-Some.is) in
     let here : takes (regime_stage party.history) (messages.Pdu item) ≡ true
-    = ap (λ (stage : Stage). takes stage (messages.Pdu item)) (stage_is quiet party.link party.history represents) ∙ taken.0 in
+    = ap (λ (stage : Stage). takes stage (messages.Pdu item)) (stage_is quiet party.link party.history represents) ∙ taken.taken in
     let meets : MeetsStep IsQuiet tables old new state party setting (messages.Pdu item) answer
     = subst (λ (one : Setting). MeetsStep IsQuiet tables old new state party one (messages.Pdu item) answer) (ap setting_of c.same.ensures)
-    (subst (λ (request : Pdu). takes (regime_stage party.history) (messages.Pdu request) ≡ true → MeetsStep IsQuiet tables old new state party (setting_of c.same.result) (messages.Pdu request) answer) (sym taken.1)
+    (subst (λ (request : Pdu). takes (regime_stage party.history) (messages.Pdu request) ≡ true → MeetsStep IsQuiet tables old new state party (setting_of c.same.result) (messages.Pdu request) answer) (sym taken.same)
     (c.take_item-answer.ensures.consequence state party stands represents) here) in
-    answered_item state party setting item tables old new answer quiet tried c.requires stands represents here meets c.take_item-answer.ensures.kept
+    answered_item state party setting item tables old new answer quiet tried taken.is stands represents here meets c.take_item-answer.ensures.kept
     (subst (λ (number : ℕ). ComesOf number answer tables tried) c.number-2.ensures c.in_ok-trial-2.ensures)
