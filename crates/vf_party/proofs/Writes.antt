@@ -1,6 +1,7 @@
 -- What a message of a write owes that goes on, and what its docket retains.
-use Rattle.std.proofs.Common.{◌≡◌, ℕ, suc, ◌+◌, max, true, false, cond, is_some, List, [], ◌∷◌, ◌++◌, flat_map, length, take, Option, None, Some, refl, ap, sym, subst, ◌∙◌, append-nil, arith, length-append}
+use Rattle.std.proofs.Common.{◌≡◌, ℕ, suc, ◌+◌, max, true, false, cond, is_some, List, [], ◌∷◌, ◌++◌, flat_map, length, take, Option, None, Some, refl, ap, sym, subst, ◌∙◌, append-nil, append_assoc, arith, length-append}
 use Rattle.std.proofs.lemmas.List.{take_all}
+use Rattle.std.proofs.lemmas.List.Sums.{sum_by_push}
 use Rattle.vf_base.specs.declared.access.FaduId.{FaduId}
 use Rattle.vf_base.specs.declared.element.Element.{Element}
 use Rattle.vf_elements.specs.Stages.{takes}
@@ -38,7 +39,9 @@ use Rattle.vf_tables.specs.declared.docket.Docket as rows
 use Rattle.vf_tables.specs.declared.tables.Tables.{Tables}
 use Rattle.vf_transfer.specs.Checks.{Checkpoints, RepresentChecks, offered}
 use Rattle.vf_transfer.specs.Transfer as transfer
-use Rattle.vf_transfer.specs.Transfer.{counts_from, last_check, standing}
+use Rattle.vf_transfer.specs.Transfer.{counts_from, joined, last_check, standing, survivors}
+use Rattle.vf_transfer.proofs.Entries.{survivors_check}
+use Rattle.vf_tree.specs.FileTree.{octets_of, octets_of_unit}
 
 -- ---- what a party leaves, by its history alone
 
@@ -132,6 +135,19 @@ module _ (tables : Tables) (locks : HoldersOfFiles) (state : State) (party : Sta
       (rows_alone (with_history whole party) ∙ ap (rows_by party.link) history ∙ next.left)
       (changes ∙ sym ((λ i. file_changes (sym stands.kept i).files state.files ++ own_changes was is) ∙ ap (λ (changes : List Change). changes ++ own_changes was is) (files_themselves state.files)))
       (λ after_held file. stands.held file ∙ sym (held after_held file))
+
+-- ---- octets
+
+pub weighed_with : (entries : List transfer.Entry) (element : Element) (octets : ℕ) → octets_of_unit (survivors 0 entries) ≡ octets
+    → octets_of_unit (survivors 0 (transfer.Value element ∷ entries)) ≡ octets + octets_of element
+weighed_with entries element octets weighed =
+    let left = standing 0 entries in
+    ap octets_of_unit (sym (append_assoc (joined left.closed) left.after (element ∷ [])))
+    ∙ sum_by_push octets_of (survivors 0 entries) element
+    ∙ ap (λ n. n + octets_of element) weighed
+
+pub weighed_checked : (entries : List transfer.Entry) (check : ℕ) → octets_of_unit (survivors 0 (transfer.Acknowledgement check ∷ transfer.Check ∷ entries)) ≡ octets_of_unit (survivors 0 entries)
+weighed_checked entries check = ap octets_of_unit (survivors_check 0 entries)
 
 -- ---- checks
 

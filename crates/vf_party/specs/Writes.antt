@@ -13,7 +13,7 @@ use Rattle.vf_filestore.specs.Ending.{Ending, ending_unless, in_silence, unchang
 use Rattle.vf_filestore.specs.History.{History}
 use Rattle.vf_filestore.specs.State.{StandingParty}
 use Rattle.vf_filestore.specs.Tables.{operation_of, pieces_of, refused_in, row_of}
-use Rattle.vf_filestore.specs.Transfers.{Writes, data_end, happened, last_check, point, refusal_of, start, under_way}
+use Rattle.vf_filestore.specs.Transfers.{Writes, data_end, happened, last_check, point, refusal_of, start, survivors, under_way}
 use Rattle.vf_party.specs.Dockets.{docket_with, fields_of, no_transfer}
 use Rattle.vf_party.specs.Erasures.{changes_between}
 use Rattle.vf_party.specs.Represents.{IsOpened}
@@ -32,7 +32,8 @@ use Rattle.vf_tables.specs.declared.docket.Direction.TheVariants.{Write}
 use Rattle.vf_tables.specs.declared.docket.Docket.{Docket}
 use Rattle.vf_tables.specs.declared.docket.Regime.{Regime}
 use Rattle.vf_transfer.specs.Checks.{RepresentsReceived, is_unknown, offered}
-use Rattle.vf_transfer.specs.Transfer.{Entry, Restart, front}
+use Rattle.vf_transfer.specs.Transfer.{Entry, Restart, front, survivors as received_values}
+use Rattle.vf_tree.specs.FileTree.{octets_of_unit}
 
 -- what a docket has of a write
 abbrev pub moving_of : WriteOperation → FaduId → requests.Writing → (point : ℕ) → Underway
@@ -67,6 +68,7 @@ pub record IsWriting (writing : Writing) (link : ℕ) (history : History) : Type
   pub started : start history ≡ writing.start
   pub ended : data_end history ≡ writing.ended
   pub left : rows_by link history ≡ docket_with (fields_at writing (point history)) (pieces_of history)
+  pub weighed : octets_of_unit (survivors history) ≡ writing.octets
 
 -- CHANGES of the docket, where there is one: it has other fields,
 abbrev pub put_docket : Option Regime → List Change
@@ -91,9 +93,10 @@ restarted_docket fields stood check = if nat_lt check stood then cut_docket fiel
 -- A step back to a check that stands, of every write that has received what this one has.
 pub record IsRestart (writing : Writing) (check : ℕ) (step : Step Writing) : Type 0 where
   pub known : is_unknown check writing.received.checks ≡ false
-  pub state : step.state ≡ record writing { received = step.state.received; ended = None }
+  pub state : step.state ≡ record writing { received = step.state.received; octets = step.state.octets; ended = None }
   pub counted : step.state.received.checks.start ≡ writing.received.checks.start
   pub received : (entries : List Entry) → RepresentsReceived writing.received entries → RepresentsReceived step.state.received (Restart check ∷ entries)
+  pub weighed : (entries : List Entry) → RepresentsReceived writing.received entries → octets_of_unit (received_values 0 (Restart check ∷ entries)) ≡ step.state.octets
   pub said : step.said.items ≡ answers.Pdu (RestartResponse check) ∷ []
   pub changes : step.changes ≡ restarted_docket (fields_at writing check) (offered writing.received.checks) check
 

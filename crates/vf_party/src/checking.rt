@@ -111,9 +111,13 @@ impl Writing {
         let Ok(said) = one_said(alloc, Said::Pdu(Pdu::RestartResponse { point })) else {
             return Err((self, StepError::NoMemory));
         };
+        let Ok(octets) = self.received.octets_before(point) else {
+            return Err((self, StepError::NoMemory));
+        };
         let Ok(()) = self.received.restart(point) else {
             return Err((self, StepError::NoMemory));
         };
+        self.octets = octets;
         self.ended = None;
         Ok(Step {
             state: self,

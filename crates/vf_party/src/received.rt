@@ -1,12 +1,14 @@
 //! What a write has received. Each check is acknowledged at once, so that all that stand are (ISO 8571-4, F-CHECK).
-ghost use Rattle.std.specs.Prelude.{◌≡◌, ◌+◌, ◌∷◌, [], List, is_err, IfOk, OnOk, OnErr};
-ghost use Rattle.vf_transfer.specs.Checks.{RepresentsReceived, is_unknown, offered};
-ghost use Rattle.vf_transfer.specs.Transfer.{Acknowledgement, Check, Entry, Restart, Value, front as front_meant, last_check, point as point_meant, standing};
+ghost use Rattle.std.specs.Prelude.{◌≡◌, ◌+◌, ◌∷◌, [], List, is_err, length, min, IfOk, OnOk, OnErr};
+ghost use Rattle.vf_transfer.specs.Checks.{RepresentsReceived, is_unknown, mark, offered};
+ghost use Rattle.vf_transfer.specs.Transfer.{Acknowledgement, Check, Entry, Restart, Value, front as front_meant, last_check, point as point_meant, standing, survivors};
+ghost use Rattle.vf_tree.specs.FileTree.{octets_of_unit};
 
 use std::alloc::Global;
 use std::marker::Model;
 use vf_base::{Element, NoMemory};
 use vf_transfer::{Receiving, Unknown};
+use vf_tree::octets_of;
 
 /// The values of a write from its start on, whose checks are numbered from 1.
 #[derive(Drop)]
@@ -82,6 +84,28 @@ impl Received {
         Ok(())
     }
 
+    /// The octets of the strings of the values that a restart at this check leaves. More than 18,446,744,073,709,551,615
+    /// want memory.
+    pub(crate) fn octets_before(&self, check: u32) -> Result<u64, NoMemory>
+        ensures { IfOk result (λ octets. (entries : List Entry) → RepresentsReceived self.now entries → octets_of_unit (survivors 0 (Restart check ∷ entries)) ≡ octets) }
+    {
+        let values = self.receiving.values();
+        let (left, _) = values.split_at(self.count_before(check).min(values.len()));
+        let octets = octets_in(left)?;
+        Ok(octets)
+    }
+
+    /// How many values are before this check, or before the last one where that is lower.
+    fn count_before(&self, check: u32) -> usize
+        ensures { result ≡ mark (min check (length self.now.checks.marks)) self.now.checks.marks }
+    {
+        let marks = self.receiving.marks();
+        let Some(place) = (check as usize).min(marks.len()).checked_sub(1) else {
+            return 0;
+        };
+        marks[place]
+    }
+
     /// All values.
     pub(crate) fn values(&self) -> &[Element]
         ensures { result.now ≡ self.now.values }
@@ -106,4 +130,18 @@ impl Received {
         let (_, after) = values.split_at(self.receiving.front().min(values.len()));
         after
     }
+}
+
+/// The octets of the strings of values. More than 18,446,744,073,709,551,615 want memory.
+fn octets_in(values: &[Element]) -> Result<u64, NoMemory>
+    ensures { IfOk result (λ octets. octets ≡ octets_of_unit values.now) }
+{
+    let mut octets: u64 = 0;
+    for element in values {
+        let Some(more) = octets.checked_add(octets_of(element)) else {
+            return Err(NoMemory);
+        };
+        octets = more;
+    }
+    Ok(octets)
 }

@@ -18,6 +18,7 @@ use vf_pdu::Pdu;
 use vf_pdu_fields::WriteOperation;
 use vf_regime_effects::{Write, selected, write_given};
 use vf_tables::{Change, Changes, Direction, Operation, Regime, Tables};
+use vf_tree::octets_of;
 
 /// A party with an open file, in which a write is under way.
 #[derive(Drop)]
@@ -28,6 +29,8 @@ pub struct Writing {
     /// What its request was given.
     pub(crate) given: vf_regime_effects::Writing,
     pub(crate) received: Received,
+    /// The octets of the strings of all values that stand.
+    pub(crate) octets: u64,
     /// The check of the last recovery, else 0: no restart goes back before it.
     pub(crate) start: u32,
     /// The end of the values, with the initiator's diagnostic.
@@ -77,6 +80,7 @@ impl Open {
             fadu,
             given,
             received: Received::new(alloc),
+            octets: 0,
             start: 0,
             ended: None,
         };
@@ -89,8 +93,9 @@ impl Open {
 }
 
 impl Writing {
-    /// Takes an element (ISO 8571-3, F-DATA), to which nothing is said: it is the next value. Without memory the state is
-    /// given back as it was.
+    /// Takes an element (ISO 8571-3, F-DATA), to which nothing is said: it is the next value. One with which their octets
+    /// pass 18,446,744,073,709,551,615 wants memory, and so does each that comes without any; then the state is given back
+    /// as it was.
     pub fn element(
         mut self,
         alloc: Global,
@@ -106,9 +111,13 @@ impl Writing {
         ensures kept { IfErr result (λ back. back.0 ≡ self) }
         ensures memory { IfErr result (λ back. back.1 ≡ StepError.NoMemory) }
     {
+        let Some(octets) = self.octets.checked_add(octets_of(&element)) else {
+            return Err((self, StepError::NoMemory));
+        };
         let Ok(()) = self.received.value(element) else {
             return Err((self, StepError::NoMemory));
         };
+        self.octets = octets;
         Ok(Step {
             state: self,
             said: Vec::new(alloc),

@@ -43,7 +43,7 @@ returns-clause-consequence c = λ state party stands represents.
     let asks = c.in-WriteRequest in
     let regimes = c.args.self in
     let given = c.write_given-given.result in
-    let after : Writing = record { regimes = regimes; operation = asks.operation; fadu = asks.fadu; given = given; received = c.new.result; start = 0; ended = None } in
+    let after : Writing = record { regimes = regimes; operation = asks.operation; fadu = asks.fadu; given = given; received = c.new.result; octets = 0; start = 0; ended = None } in
     let step : Step Writing = record { state = after; said = c.new-2.result; changes = c.in-Ok-put_docket.changes } in
     let message = messages.Pdu (WriteRequest asks.operation asks.fadu) in
     let was = docket_with (fields_of regimes no_transfer) [] in
@@ -75,6 +75,7 @@ returns-clause-consequence c = λ state party stands represents.
       ended = refl;
       left = left_then after party.link (entry ∷ party.history) (nested_with c.args.tables.now c.args.locks.now state party setting message (given_of_writing given) stands taken) opened_now
           (retained_secured entry party.history refl) refl;
+      weighed = refl;
     })
     refl refl refl refl
     (rows_open regimes party (party_sound state party.link party stands.sound stands.stands).sound.nested represents)

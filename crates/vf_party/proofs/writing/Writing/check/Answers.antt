@@ -17,7 +17,7 @@ use Rattle.vf_party.specs.declared.step.Step.{Step}
 use Rattle.vf_party.specs.declared.writing.Writing.{Writing}
 use Rattle.vf_party.proofs.Retained.{retained_secured}
 use Rattle.vf_party.proofs.WriteDockets.{staged_is}
-use Rattle.vf_party.proofs.Writes.{acknowledged_after, goes_on, left_then, nested_with, offered_is, pieces_after, pieces_counted, point_after, rows_alone}
+use Rattle.vf_party.proofs.Writes.{acknowledged_after, goes_on, left_then, nested_with, offered_is, pieces_after, pieces_counted, point_after, rows_alone, weighed_checked}
 use Rattle.vf_party.proofs.writing.Writing.check.Goals as goal
 
 -- the next check is another
@@ -63,6 +63,7 @@ returns-clause-consequence c = λ state party stands represents taken.
       ended = represents.ended;
       left = left_then after party.link (entry ∷ history) (nested_with c.args.tables.now c.args.locks.now state party setting messages.Check Nothing stands taken) opened_now
           (retained_secured entry history refl) represents.moved;
+      weighed = weighed_checked entries (last_check history + 1) ∙ represents.weighed;
     })
     refl refl refl refl (rows_alone party ∙ represents.left)
     (c.in-Ok-stage_docket.ensures

@@ -51,5 +51,6 @@ returns-clause-consequence c = λ state party stands represents.
       started = represents.started;
       ended = refl;
       left = left ∙ represents.left;
+      weighed = represents.weighed;
     })
     refl refl refl refl (rows_alone party ∙ represents.left) (c.new-2.ensures ∙ sym (own_same was)) (λ held. held))

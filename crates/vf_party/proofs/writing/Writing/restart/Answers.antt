@@ -27,7 +27,7 @@ returns-clause-consequence c = λ state party stands represents.
     let check = c.in-RestartRequest.point in
     let made : Step Writing = c.in_ok-step.step in
     let back = c.in_ok-step.ensures.back in
-    let after : Writing = record c.args.self { received = made.state.received; ended = None } in
+    let after : Writing = record c.args.self { received = made.state.received; octets = made.state.octets; ended = None } in
     let step : Step Writing = record { state = after; said = made.said; changes = made.changes } in
     let same : made ≡ step = λ i. record made { state = back.state i } in
     let history = party.history in
@@ -60,6 +60,7 @@ returns-clause-consequence c = λ state party stands represents.
       ended = refl;
       left = left_then after party.link (entry ∷ history) (nested_with c.args.tables.now c.args.locks.now state party setting message Nothing stands taken) opened_now
           (retained_secured entry history refl) represents.moved;
+      weighed = back.weighed entries represents.received;
     })
     refl refl refl refl (rows_alone party ∙ represents.left)
     (back.changes ∙ changes_back before party.link history represents check within
