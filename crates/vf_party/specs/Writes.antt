@@ -96,7 +96,7 @@ pub record IsRestart (writing : Writing) (check : ℕ) (step : Step Writing) : T
   pub state : step.state ≡ record writing { received = step.state.received; octets = step.state.octets; ended = None }
   pub counted : step.state.received.checks.start ≡ writing.received.checks.start
   pub received : (entries : List Entry) → RepresentsReceived writing.received entries → RepresentsReceived step.state.received (Restart check ∷ entries)
-  pub weighed : (entries : List Entry) → RepresentsReceived writing.received entries → is_unknown check writing.received.checks ≡ false → octets_of_unit (received_values 0 (Restart check ∷ entries)) ≡ step.state.octets
+  pub weighed : (entries : List Entry) → RepresentsReceived writing.received entries → octets_of_unit (received_values 0 (Restart check ∷ entries)) ≡ step.state.octets
   pub said : step.said.items ≡ answers.Pdu (RestartResponse check) ∷ []
   pub changes : step.changes ≡ restarted_docket (fields_at writing check) (offered writing.received.checks) check
 

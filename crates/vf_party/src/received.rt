@@ -1,6 +1,6 @@
 //! What a write has received. Each check is acknowledged at once, so that all that stand are (ISO 8571-4, F-CHECK).
-ghost use Rattle.std.specs.Prelude.{◌≡◌, ◌+◌, ◌∷◌, [], List, false, is_err, IfOk, OnOk, OnErr};
-ghost use Rattle.vf_transfer.specs.Checks.{RepresentsReceived, before_check, is_unknown, offered};
+ghost use Rattle.std.specs.Prelude.{◌≡◌, ◌+◌, ◌∷◌, [], List, is_err, length, min, IfOk, OnOk, OnErr};
+ghost use Rattle.vf_transfer.specs.Checks.{RepresentsReceived, is_unknown, mark, offered};
 ghost use Rattle.vf_transfer.specs.Transfer.{Acknowledgement, Check, Entry, Restart, Value, front as front_meant, last_check, point as point_meant, standing, survivors};
 ghost use Rattle.vf_tree.specs.FileTree.{octets_of_unit};
 
@@ -84,10 +84,10 @@ impl Received {
         Ok(())
     }
 
-    /// The octets of the strings of the values that a restart at this check leaves, where it stands. More than
-    /// 18,446,744,073,709,551,615 want memory.
+    /// The octets of the strings of the values that a restart at this check leaves. More than 18,446,744,073,709,551,615
+    /// want memory.
     pub(crate) fn octets_before(&self, check: u32) -> Result<u64, NoMemory>
-        ensures { IfOk result (λ octets. (entries : List Entry) → RepresentsReceived self.now entries → is_unknown check self.now.checks ≡ false → octets_of_unit (survivors 0 (Restart check ∷ entries)) ≡ octets) }
+        ensures { IfOk result (λ octets. (entries : List Entry) → RepresentsReceived self.now entries → octets_of_unit (survivors 0 (Restart check ∷ entries)) ≡ octets) }
     {
         let values = self.receiving.values();
         let (left, _) = values.split_at(self.count_before(check).min(values.len()));
@@ -95,15 +95,15 @@ impl Received {
         Ok(octets)
     }
 
-    /// How many values are before this check; none where it doesn't stand.
+    /// How many values are before this check, or before the last one where that is lower.
     fn count_before(&self, check: u32) -> usize
-        ensures { result ≡ before_check check self.now.checks }
+        ensures { result ≡ mark (min check (length self.now.checks.marks)) self.now.checks.marks }
     {
-        let Some(place) = (check as usize).checked_sub(1) else {
+        let marks = self.receiving.marks();
+        let Some(place) = (check as usize).min(marks.len()).checked_sub(1) else {
             return 0;
         };
-        let marks = self.receiving.marks();
-        marks.get(place).copied().unwrap_or(0)
+        marks[place]
     }
 
     /// All values.

@@ -55,7 +55,7 @@ returns-clause-consequence c = λ state party stands represents taken.
       ended = refl;
       left = left_then after party.link (entry ∷ history) (nested_with c.args.tables.now c.args.locks.now state party setting message Nothing stands taken) opened_now
           (retained_secured entry history refl) represents.moved;
-      weighed = back.weighed entries represents.received back.known;
+      weighed = back.weighed entries represents.received;
     })
     refl refl refl refl (rows_alone party ∙ represents.left)
     (back.changes ∙ changes_back before party.link history represents check within
