@@ -3,8 +3,13 @@ pub mod Concluding
 pub mod Creations
 pub mod DocketChanges
 pub mod FileChanges
+pub mod FoundDockets
 pub mod Kept
 pub mod Opens
 pub mod OwnDockets
+pub mod ResumedAt
 pub mod Retained
 pub mod Rows
+pub mod TakenDockets
+pub mod TakenOpen
+pub mod TakenUp

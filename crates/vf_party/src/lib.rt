@@ -9,6 +9,7 @@ mod deleting;
 mod dockets;
 mod files;
 mod idle;
+mod recovering;
 mod selected;
 mod states;
 mod step;

@@ -1,0 +1,126 @@
+-- What a recovery finds of a docket in what code keeps, and how its open stands again (ISO 8571-3, F-RECOVER; profile).
+use Rattle.std.specs.Prelude.{◌≡◌, ℕ, ◌-◌, Bool, true, false, not, ◌&&◌, ◌||◌, List, [], ◌∷◌, Option, None, Some, is_none, is_some, Result, Ok, Err, if◌then◌else◌, nat_eq}
+use Rattle.vf_attr.specs.declared.file.File.{File}
+use Rattle.vf_base.specs.declared.action.Control.{Control}
+use Rattle.vf_elements.specs.Stages.{takes}
+use Rattle.vf_elements.specs.declared.message.Message.{Message}
+use Rattle.vf_files.specs.Files.{file_named}
+use Rattle.vf_files.specs.Rows.{unit_row}
+use Rattle.vf_filestore.specs.Aborts.{Setting}
+use Rattle.vf_filestore.specs.Controls.{not_opened, attribute_controls}
+use Rattle.vf_filestore.specs.Diagnostics.{Row, row, first_row, docket_unknown, wrong_transfer}
+use Rattle.vf_filestore.specs.Recovering.{version_of, version_row}
+use Rattle.vf_filestore.specs.Stage.{regime_stage}
+use Rattle.vf_filestore.specs.State.{State, StandingParty}
+use Rattle.vf_filestore.specs.Units.{recovery_unit}
+use Rattle.vf_locks.specs.Holders.{controls_of}
+use Rattle.vf_locks.specs.Table.{IsAsBefore, held}
+use Rattle.vf_locks.specs.declared.holder.Holder.{Holder}
+use Rattle.vf_locks.specs.declared.holder.Holder.TheVariants as holders
+use Rattle.vf_party.specs.Represents.{IsAssociated}
+use Rattle.vf_party.specs.Steps.{Concludes, HoldersOfFiles, Represents, StandsIn}
+use Rattle.vf_party.specs.declared.states.Associated.{Associated}
+use Rattle.vf_party.specs.declared.states.Open.{Open}
+use Rattle.vf_party.specs.declared.states.OpenRegime.{OpenRegime}
+use Rattle.vf_party.specs.declared.step.Step.{Step}
+use Rattle.vf_pdu_fields.specs.declared.controls.AttributeControls.{AttributeControls}
+use Rattle.vf_pdu_fields.specs.declared.controls.ContentControls.{ContentControls}
+use Rattle.vf_regime_refusals.specs.declared.association.Selection.{Selection}
+use Rattle.vf_tables.specs.Entries.{docket_of}
+use Rattle.vf_tables.specs.declared.docket.Direction.{Direction}
+use Rattle.vf_tables.specs.declared.docket.Direction.TheVariants.{Idle, Read, Write}
+use Rattle.vf_tables.specs.declared.docket.Docket.{Docket}
+use Rattle.vf_tables.specs.declared.docket.Regime.{Regime}
+use Rattle.vf_tables.specs.declared.tables.Tables.{Tables}
+
+-- THE ROW. Tables have one of each docket and of each recoverable open that stands: a docket holds its file itself.
+abbrev pub row_held : HoldersOfFiles → (identity : List ℕ) (activity : ℕ) → Option Docket → Option Docket
+row_held locks identity activity None = None
+row_held locks identity activity (Some docket) =
+    if is_some (controls_of (holders.Docket identity activity) (held docket.regime.file locks)) then Some docket else None
+
+abbrev pub docket_row : Tables → HoldersOfFiles → (identity : List ℕ) (activity : ℕ) → Option Docket
+docket_row tables locks identity activity = row_held locks identity activity (docket_of identity activity tables)
+
+-- WHAT REFUSES it, by the row
+abbrev pub is_idle : Direction → Bool
+is_idle Idle = true
+is_idle (Read context) = false
+is_idle (Write operation) = false
+
+abbrev pub is_numbered_in : Regime → (number : ℕ) → Bool
+is_numbered_in regime number = nat_eq number regime.number || is_idle regime.direction && nat_eq number (regime.number - 1)
+
+abbrev pub changed_row_by : Direction → (before now : ℕ) → Row
+changed_row_by Idle before now = None
+changed_row_by (Read context) before now = version_row before now
+changed_row_by (Write operation) before now = None
+
+abbrev pub changed_row_in : List File → Regime → Row
+changed_row_in files regime = changed_row_by regime.direction regime.version (version_of (file_named regime.file files))
+
+abbrev pub rows_of : List File → Regime → (number : ℕ) → List Row
+rows_of files regime number = row (not (is_numbered_in regime number)) wrong_transfer ∷ changed_row_in files regime ∷ []
+
+abbrev pub rows_in : List File → Option Docket → (number : ℕ) → List Row
+rows_in files None number = row true docket_unknown ∷ []
+rows_in files (Some docket) number = rows_of files docket.regime number
+
+abbrev pub refusal_in : List File → (units : ℕ) → Option Docket → (number : ℕ) → Row
+refusal_in files units found number = first_row (unit_row units recovery_unit ∷ rows_in files found number)
+
+-- THE OPEN that stands again
+abbrev pub content_part : List Control → ContentControls
+content_part (read ∷ insert ∷ replace ∷ extend ∷ erase ∷ attributes) = record { read = read; insert = insert; replace = replace; extend = extend; erase = erase }
+content_part _ = not_opened
+
+abbrev pub attribute_part : List Control → AttributeControls
+attribute_part (read ∷ insert ∷ replace ∷ extend ∷ erase ∷ read_attribute ∷ change_attribute ∷ delete ∷ others) = record {
+  read_attribute = read_attribute;
+  change_attribute = change_attribute;
+  delete = delete;
+}
+attribute_part _ = attribute_controls (record { value = 0 }) None
+
+abbrev pub selection_in : Regime → Selection
+selection_in regime = record {
+  file = regime.file;
+  requested = regime.requested;
+  controls = attribute_part regime.controls.each;
+  password = regime.password;
+}
+
+abbrev pub opened_in : Regime → OpenRegime
+opened_in regime = record {
+  mode = regime.mode;
+  controls = content_part regime.controls.each;
+  activity = Some regime.activity;
+  position = regime.position;
+  done = regime.number - 1;
+  last = regime.last;
+}
+
+abbrev pub open_by : Associated → Regime → Open
+open_by associated regime = record {
+  selected = record { associated = associated; selection = selection_in regime };
+  regime = opened_in regime;
+}
+
+-- THE HOLD: one holder stands on the file whose place the other, who doesn't, may take
+abbrev pub may_pass : HoldersOfFiles → (file : List ℕ) → (from to : Holder) → Bool
+may_pass locks file from to = is_some (controls_of from (held file locks)) && is_none (controls_of to (held file locks))
+
+-- A DOCKET IS TAKEN UP of which this is the row, and which nothing refuses.
+abbrev pub MeetsTaken : {New : Type 0} → Represents New → Tables → (before after : HoldersOfFiles)
+    → State → StandingParty → Setting → Message → Result (Step New) Associated → Type 0
+MeetsTaken after tables old new state party setting message (Ok step) = Concludes after tables new state party setting message step
+MeetsTaken after tables old new state party setting message (Err back) = IsAsBefore old new
+
+abbrev pub TakesUp : {New : Type 0} → Represents New → Tables → (before after : HoldersOfFiles)
+    → Associated → Setting → (activity number : ℕ) → Message → Docket → Result (Step New) Associated → Type 0
+TakesUp after tables old new self setting activity number message docket result =
+    (state : State) (party : StandingParty) → StandsIn tables old state party → IsAssociated self party.link party.history
+    → takes (regime_stage party.history) message ≡ true
+    → docket_row tables old self.association.identity activity ≡ Some docket
+    → refusal_in tables.files self.association.units (Some docket) number ≡ None
+    → MeetsTaken after tables old new state party setting message result

@@ -1,0 +1,273 @@
+//! A party that takes up again what a docket retains (ISO 8571-3, F-RECOVER; which dockets it may is profile).
+ghost use Rattle.std.specs.Prelude.{◌≡◌, IfErr, IfOk, Some, true, option_copied};
+ghost use Rattle.vf_elements.specs.declared.message.Message.TheVariants as messages;
+ghost use Rattle.vf_files.specs.Diagnostics.{plain as plain_meant};
+ghost use Rattle.vf_files.specs.Rows.{includes};
+ghost use Rattle.vf_filestore.specs.Diagnostics.{first_row};
+ghost use Rattle.vf_filestore.specs.Units.{recovery_unit};
+ghost use Rattle.vf_locks.specs.Holders.{passed};
+ghost use Rattle.vf_locks.specs.Table.{IsWith, held};
+ghost use Rattle.vf_locks.specs.declared.holder.Holder.TheVariants as holders;
+ghost use Rattle.vf_party.specs.Recoveries.{TakesUp, attribute_part as attribute_meant, changed_row_in, content_part as content_meant, docket_row, is_idle as idle_meant, is_numbered_in, may_pass as may_pass_meant, open_by, opened_in as opened_meant, refusal_in, rows_of, selection_in as selection_meant};
+ghost use Rattle.vf_party.specs.Represents.{IsOpen};
+ghost use Rattle.vf_pdu.specs.declared.pdu.Pdu.TheVariants.{RecoverRequest};
+ghost use Rattle.vf_tables.specs.declared.docket.Direction.TheVariants.{Idle};
+
+use crate::states::OpenRegime;
+use crate::step::one_said;
+use crate::{Associated, Open, Said, Selected, Step};
+use std::alloc::Global;
+use vf_base::{Controls, Diagnostic, Moment, Name, NoMemory, copy_option};
+use vf_files::plain;
+use vf_locks::{Holder, Locks};
+use vf_pdu::Pdu;
+use vf_pdu_fields::{AttributeControls, ContentControls};
+use vf_regime_effects::selected;
+use vf_regime_refusals::{Association, Selection};
+use vf_tables::{Changes, Direction, Docket, Files, Regime, Tables};
+
+/// The unit of recovery.
+const RECOVERY_UNIT: u16 = 128;
+
+const DOCKET_UNKNOWN: u16 = 27;
+
+const WRONG_TRANSFER: u16 = 29;
+
+const UNIT_NOT_AGREED: u16 = 33;
+
+const FILE_CHANGED: u16 = 34;
+
+impl Associated {
+    /// Takes up a docket in which no transfer is under way: its open stands again.
+    fn take_up_open(
+        self,
+        alloc: Global,
+        activity: u32,
+        number: u32,
+        point: u32,
+        docket: &Docket,
+        moment: Moment,
+        serial: u32,
+        token: bool,
+        sync: bool,
+        tables: &Tables,
+        locks: &mut Locks,
+    ) -> Result<Step<Open>, Associated>
+        requires { docket.now.regime.direction ≡ Idle }
+        ensures consequence { TakesUp IsOpen tables.now locks.old locks.new self (record { moment = moment; serial = serial; token = token; sync = sync }) activity number (messages.Pdu (RecoverRequest activity number point)) docket.now result }
+        ensures kept { IfErr result (λ back. back ≡ self) }
+    {
+        let answer = Pdu::RecoverResponse {
+            diagnostic: None,
+            number: Some(docket.regime.number),
+            point: 0,
+            moving: false,
+            last: docket.regime.last,
+        };
+        let Ok(said) = one_said(alloc, Said::Pdu(answer)) else {
+            return Err(self);
+        };
+        let Ok(holder) = holder_of(alloc, &self.association.identity, activity) else {
+            return Err(self);
+        };
+        let link = self.association.link;
+        let open = reopened(alloc, self, &docket.regime)?;
+        take_hold(&docket.regime.file, &holder, link, locks);
+        Ok(Step {
+            state: open,
+            said,
+            changes: Changes::new(alloc),
+        })
+    }
+}
+
+/// The holder of a docket's file.
+fn holder_of(alloc: Global, identity: &Name, activity: u32) -> Result<Holder, NoMemory>
+    ensures { IfOk result (λ holder. holder ≡ holders.Docket identity.now activity) }
+{
+    let identity = identity.copy(alloc)?;
+    Ok(Holder::Docket { identity, activity })
+}
+
+/// The docket of this activity, by its holder; `None` exactly where there is none, also where its open stands.
+fn docket_in<'t>(
+    tables: &'t Tables,
+    locks: &Locks,
+    identity: &Name,
+    activity: u32,
+    holder: &Holder,
+) -> Option<&'t Docket>
+    requires { holder.now ≡ holders.Docket identity.now activity }
+    ensures { option_copied result ≡ docket_row tables.now locks.now identity.now activity }
+{
+    let docket = tables.docket(identity, activity)?;
+    if locks.controls(&docket.regime.file, holder).is_none() {
+        return None;
+    }
+    Some(docket)
+}
+
+/// What refuses a recovery (ISO 8571-3, F-RECOVER): 33 without the unit of recovery, 27 where there is no docket, 29
+/// where the number isn't that of its transfer, and 34 where the file of a read isn't as it was.
+fn refused_recover(
+    files: &Files,
+    units: u16,
+    found: Option<&Docket>,
+    number: u32,
+) -> Option<Diagnostic>
+    ensures { result ≡ refusal_in files.now units (option_copied found.entry) number }
+{
+    if !has_recovery(units) {
+        return refused(UNIT_NOT_AGREED);
+    }
+    let Some(docket) = found else {
+        return refused(DOCKET_UNKNOWN);
+    };
+    refused_docket(files, &docket.regime, number)
+}
+
+fn refused_docket(files: &Files, regime: &Regime, number: u32) -> Option<Diagnostic>
+    ensures { result ≡ first_row (rows_of files.now regime.now number) }
+{
+    if !is_numbered(regime, number) {
+        return refused(WRONG_TRANSFER);
+    }
+    refused_change(files, regime)
+}
+
+fn has_recovery(units: u16) -> bool
+    ensures { result ≡ includes units recovery_unit }
+{
+    RECOVERY_UNIT & units == RECOVERY_UNIT
+}
+
+fn refused(number: u16) -> Option<Diagnostic>
+    ensures { result ≡ Some (plain_meant number) }
+{
+    Some(plain(number))
+}
+
+/// Whether this is the number of the transfer under way, or with none under way that of the next or of the last.
+fn is_numbered(regime: &Regime, number: u32) -> bool
+    ensures { result ≡ is_numbered_in regime.now number }
+{
+    number == regime.number
+        || is_idle(regime.direction) && number == regime.number.saturating_sub(1)
+}
+
+fn is_idle(direction: Direction) -> bool
+    ensures { result ≡ idle_meant direction }
+{
+    match direction {
+        Direction::Idle => true,
+        Direction::Read { .. } => false,
+        Direction::Write { .. } => false,
+    }
+}
+
+/// A read goes on only in the file as it was: the diagnostic tells the version at its request and that of now.
+fn refused_change(files: &Files, regime: &Regime) -> Option<Diagnostic>
+    ensures { result ≡ changed_row_in files.now regime.now }
+{
+    let Direction::Read { .. } = regime.direction else {
+        return None;
+    };
+    let version = match selected(files, &regime.file) {
+        Some(file) => file.version,
+        None => 0,
+    };
+    if regime.version == version {
+        return None;
+    }
+    Some(Diagnostic {
+        number: FILE_CHANGED,
+        first: i64::from(regime.version),
+        second: i64::from(version),
+    })
+}
+
+/// The open of a docket, of this party; without memory the party is given back.
+fn reopened(alloc: Global, associated: Associated, regime: &Regime) -> Result<Open, Associated>
+    ensures ok { IfOk result (λ made. made ≡ open_by associated regime.now) }
+    ensures err { IfErr result (λ back. back ≡ associated) }
+{
+    let Ok(selection) = selection_in(alloc, regime) else {
+        return Err(associated);
+    };
+    Ok(Open {
+        selected: Selected {
+            associated,
+            selection,
+        },
+        regime: opened_in(regime),
+    })
+}
+
+fn selection_in(alloc: Global, regime: &Regime) -> Result<Selection, NoMemory>
+    ensures { IfOk result (λ selection. selection ≡ selection_meant regime.now) }
+{
+    let file = regime.file.copy(alloc)?;
+    let password = copy_option(alloc, &regime.password)?;
+    Ok(Selection {
+        file,
+        requested: regime.requested,
+        controls: attribute_part(regime.controls),
+        password,
+    })
+}
+
+fn opened_in(regime: &Regime) -> OpenRegime
+    ensures { result ≡ opened_meant regime.now }
+{
+    OpenRegime {
+        mode: regime.mode,
+        controls: content_part(regime.controls),
+        activity: Some(regime.activity),
+        position: regime.position,
+        done: regime.number.saturating_sub(1),
+        last: regime.last,
+    }
+}
+
+/// The controls of a selection among those of its open.
+fn attribute_part(controls: Controls) -> AttributeControls
+    ensures { result ≡ attribute_meant controls.each }
+{
+    let [_, _, _, _, _, read_attribute, change_attribute, delete] = controls.each;
+    AttributeControls {
+        read_attribute,
+        change_attribute,
+        delete,
+    }
+}
+
+/// The controls of an open without those of its selection.
+fn content_part(controls: Controls) -> ContentControls
+    ensures { result ≡ content_meant controls.each }
+{
+    let [read, insert, replace, extend, erase, _, _, _] = controls.each;
+    ContentControls {
+        read,
+        insert,
+        replace,
+        extend,
+        erase,
+    }
+}
+
+/// The party of the link holds the file in the place of its docket.
+fn take_hold(file: &Name, docket: &Holder, link: u32, locks: &mut Locks)
+    ensures { may_pass_meant locks.old file.now docket.now (holders.Party link) ≡ true → IsWith file.now (passed docket.now (holders.Party link) (held file.now locks.old)) locks.old locks.new }
+{
+    let party = Holder::Party { link };
+    if may_pass(locks, file, docket, &party) {
+        locks.pass(file, docket, party);
+    }
+}
+
+/// Whether one holder stands on the file whose place the other, who doesn't, may take.
+fn may_pass(locks: &Locks, file: &Name, from: &Holder, to: &Holder) -> bool
+    ensures { result ≡ may_pass_meant locks.now file.now from.now to.now }
+{
+    locks.controls(file, from).is_some() && locks.controls(file, to).is_none()
+}
