@@ -1,6 +1,16 @@
+pub mod Answers
 pub mod Creations
 pub mod Dockets
+pub mod Erasures
 pub mod Files
+pub mod Items
+pub mod Leaving
+pub mod Locations
+pub mod Openings
+pub mod Quiets
 pub mod Recoveries
+pub mod Renames
 pub mod Represents
+pub mod Settings
 pub mod Steps
+pub mod Writes

@@ -4,17 +4,33 @@
 
 mod associated;
 mod attributes;
+mod changing;
+mod checking;
 mod creating;
 mod deleting;
 mod dockets;
+mod ending;
+mod erasing;
 mod files;
 mod idle;
+mod items;
+mod leaving;
+mod locating;
+mod opening;
+mod positions;
+mod quiet;
+mod received;
 mod recovering;
 mod selected;
+mod setting;
 mod states;
 mod step;
+mod writing;
 
 pub use idle::Idle;
+pub use quiet::Quiet;
+pub use setting::Setting;
 pub use states::{Associated, Open, Selected};
 pub use step::{Step, StepError};
 pub use vf_elements::{Message, Said};
+pub use writing::Writing;

@@ -1,4 +1,4 @@
-ghost use Rattle.std.specs.Prelude.{◌≡◌, [], ◌∷◌, IfOk};
+ghost use Rattle.std.specs.Prelude.{◌≡◌, [], ◌∷◌, ◌++◌, IfOk};
 
 use std::alloc::Global;
 use vf_base::{Diagnostic, NoMemory};
@@ -38,4 +38,15 @@ pub(crate) fn one_change(alloc: Global, change: Change) -> Result<Changes, NoMem
     let mut list = Changes::new(alloc);
     list.push(change)?;
     Ok(list)
+}
+
+/// These changes one after the other.
+pub(crate) fn followed_by(changes: Changes, later: Changes) -> Result<Changes, NoMemory>
+    ensures { IfOk result (λ all. all ≡ changes ++ later) }
+{
+    let mut all = changes;
+    for change in later.into_vec() {
+        all.push(change)?;
+    }
+    Ok(all)
 }

@@ -5,21 +5,21 @@ use std::alloc::Global;
 use std::test::Fail;
 use vf_base::{Actions, BaseError, Contents, Moment, Name, Oid, Sequence};
 use vf_locks::Locks;
-use vf_party::{Associated, Idle, Selected, Step};
+use vf_party::{Associated, Idle, Open, Selected, Step};
 use vf_pdu::Pdu;
 use vf_tables::{Change, Changes, Tables};
 
-/// An association with limited file management.
+/// An association with limited and enhanced file management, and recovery.
 fn associated(alloc: Global, locks: &mut Locks) -> Result<Step<Associated>, Fail> {
     let request = Pdu::InitializeRequest {
-        units: 15,
+        units: 159,
         identity: None,
         password: None,
         window: 1,
     };
     let moment = Moment::of(7)?;
     let tables = Tables::new(alloc);
-    let answer = Idle::new(1).initialize(alloc, request, moment, 1, false, false, &tables, locks);
+    let answer = Idle::new(1).initialize(alloc, request, moment, 1, false, true, &tables, locks);
     match answer {
         Ok(step) => Ok(step),
         Err(_) => Err(Fail::from("no association")),
@@ -51,7 +51,7 @@ fn create_request(alloc: Global) -> Result<Pdu, BaseError>
 }
 
 /// What the creation of `a` in an empty filestore leaves.
-fn created(alloc: Global, locks: &mut Locks) -> Result<Step<Selected>, Fail> {
+pub(crate) fn created(alloc: Global, locks: &mut Locks) -> Result<Step<Selected>, Fail> {
     let associated = associated(alloc, locks)?.state;
     let request = create_request(alloc)?;
     let moment = Moment::of(7)?;
@@ -165,7 +165,7 @@ fn deleted(
 }
 
 /// Tables with the file `a` alone.
-fn tables(alloc: Global) -> Result<Tables, Fail> {
+pub(crate) fn tables(alloc: Global) -> Result<Tables, Fail> {
     let mut locks = Locks::new(alloc);
     let changes = created(alloc, &mut locks)?.changes;
     tables_with(alloc, changes)
@@ -202,5 +202,60 @@ fn a_file_is_selected_and_deleted(rt: HostRuntime) -> Result<(), Fail> {
     let mut locks = Locks::new(alloc);
     assert!(rt; selected_and_deleted(alloc, &tables, &mut locks)? == 1);
     assert!(rt; holders(alloc, &locks)? == 0);
+    Ok(())
+}
+
+/// What a recoverable open of `a` for reading leaves.
+fn opened(
+    alloc: Global,
+    selected: Selected,
+    tables: &Tables,
+    locks: &mut Locks,
+) -> Result<Step<Open>, Fail> {
+    let request = Pdu::OpenRequest {
+        mode: 1,
+        contents: None,
+        controls: None,
+        activity: Some(5),
+    };
+    let moment = Moment::of(7)?;
+    match selected.open(alloc, request, moment, 1, false, true, tables, locks) {
+        Ok(step) => Ok(step),
+        Err(_) => Err(Fail::from("no open")),
+    }
+}
+
+/// How many changes the end of an open makes.
+fn closed(alloc: Global, regimes: Open, tables: &Tables, locks: &mut Locks) -> Result<usize, Fail> {
+    let moment = Moment::of(7)?;
+    let request = Pdu::CloseRequest;
+    match regimes.close(alloc, request, moment, 1, false, true, tables, locks) {
+        Ok(step) => Ok(step.changes.len()),
+        Err(_) => Err(Fail::from("no end of an open")),
+    }
+}
+
+/// How many changes a recoverable open of a new file makes, and its end.
+fn opened_and_closed(
+    alloc: Global,
+    tables: &mut Tables,
+    locks: &mut Locks,
+) -> Result<(usize, usize), Fail> {
+    let state = created(alloc, locks)?.state;
+    let step = opened(alloc, state, tables, locks)?;
+    tables.apply(alloc, step.changes.as_slice())?;
+    let count = step.changes.len();
+    let last = closed(alloc, step.state, tables, locks)?;
+    Ok((count, last))
+}
+
+#[test]
+fn a_file_is_opened_and_closed(rt: HostRuntime) -> Result<(), Fail> {
+    let alloc = rt.alloc();
+    let mut tables = tables(alloc)?;
+    let mut locks = Locks::new(alloc);
+    let (count, last) = opened_and_closed(alloc, &mut tables, &mut locks)?;
+    assert!(rt; count == 1 && last == 1 && tables.dockets.len() == 1);
+    assert!(rt; holders(alloc, &locks)? == 1);
     Ok(())
 }

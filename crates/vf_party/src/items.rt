@@ -1,0 +1,165 @@
+//! Requests that may be items of a group (ISO 8571-3, grouping), each in the regime that takes it.
+ghost use Rattle.std.specs.Prelude.{◌≡◌, IfErr, true};
+ghost use Rattle.vf_elements.specs.Stages.{takes};
+ghost use Rattle.vf_elements.specs.declared.message.Message.TheVariants as messages;
+ghost use Rattle.vf_elements.specs.declared.stage.Stage.TheVariants as stages;
+ghost use Rattle.vf_party.specs.Items.{is_item as is_item_meant};
+ghost use Rattle.vf_party.specs.Quiets.{IsQuiet, stage_of};
+ghost use Rattle.vf_party.specs.Settings.{setting_of};
+ghost use Rattle.vf_party.specs.Steps.{IsStep};
+ghost use Rattle.vf_party.specs.declared.quiet.Quiet.TheVariants as quiets;
+
+use crate::quiet::quieted;
+use crate::{Associated, Open, Quiet, Selected, Setting, Step, StepError};
+use std::alloc::Global;
+use vf_locks::Locks;
+use vf_pdu::Pdu;
+use vf_tables::Tables;
+
+/// Whether a request may be an item of a group.
+pub(crate) fn is_item(request: &Pdu) -> bool
+    ensures { result ≡ is_item_meant request.now }
+{
+    matches!(request.number(), 6 | 8 | 10 | 12 | 14 | 16 | 18 | 20)
+}
+
+/// Takes a request that may be an item and that its regime takes.
+pub(crate) fn take_item(
+    quiet: Quiet,
+    alloc: Global,
+    request: Pdu,
+    setting: Setting,
+    tables: &Tables,
+    locks: &mut Locks,
+) -> Result<Step<Quiet>, (Quiet, StepError)>
+    requires item { is_item_meant request ≡ true }
+    requires taken { takes (stage_of quiet) (messages.Pdu request) ≡ true }
+    ensures consequence { IsStep IsQuiet IsQuiet tables.now locks.old locks.new quiet (setting_of setting) (messages.Pdu request) result }
+    ensures kept { IfErr result (λ back. back.0 ≡ quiet) }
+{
+    match quiet {
+        Quiet::Associated(associated) => {
+            return take_associated(associated, alloc, request, setting, tables, locks);
+        }
+        Quiet::Selected(selected) => {
+            return take_selected(selected, alloc, request, setting, tables, locks);
+        }
+        Quiet::Open(regimes) => return take_open(regimes, alloc, request, setting, tables, locks),
+    }
+}
+
+fn take_associated(
+    associated: Associated,
+    alloc: Global,
+    request: Pdu,
+    setting: Setting,
+    tables: &Tables,
+    locks: &mut Locks,
+) -> Result<Step<Quiet>, (Quiet, StepError)>
+    requires item { is_item_meant request ≡ true }
+    requires taken { takes stages.Associated (messages.Pdu request) ≡ true }
+    ensures consequence { IsStep IsQuiet IsQuiet tables.now locks.old locks.new (quiets.Associated associated) (setting_of setting) (messages.Pdu request) result }
+    ensures kept { IfErr result (λ back. back.0 ≡ quiets.Associated associated) }
+{
+    let Setting {
+        moment,
+        serial,
+        token,
+        sync,
+    } = setting;
+    match request {
+        request @ Pdu::SelectRequest { .. } => {
+            let answer = associated.select(
+                alloc, request, moment, serial, token, sync, tables, locks,
+            );
+            return quieted(answer);
+        }
+        request @ Pdu::CreateRequest { .. } => {
+            let answer = associated.create(
+                alloc, request, moment, serial, token, sync, tables, locks,
+            );
+            return quieted(answer);
+        }
+        _ => unreachable!(),
+    }
+}
+
+fn take_selected(
+    selected: Selected,
+    alloc: Global,
+    request: Pdu,
+    setting: Setting,
+    tables: &Tables,
+    locks: &mut Locks,
+) -> Result<Step<Quiet>, (Quiet, StepError)>
+    requires item { is_item_meant request ≡ true }
+    requires taken { takes stages.Selected (messages.Pdu request) ≡ true }
+    ensures consequence { IsStep IsQuiet IsQuiet tables.now locks.old locks.new (quiets.Selected selected) (setting_of setting) (messages.Pdu request) result }
+    ensures kept { IfErr result (λ back. back.0 ≡ quiets.Selected selected) }
+{
+    let Setting {
+        moment,
+        serial,
+        token,
+        sync,
+    } = setting;
+    match request {
+        request @ Pdu::DeselectRequest => {
+            let answer = selected.deselect(
+                alloc, request, moment, serial, token, sync, tables, locks,
+            );
+            return quieted(answer);
+        }
+        request @ Pdu::DeleteRequest => {
+            let answer = selected.delete(
+                alloc, request, moment, serial, token, sync, tables, locks,
+            );
+            return quieted(answer);
+        }
+        request @ Pdu::ReadAttribRequest { .. } => {
+            let answer = selected.read_attrib(
+                alloc, request, moment, serial, token, sync, tables, locks,
+            );
+            return quieted(answer);
+        }
+        request @ Pdu::ChangeAttribRequest { .. } => {
+            let answer = selected.change_attrib(
+                alloc, request, moment, serial, token, sync, tables, locks,
+            );
+            return quieted(answer);
+        }
+        request @ Pdu::OpenRequest { .. } => {
+            let answer = selected.open(alloc, request, moment, serial, token, sync, tables, locks);
+            return quieted(answer);
+        }
+        _ => unreachable!(),
+    }
+}
+
+fn take_open(
+    regimes: Open,
+    alloc: Global,
+    request: Pdu,
+    setting: Setting,
+    tables: &Tables,
+    locks: &mut Locks,
+) -> Result<Step<Quiet>, (Quiet, StepError)>
+    requires item { is_item_meant request ≡ true }
+    requires taken { takes stages.Opened (messages.Pdu request) ≡ true }
+    ensures consequence { IsStep IsQuiet IsQuiet tables.now locks.old locks.new (quiets.Open regimes) (setting_of setting) (messages.Pdu request) result }
+    ensures kept { IfErr result (λ back. back.0 ≡ quiets.Open regimes) }
+{
+    let Setting {
+        moment,
+        serial,
+        token,
+        sync,
+    } = setting;
+    match request {
+        request @ Pdu::CloseRequest => {
+            let answer = regimes.close(alloc, request, moment, serial, token, sync, tables, locks);
+            return quieted(answer);
+        }
+        _ => unreachable!(),
+    }
+}
