@@ -5,6 +5,7 @@ pub mod Concluding
 pub mod Creations
 pub mod Departures
 pub mod DocketChanges
+pub mod Dues
 pub mod Erasures
 pub mod FileChanges
 pub mod FoundDockets
@@ -14,6 +15,7 @@ pub mod Locations
 pub mod OpenRows
 pub mod Opens
 pub mod OwnDockets
+pub mod ReadsOn
 pub mod Renames
 pub mod Requests
 pub mod Restarts

@@ -1,6 +1,7 @@
 pub mod Answers
 pub mod Creations
 pub mod Dockets
+pub mod Dues
 pub mod Erasures
 pub mod Files
 pub mod Items
@@ -8,7 +9,9 @@ pub mod Leaving
 pub mod Locations
 pub mod Openings
 pub mod Quiets
+pub mod Reads
 pub mod Recoveries
+pub mod Regimes
 pub mod Renames
 pub mod Represents
 pub mod Settings
