@@ -2,6 +2,7 @@ pub mod Activities
 pub mod Answering
 pub mod Closes
 pub mod Concluding
+pub mod CutDockets
 pub mod Creations
 pub mod Departures
 pub mod DocketChanges
@@ -16,6 +17,7 @@ pub mod OpenRows
 pub mod Opens
 pub mod OwnDockets
 pub mod ReadsOn
+pub mod Refilled
 pub mod Renames
 pub mod Requests
 pub mod Restarts
@@ -25,6 +27,7 @@ pub mod Rows
 pub mod TakenDockets
 pub mod TakenOpen
 pub mod TakenUp
+pub mod TakenWrite
 pub mod WriteDockets
 pub mod WriteEndings
 pub mod Writes

@@ -1,7 +1,8 @@
 -- What a recovery finds of a docket in what code keeps, and how its open stands again (ISO 8571-3, F-RECOVER; profile).
-use Rattle.std.specs.Prelude.{◌≡◌, ℕ, ◌-◌, Bool, true, false, not, ◌&&◌, ◌||◌, List, [], ◌∷◌, Option, None, Some, is_none, is_some, Result, Ok, Err, if◌then◌else◌, nat_eq}
+use Rattle.std.specs.Prelude.{◌≡◌, ℕ, ◌-◌, Bool, true, false, not, ◌&&◌, ◌||◌, List, [], ◌∷◌, Option, None, Some, is_none, is_some, length, Result, Ok, Err, if◌then◌else◌, nat_eq, nat_lt}
 use Rattle.vf_attr.specs.declared.file.File.{File}
 use Rattle.vf_base.specs.declared.action.Control.{Control}
+use Rattle.vf_base.specs.declared.element.Element.{Element}
 use Rattle.vf_elements.specs.Stages.{takes}
 use Rattle.vf_elements.specs.declared.message.Message.{Message}
 use Rattle.vf_files.specs.Files.{file_named}
@@ -9,6 +10,7 @@ use Rattle.vf_files.specs.Rows.{unit_row}
 use Rattle.vf_filestore.specs.Aborts.{Setting}
 use Rattle.vf_filestore.specs.Controls.{not_opened, attribute_controls}
 use Rattle.vf_filestore.specs.Diagnostics.{Row, row, first_row, docket_unknown, wrong_transfer}
+use Rattle.vf_filestore.specs.Keeping.{AreHistoriesKept}
 use Rattle.vf_filestore.specs.Recovering.{version_of, version_row}
 use Rattle.vf_filestore.specs.Stage.{regime_stage}
 use Rattle.vf_filestore.specs.State.{State, StandingParty}
@@ -25,13 +27,23 @@ use Rattle.vf_party.specs.declared.states.OpenRegime.{OpenRegime}
 use Rattle.vf_party.specs.declared.step.Step.{Step}
 use Rattle.vf_pdu_fields.specs.declared.controls.AttributeControls.{AttributeControls}
 use Rattle.vf_pdu_fields.specs.declared.controls.ContentControls.{ContentControls}
+use Rattle.vf_pdu_fields.specs.declared.operation.WriteOperation.{WriteOperation}
+use Rattle.vf_pdu_fields.specs.declared.operation.WriteOperation.TheVariants as writes
+use Rattle.vf_regime_effects.specs.declared.requests.Writing as requests
+use Rattle.vf_regime_effects.specs.declared.requests.Writing.TheVariants as requested
 use Rattle.vf_regime_refusals.specs.declared.association.Selection.{Selection}
 use Rattle.vf_tables.specs.Entries.{docket_of}
+use Rattle.vf_tables.specs.declared.change.Change.{Change}
+use Rattle.vf_tables.specs.declared.change.Change.TheVariants.{CutStage, PutDocket}
 use Rattle.vf_tables.specs.declared.docket.Direction.{Direction}
 use Rattle.vf_tables.specs.declared.docket.Direction.TheVariants.{Idle, Read, Write}
 use Rattle.vf_tables.specs.declared.docket.Docket.{Docket}
+use Rattle.vf_tables.specs.declared.docket.Operation.{Operation}
+use Rattle.vf_tables.specs.declared.docket.Operation.TheVariants as operations
 use Rattle.vf_tables.specs.declared.docket.Regime.{Regime}
 use Rattle.vf_tables.specs.declared.tables.Tables.{Tables}
+use Rattle.vf_transfer.specs.Checks.{Receiver, RepresentsReceived}
+use Rattle.vf_transfer.specs.Transfer.{Entry, point, standing}
 
 -- THE ROW. Tables have one of each docket and of each recoverable open that stands: a docket holds its file itself.
 abbrev pub row_held : HoldersOfFiles → (identity : List ℕ) (activity : ℕ) → Option Docket → Option Docket
@@ -121,6 +133,38 @@ abbrev pub TakesUp : {New : Type 0} → Represents New → Tables → (before af
 TakesUp after tables old new self setting activity number message docket result =
     (state : State) (party : StandingParty) → StandsIn tables old state party → IsAssociated self party.link party.history
     → takes (regime_stage party.history) message ≡ true
+    → docket_row tables old self.association.identity activity ≡ Some docket
+    → refusal_in tables.files self.association.units (Some docket) number ≡ None
+    → MeetsTaken after tables old new state party setting message result
+
+-- WHAT A WRITE HAS RECEIVED once these pieces are taken again, a check after each, and these values after the last
+pub record IsFilled (received : Receiver) (pieces : List (List Element)) (after : List Element) : Type 0 where
+  pub entries : List Entry
+  pub represents : RepresentsReceived received entries
+  pub stand : standing 0 entries ≡ record { closed = pieces; after = after }
+  pub pointed : point 0 entries ≡ length pieces
+  pub counted : received.checks.start ≡ 0
+
+-- the changes of a docket whose write goes on after this check
+abbrev pub cut_to : Regime → (check : ℕ) → List Change
+cut_to regime check =
+    if nat_lt check regime.point then PutDocket (record regime { point = check }) ∷ CutStage regime.identity regime.activity check ∷ [] else []
+
+abbrev pub write_by : Operation → WriteOperation
+write_by operations.Insert = writes.Insert
+write_by operations.Replace = writes.Replace
+write_by operations.Extend = writes.Extend
+
+-- what its request was given, but for the file's version
+abbrev pub given_by : (refused : ℕ) → requests.Writing
+given_by refused = if nat_eq refused 0 then requested.Granted else requested.Refused 0 refused
+
+-- of a state whose histories are such as a run has
+abbrev pub TakesUpKept : {New : Type 0} → Represents New → Tables → (before after : HoldersOfFiles)
+    → Associated → Setting → (activity number : ℕ) → Message → Docket → Result (Step New) Associated → Type 0
+TakesUpKept after tables old new self setting activity number message docket result =
+    (state : State) (party : StandingParty) → StandsIn tables old state party → AreHistoriesKept state
+    → IsAssociated self party.link party.history → takes (regime_stage party.history) message ≡ true
     → docket_row tables old self.association.identity activity ≡ Some docket
     → refusal_in tables.files self.association.units (Some docket) number ≡ None
     → MeetsTaken after tables old new state party setting message result

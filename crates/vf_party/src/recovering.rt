@@ -1,5 +1,6 @@
 //! A party that takes up again what a docket retains (ISO 8571-3, F-RECOVER; which dockets it may is profile).
-ghost use Rattle.std.specs.Prelude.{◌≡◌, IfErr, IfOk, Some, true, option_copied};
+ghost use Rattle.std.specs.Prelude.{◌≡◌, ◌++◌, ◌∷◌, [], List, IfErr, IfOk, OnOk, Some, take, true, option_copied};
+ghost use Rattle.vf_base.specs.declared.element.Element.{Element as Of};
 ghost use Rattle.vf_elements.specs.declared.message.Message.TheVariants as messages;
 ghost use Rattle.vf_files.specs.Diagnostics.{plain as plain_meant};
 ghost use Rattle.vf_files.specs.Rows.{includes};
@@ -8,23 +9,25 @@ ghost use Rattle.vf_filestore.specs.Units.{recovery_unit};
 ghost use Rattle.vf_locks.specs.Holders.{passed};
 ghost use Rattle.vf_locks.specs.Table.{IsWith, held};
 ghost use Rattle.vf_locks.specs.declared.holder.Holder.TheVariants as holders;
-ghost use Rattle.vf_party.specs.Recoveries.{TakesUp, attribute_part as attribute_meant, changed_row_in, content_part as content_meant, docket_row, is_idle as idle_meant, is_numbered_in, may_pass as may_pass_meant, open_by, opened_in as opened_meant, refusal_in, rows_of, selection_in as selection_meant};
+ghost use Rattle.vf_party.specs.Recoveries.{IsFilled, TakesUp, TakesUpKept, attribute_part as attribute_meant, changed_row_in, content_part as content_meant, cut_to as cut_to_meant, docket_row, given_by as given_by_meant, is_idle as idle_meant, is_numbered_in, may_pass as may_pass_meant, open_by, opened_in as opened_meant, refusal_in, rows_of, selection_in as selection_meant, write_by as write_by_meant};
 ghost use Rattle.vf_party.specs.Represents.{IsOpen};
+ghost use Rattle.vf_party.specs.Writes.{IsWriting};
 ghost use Rattle.vf_pdu.specs.declared.pdu.Pdu.TheVariants.{RecoverRequest};
-ghost use Rattle.vf_tables.specs.declared.docket.Direction.TheVariants.{Idle};
+ghost use Rattle.vf_tables.specs.declared.docket.Direction.TheVariants.{Idle, Write};
 
 use crate::states::OpenRegime;
-use crate::step::one_said;
-use crate::{Associated, Open, Said, Selected, Step};
+use crate::received::Received;
+use crate::step::{one_change, one_said};
+use crate::{Associated, Open, Said, Selected, Step, Writing};
 use std::alloc::Global;
-use vf_base::{Controls, Diagnostic, Moment, Name, NoMemory, copy_option};
+use vf_base::{Controls, Diagnostic, Element, Elements, Moment, Name, NoMemory, copy_option};
 use vf_files::plain;
 use vf_locks::{Holder, Locks};
 use vf_pdu::Pdu;
-use vf_pdu_fields::{AttributeControls, ContentControls};
+use vf_pdu_fields::{AttributeControls, ContentControls, WriteOperation};
 use vf_regime_effects::selected;
 use vf_regime_refusals::{Association, Selection};
-use vf_tables::{Changes, Direction, Docket, Files, Regime, Tables};
+use vf_tables::{Change, Changes, Direction, Docket, Files, Operation, Pieces, Regime, Tables};
 
 /// The unit of recovery.
 const RECOVERY_UNIT: u16 = 128;
@@ -79,6 +82,144 @@ impl Associated {
             changes: Changes::new(alloc),
         })
     }
+}
+
+impl Associated {
+    /// Takes up a docket in which a write is under way: it goes on after the smaller of the point that is asked for and
+    /// that of the docket, whose pieces before it are its values.
+    fn take_up_write(
+        self,
+        alloc: Global,
+        activity: u32,
+        number: u32,
+        point: u32,
+        docket: &Docket,
+        operation: Operation,
+        moment: Moment,
+        serial: u32,
+        token: bool,
+        sync: bool,
+        tables: &Tables,
+        locks: &mut Locks,
+    ) -> Result<Step<Writing>, Associated>
+        requires { docket.now.regime.direction ≡ Write operation }
+        ensures consequence { TakesUpKept IsWriting tables.now locks.old locks.new self (record { moment = moment; serial = serial; token = token; sync = sync }) activity number (messages.Pdu (RecoverRequest activity number point)) docket.now result }
+        ensures kept { IfErr result (λ back. back ≡ self) }
+    {
+        let check = point.min(docket.regime.point);
+        let answer = Pdu::RecoverResponse {
+            diagnostic: None,
+            number: Some(docket.regime.number),
+            point: check,
+            moving: true,
+            last: 0,
+        };
+        let Ok(said) = one_said(alloc, Said::Pdu(answer)) else {
+            return Err(self);
+        };
+        let Ok(holder) = holder_of(alloc, &self.association.identity, activity) else {
+            return Err(self);
+        };
+        let Ok(received) = refilled(alloc, first_pieces(&docket.staged, check)) else {
+            return Err(self);
+        };
+        let Ok(changes) = cut_to(alloc, &docket.regime, check) else {
+            return Err(self);
+        };
+        let link = self.association.link;
+        let regimes = reopened(alloc, self, &docket.regime)?;
+        take_hold(&docket.regime.file, &holder, link, locks);
+        let state = Writing {
+            regimes,
+            operation: write_by(operation),
+            fadu: docket.regime.fadu,
+            given: given_by(docket.regime.refused),
+            received,
+            start: check,
+            ended: None,
+        };
+        Ok(Step {
+            state,
+            said,
+            changes,
+        })
+    }
+}
+
+fn write_by(operation: Operation) -> WriteOperation
+    ensures { result ≡ write_by_meant operation }
+{
+    match operation {
+        Operation::Insert => WriteOperation::Insert,
+        Operation::Replace => WriteOperation::Replace,
+        Operation::Extend => WriteOperation::Extend,
+    }
+}
+
+/// What the request of a write was given, by the number of the diagnostic that refuses it or 0; a docket doesn't keep the
+/// file's version then, and nothing looks at it.
+fn given_by(refused: u16) -> vf_regime_effects::Writing
+    ensures { result ≡ given_by_meant refused }
+{
+    if refused == 0 {
+        return vf_regime_effects::Writing::Granted;
+    }
+    vf_regime_effects::Writing::Refused {
+        version: 0,
+        number: refused,
+    }
+}
+
+/// The pieces before this check.
+fn first_pieces(pieces: &Pieces, check: u32) -> &[Elements]
+    ensures { result.now ≡ take check pieces.now }
+{
+    let pieces = pieces.as_slice();
+    let (first, _) = pieces.split_at((check as usize).min(pieces.len()));
+    first
+}
+
+/// What a write has received that takes these pieces again, a check after each.
+fn refilled(alloc: Global, pieces: &[Elements]) -> Result<Received, NoMemory>
+    ensures { IfOk result (λ received. IsFilled received pieces.now []) }
+{
+    let mut received = Received::new(alloc);
+    for piece in pieces {
+        take_piece(alloc, &mut received, piece.as_slice())?;
+    }
+    Ok(received)
+}
+
+/// Takes the values of a piece, and a check after them.
+fn take_piece(alloc: Global, received: &mut Received, piece: &[Element]) -> Result<(), NoMemory>
+    ensures { OnOk result ((pieces : List (List Of)) → IsFilled received.old pieces [] → IsFilled received.new (pieces ++ piece.now ∷ []) []) }
+{
+    for element in piece {
+        let value = element.copy(alloc)?;
+        received.value(value)?;
+    }
+    received.check()?;
+    Ok(())
+}
+
+/// The changes of a docket whose write goes on after this check.
+fn cut_to(alloc: Global, regime: &Regime, check: u32) -> Result<Changes, NoMemory>
+    ensures { IfOk result (λ changes. changes ≡ cut_to_meant regime.now check) }
+{
+    if check >= regime.point {
+        return Ok(Changes::new(alloc));
+    }
+    let identity = regime.identity.copy(alloc)?;
+    let mut fields = regime.copy(alloc)?;
+    fields.point = check;
+    let mut changes = one_change(alloc, Change::PutDocket { regime: fields })?;
+    let cut = Change::CutStage {
+        identity,
+        activity: regime.activity,
+        point: check,
+    };
+    changes.push(cut)?;
+    Ok(changes)
 }
 
 /// The holder of a docket's file.
