@@ -24,8 +24,10 @@ pub mod Restarts
 pub mod ResumedAt
 pub mod Retained
 pub mod Rows
+pub mod ShownAgain
 pub mod TakenDockets
 pub mod TakenOpen
+pub mod TakenRead
 pub mod TakenUp
 pub mod TakenWrite
 pub mod WriteDockets

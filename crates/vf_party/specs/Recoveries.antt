@@ -1,6 +1,9 @@
 -- What a recovery finds of a docket in what code keeps, and how its open stands again (ISO 8571-3, F-RECOVER; profile).
 use Rattle.std.specs.Prelude.{◌≡◌, ℕ, ◌-◌, Bool, true, false, not, ◌&&◌, ◌||◌, List, [], ◌∷◌, Option, None, Some, is_none, is_some, length, Result, Ok, Err, if◌then◌else◌, nat_eq, nat_lt}
 use Rattle.vf_attr.specs.declared.file.File.{File}
+use Rattle.vf_base.specs.declared.access.Context.{Context}
+use Rattle.vf_base.specs.declared.access.FaduId.{FaduId}
+use Rattle.vf_base.specs.declared.access.FaduId.TheVariants.{Current, Next, Previous}
 use Rattle.vf_base.specs.declared.action.Control.{Control}
 use Rattle.vf_base.specs.declared.element.Element.{Element}
 use Rattle.vf_elements.specs.Stages.{takes}
@@ -10,6 +13,7 @@ use Rattle.vf_files.specs.Rows.{unit_row}
 use Rattle.vf_filestore.specs.Aborts.{Setting}
 use Rattle.vf_filestore.specs.Controls.{not_opened, attribute_controls}
 use Rattle.vf_filestore.specs.Diagnostics.{Row, row, first_row, docket_unknown, wrong_transfer}
+use Rattle.vf_filestore.specs.History.{Given, Refused, Showed}
 use Rattle.vf_filestore.specs.Keeping.{AreHistoriesKept}
 use Rattle.vf_filestore.specs.Recovering.{version_of, version_row}
 use Rattle.vf_filestore.specs.Stage.{regime_stage}
@@ -44,6 +48,8 @@ use Rattle.vf_tables.specs.declared.docket.Regime.{Regime}
 use Rattle.vf_tables.specs.declared.tables.Tables.{Tables}
 use Rattle.vf_transfer.specs.Checks.{Receiver, RepresentsReceived}
 use Rattle.vf_transfer.specs.Transfer.{Entry, point, standing}
+use Rattle.vf_tree.specs.Acts.{Reads, does, shown_of}
+use Rattle.vf_tree.specs.TreeRefusal.{TreeRefusal}
 
 -- THE ROW. Tables have one of each docket and of each recoverable open that stands: a docket holds its file itself.
 abbrev pub row_held : HoldersOfFiles → (identity : List ℕ) (activity : ℕ) → Option Docket → Option Docket
@@ -168,3 +174,26 @@ TakesUpKept after tables old new self setting activity number message docket res
     → docket_row tables old self.association.identity activity ≡ Some docket
     → refusal_in tables.files self.association.units (Some docket) number ≡ None
     → MeetsTaken after tables old new state party setting message result
+
+-- WHAT A READ SHOWS again: from the position after it, the next unit and the one before it are the current one.
+abbrev pub again : FaduId → FaduId
+again Next = Current
+again Previous = Current
+again id = id
+
+-- the contents show it, since the file is as it was
+abbrev pub shown_as : (version : ℕ) → Result (List Element × ℕ) TreeRefusal → Given
+shown_as version (Ok answer) = Showed version answer.0 answer.1
+shown_as version (Err refusal) = Refused version 0
+
+abbrev pub shown_in : Option File → Regime → Context → Given
+shown_in None regime context = Refused regime.version 0
+shown_in (Some file) regime context = shown_as regime.version (shown_of (does file.tree regime.position (Reads (again regime.fadu) context)))
+
+-- what its request was given
+abbrev pub read_by : Option File → Regime → Context → Given
+read_by file regime context = if nat_eq regime.refused 0 then shown_in file regime context else Refused regime.version regime.refused
+
+-- the changes of a docket whose read goes on after this check
+abbrev pub put_at : Regime → (check : ℕ) → List Change
+put_at regime check = if nat_lt check regime.point then PutDocket (record regime { point = check }) ∷ [] else []
