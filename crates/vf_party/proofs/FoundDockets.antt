@@ -146,6 +146,14 @@ module _ (tables : Tables) (locks : HoldersOfFiles) (state : State) (party : Sta
         ∙ ap is_some (controls_among (Docket identity activity) (around.before one.file) (around.after one.file) (controls_in docket.history one.file) (around.are one.file)
         ∙ ap (controls_on one.file (regime docket.history)) selects ∙ on_own (regime docket.history) one)
 
+    pub row_there : IsSome (docket_row tables locks identity activity)
+    row_there =
+        let one = there (selection docket.history) docket_sound.selected in
+        let open_one = there (regime docket.history) (opened_some (regime docket.history) docket.activity docket_sound.opened) in
+        let own = row_by docket open_one.it one.it in
+        let has : HasRow docket = record { row = own; is = λ i. row_in docket (open_one.is i) (under_way docket.history) (one.is i); identity = refl; activity = refl } in
+        ap (λ (found : Option rows.Docket). is_some (row_held locks identity activity found)) (in_tables has) ∙ (λ i. is_some (cond (holds one.it one.is i) (Some own) None))
+
     pub row_some : (row : rows.Docket) → docket_row tables locks identity activity ≡ Some row → IsFound state identity activity row
     row_some row asked =
         let one = there (selection docket.history) docket_sound.selected in

@@ -17,6 +17,7 @@ pub mod OpenRows
 pub mod Opens
 pub mod OwnDockets
 pub mod ReadsOn
+pub mod Recovers
 pub mod Refilled
 pub mod Renames
 pub mod Requests

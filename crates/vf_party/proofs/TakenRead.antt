@@ -1,12 +1,11 @@
 -- A docket in which a read is under way is taken up: the read goes on after the smaller of the point that is asked for and
 -- that of the docket, in the file as it was.
-use Rattle.std.proofs.Common.{◌≡◌, ℕ, ◌+◌, ◌-◌, ◌≤◌, Bool, true, false, cond, ◌&&◌, not, nat_eq, List, [], ◌∷◌, ◌++◌, length, Option, None, Some, is_some, refl, ap, sym, subst, ◌∙◌, arith}
+use Rattle.std.proofs.Common.{◌≡◌, ℕ, ◌+◌, ◌-◌, ◌≤◌, Bool, true, false, cond, ◌&&◌, not, nat_eq, List, [], ◌∷◌, ◌++◌, Option, None, Some, is_some, refl, ap, sym, subst, ◌∙◌, arith}
 use Rattle.std.specs.Prelude.{IfSome, IsSome, min, nat_lt, pos}
 use Rattle.std.proofs.lemmas.Bool.{eqb-true, ltb-false, ltb-true}
 use Rattle.vf_attr.specs.declared.file.File.{File}
 use Rattle.vf_base.specs.declared.access.Context.{Context}
 use Rattle.vf_base.specs.declared.access.FaduId.{FaduId}
-use Rattle.vf_base.specs.declared.element.Element.{Element}
 use Rattle.vf_elements.specs.Stages.{takes}
 use Rattle.vf_elements.specs.declared.message.Message.{Message}
 use Rattle.vf_elements.specs.declared.message.Said.{Said}
@@ -15,19 +14,19 @@ use Rattle.vf_files.specs.Files.{file_named}
 use Rattle.vf_files.specs.Rows.{unit_row}
 use Rattle.vf_filestore.specs.Aborts.{Setting}
 use Rattle.vf_filestore.specs.Conclusion.{entry_of, history_of}
-use Rattle.vf_filestore.specs.Decision.{Decision, Aborts, Grants, message_decision}
+use Rattle.vf_filestore.specs.Decision.{Aborts, Grants, message_decision}
 use Rattle.vf_filestore.specs.Diagnostics.{Row, row, file_changed, first_row, wrong_state, wrong_transfer}
 use Rattle.vf_filestore.specs.History.{Entry, Given, Nothing, Made, Refused, Showed, Placed, Resumed, History, Selection, association, done, position, selection}
 use Rattle.vf_filestore.specs.Keeping.{AreHistoriesKept, AreKept, IsEarned}
 use Rattle.vf_filestore.specs.Recovering as recovering
 use Rattle.vf_filestore.specs.Recovering.{is_read, version_in, version_row}
 use Rattle.vf_filestore.specs.Replies.{recovery_of, reply}
-use Rattle.vf_filestore.specs.Sound.{IsFaithful, IsMoving, IsShownIn, IsThere, file_of}
+use Rattle.vf_filestore.specs.Sound.{IsMoving, IsShownIn, IsThere, file_of}
 use Rattle.vf_filestore.specs.Stage.{regime_stage}
 use Rattle.vf_filestore.specs.State as states
 use Rattle.vf_filestore.specs.State.{State, StandingParty, docket_of, file_in, identity_in, identity_of, is_docket_of}
 use Rattle.vf_filestore.specs.Tables.{direction_by, direction_of, fadu_of, point_of, refused_in, refused_of, regime_by, staged_of, version_of}
-use Rattle.vf_filestore.specs.Transfers.{Movement, Reads, Writes, Transfer, happened, has_data_end, last_check, point, under_way, was_shown}
+use Rattle.vf_filestore.specs.Transfers.{Movement, Reads, Writes, Transfer, happened, has_data_end, last_check, point, under_way}
 use Rattle.vf_filestore.specs.Units.{recovery_unit}
 use Rattle.vf_filestore.proofs.KeptMoves.{IsAt, IsKeptMove, moving_kept}
 use Rattle.vf_filestore.proofs.Nested.{none_some}
@@ -51,7 +50,7 @@ use Rattle.vf_party.specs.declared.step.Step.{Step}
 use Rattle.vf_party.proofs.FoundDockets.{IsFound, row_by}
 use Rattle.vf_party.proofs.Kept.{with_history}
 use Rattle.vf_party.proofs.ReadsOn.{due_is, due_then, reads_on, restarted}
-use Rattle.vf_party.proofs.Retained.{retained_secured, rows_left}
+use Rattle.vf_party.proofs.Retained.{rows_left}
 use Rattle.vf_party.proofs.Rows.{rows_opened}
 use Rattle.vf_party.proofs.ShownAgain.{shown_again}
 use Rattle.vf_party.proofs.TakenOpen.{opened_again, row_same}

@@ -8,11 +8,13 @@ use Rattle.vf_base.specs.declared.action.Control.{Control}
 use Rattle.vf_base.specs.declared.element.Element.{Element}
 use Rattle.vf_elements.specs.Stages.{takes}
 use Rattle.vf_elements.specs.declared.message.Message.{Message}
+use Rattle.vf_elements.specs.declared.message.Message.TheVariants as messages
 use Rattle.vf_files.specs.Files.{file_named}
 use Rattle.vf_files.specs.Rows.{unit_row}
 use Rattle.vf_filestore.specs.Aborts.{Setting}
 use Rattle.vf_filestore.specs.Controls.{not_opened, attribute_controls}
-use Rattle.vf_filestore.specs.Diagnostics.{Row, row, first_row, docket_unknown, wrong_transfer}
+use Rattle.vf_filestore.specs.Decision.{Aborts, message_decision}
+use Rattle.vf_filestore.specs.Diagnostics.{Row, row, first_row, docket_unknown, wrong_state, wrong_transfer}
 use Rattle.vf_filestore.specs.History.{Given, Refused, Showed}
 use Rattle.vf_filestore.specs.Keeping.{AreHistoriesKept}
 use Rattle.vf_filestore.specs.Recovering.{version_of, version_row}
@@ -23,18 +25,26 @@ use Rattle.vf_locks.specs.Holders.{controls_of}
 use Rattle.vf_locks.specs.Table.{IsAsBefore, held}
 use Rattle.vf_locks.specs.declared.holder.Holder.{Holder}
 use Rattle.vf_locks.specs.declared.holder.Holder.TheVariants as holders
-use Rattle.vf_party.specs.Represents.{IsAssociated}
-use Rattle.vf_party.specs.Steps.{Concludes, HoldersOfFiles, Represents, StandsIn}
+use Rattle.vf_party.specs.Reads.{IsReading}
+use Rattle.vf_party.specs.Represents.{IsAssociated, IsOpen}
+use Rattle.vf_party.specs.Steps.{Concludes, HoldersOfFiles, MeetsStep, Represents, StandsIn}
+use Rattle.vf_party.specs.Writes.{IsWriting}
+use Rattle.vf_party.specs.declared.recovering.Recovered.{Recovered}
+use Rattle.vf_party.specs.declared.recovering.Recovered.TheVariants as recovered
 use Rattle.vf_party.specs.declared.states.Associated.{Associated}
 use Rattle.vf_party.specs.declared.states.Open.{Open}
 use Rattle.vf_party.specs.declared.states.OpenRegime.{OpenRegime}
 use Rattle.vf_party.specs.declared.step.Step.{Step}
+use Rattle.vf_party.specs.declared.step.StepError.{StepError}
+use Rattle.vf_party.specs.declared.step.StepError.TheVariants as errors
+use Rattle.vf_pdu.specs.declared.pdu.Pdu.TheVariants.{RecoverRequest}
 use Rattle.vf_pdu_fields.specs.declared.controls.AttributeControls.{AttributeControls}
 use Rattle.vf_pdu_fields.specs.declared.controls.ContentControls.{ContentControls}
 use Rattle.vf_pdu_fields.specs.declared.operation.WriteOperation.{WriteOperation}
 use Rattle.vf_pdu_fields.specs.declared.operation.WriteOperation.TheVariants as writes
 use Rattle.vf_regime_effects.specs.declared.requests.Writing as requests
 use Rattle.vf_regime_effects.specs.declared.requests.Writing.TheVariants as requested
+use Rattle.vf_regime_refusals.specs.declared.association.Association.{Association}
 use Rattle.vf_regime_refusals.specs.declared.association.Selection.{Selection}
 use Rattle.vf_tables.specs.Entries.{docket_of}
 use Rattle.vf_tables.specs.declared.change.Change.{Change}
@@ -197,3 +207,44 @@ read_by file regime context = if nat_eq regime.refused 0 then shown_in file regi
 -- the changes of a docket whose read goes on after this check
 abbrev pub put_at : Regime → (check : ℕ) → List Change
 put_at regime check = if nat_lt check regime.point then PutDocket (record regime { point = check }) ∷ [] else []
+
+-- THE STATE that is recovered
+abbrev pub IsRecovered : Represents Recovered
+IsRecovered (recovered.Open regimes) link history = IsOpen regimes link history
+IsRecovered (recovered.Reading reading) link history = IsReading reading link history
+IsRecovered (recovered.Writing writing) link history = IsWriting writing link history
+
+-- as what is taken up
+abbrev pub step_as : {New : Type 0} → (New → Recovered) → Result (Step New) Associated → Result (Step Recovered) (Associated × StepError)
+step_as made (Ok step) = Ok (record { state = made step.state; said = step.said; changes = step.changes })
+step_as made (Err back) = Err (back, errors.NoMemory)
+
+-- THE TOKEN: by the recovery of this docket a read goes on
+abbrev pub is_read : Direction → Bool
+is_read Idle = false
+is_read (Read context) = true
+is_read (Write operation) = false
+
+abbrev pub is_read_row : Option Docket → Bool
+is_read_row None = false
+is_read_row (Some docket) = is_read docket.regime.direction
+
+-- a read that nothing refuses would go on
+abbrev pub would_read : Tables → HoldersOfFiles → Association → (activity number : ℕ) → Bool
+would_read tables locks association activity number =
+    let found = docket_row tables locks association.identity activity in
+    is_read_row found && is_none (refusal_in tables.files association.units found number)
+
+-- and without the token the recovery is aborted then
+abbrev pub AbortsRead : Tables → HoldersOfFiles → Associated → (activity number point : ℕ) → (reads : Bool) → Type 0
+AbortsRead tables locks self activity number point reads =
+    (state : State) (party : StandingParty) (setting : Setting) → StandsIn tables locks state party → IsAssociated self party.link party.history
+    → reads ≡ true → setting.token ≡ false → message_decision state party setting (messages.Pdu (RecoverRequest activity number point)) ≡ Aborts wrong_state
+
+-- A step as `IsStep` has it, in a state whose histories are such as a run has.
+abbrev pub IsKeptStep : {Old New : Type 0} → Represents Old → Represents New → Tables → (before after : HoldersOfFiles)
+    → Old → Setting → Message → Result (Step New) (Old × StepError) → Type 0
+IsKeptStep represents after tables old new self setting message result =
+    (state : State) (party : StandingParty) → StandsIn tables old state party → AreHistoriesKept state → represents self party.link party.history
+    → takes (regime_stage party.history) message ≡ true
+    → MeetsStep after tables old new state party setting message result

@@ -9,10 +9,11 @@ ghost use Rattle.vf_filestore.specs.Units.{recovery_unit};
 ghost use Rattle.vf_locks.specs.Holders.{passed};
 ghost use Rattle.vf_locks.specs.Table.{IsWith, held};
 ghost use Rattle.vf_locks.specs.declared.holder.Holder.TheVariants as holders;
-ghost use Rattle.vf_party.specs.Recoveries.{IsFilled, TakesUp, TakesUpKept, again as again_meant, attribute_part as attribute_meant, changed_row_in, content_part as content_meant, cut_to as cut_to_meant, docket_row, given_by as given_by_meant, is_idle as idle_meant, is_numbered_in, may_pass as may_pass_meant, open_by, opened_in as opened_meant, put_at as put_at_meant, read_by as read_by_meant, refusal_in, rows_of, selection_in as selection_meant, shown_as, write_by as write_by_meant};
+ghost use Rattle.vf_party.specs.Recoveries.{AbortsRead, IsFilled, IsKeptStep, IsRecovered, TakesUp, TakesUpKept, again as again_meant, attribute_part as attribute_meant, changed_row_in, content_part as content_meant, cut_to as cut_to_meant, docket_row, given_by as given_by_meant, is_idle as idle_meant, is_numbered_in, is_read_row as is_read_row_meant, may_pass as may_pass_meant, open_by, opened_in as opened_meant, put_at as put_at_meant, read_by as read_by_meant, refusal_in, rows_of, selection_in as selection_meant, shown_as, step_as, would_read as would_read_meant, write_by as write_by_meant};
 ghost use Rattle.vf_party.specs.Reads.{IsReading};
-ghost use Rattle.vf_party.specs.Represents.{IsOpen};
+ghost use Rattle.vf_party.specs.Represents.{IsAssociated, IsOpen};
 ghost use Rattle.vf_party.specs.Writes.{IsWriting};
+ghost use Rattle.vf_pdu.specs.PduNumbers.{number_of};
 ghost use Rattle.vf_pdu.specs.declared.pdu.Pdu.TheVariants.{RecoverRequest};
 ghost use Rattle.vf_tables.specs.declared.docket.Direction.TheVariants.{Idle, Read, Write};
 ghost use Rattle.vf_filestore.specs.History.{Refused};
@@ -23,7 +24,7 @@ use crate::states::OpenRegime;
 use crate::due::Due;
 use crate::received::Received;
 use crate::step::{one_change, one_said};
-use crate::{Associated, Open, Reading, Said, Selected, Step, Writing};
+use crate::{Associated, Open, Reading, Said, Selected, Step, StepError, Writing};
 use std::alloc::Global;
 use vf_attr::File;
 use vf_base::{Context, Controls, Diagnostic, Element, Elements, FaduId, Moment, Name, NoMemory, copy_option};
@@ -46,6 +47,181 @@ const WRONG_TRANSFER: u16 = 29;
 const UNIT_NOT_AGREED: u16 = 33;
 
 const FILE_CHANGED: u16 = 34;
+
+/// What a party has recovered: an open file, in which a transfer goes on where one was under way.
+#[derive(Drop)]
+pub enum Recovered {
+    Open(Open),
+    Reading(Reading),
+    Writing(Writing),
+}
+
+impl Associated {
+    /// Takes a RecoverRequest (ISO 8571-3, F-RECOVER): what the docket of the activity retains stands again, and a transfer
+    /// that was under way goes on after the smaller of the point and that of the docket. Refused with 33 without the
+    /// functional unit of recovery, 27 where the identity has no docket of the activity, 29 where the number isn't that of
+    /// the transfer under way, or with none under way that of the next or of the last, and 34 where the file of a read has
+    /// another version. That a read doesn't lack the token, as `would_read` tells, is looked at before: it doesn't go on
+    /// without. The state is given back as it was with the diagnostic, or without memory.
+    pub fn recover(
+        self,
+        alloc: Global,
+        request: Pdu,
+        moment: Moment,
+        serial: u32,
+        token: bool,
+        sync: bool,
+        tables: &Tables,
+        locks: &mut Locks,
+    ) -> Result<Step<Recovered>, (Associated, StepError)>
+        requires { number_of request ≡ 26 }
+        ensures consequence { IsKeptStep IsAssociated IsRecovered tables.now locks.old locks.new self (record { moment = moment; serial = serial; token = token; sync = sync }) (messages.Pdu request) result }
+        ensures kept { IfErr result (λ back. back.0 ≡ self) }
+    {
+        let Pdu::RecoverRequest {
+            activity,
+            number,
+            point,
+        } = request
+        else {
+            unreachable!()
+        };
+        let Ok(holder) = holder_of(alloc, &self.association.identity, activity) else {
+            return Err((self, StepError::NoMemory));
+        };
+        let found = docket_in(
+            tables,
+            locks,
+            &self.association.identity,
+            activity,
+            &holder,
+        );
+        if let Some(diagnostic) =
+            refused_recover(&tables.files, self.association.units, found, number)
+        {
+            return Err((self, StepError::Refused(diagnostic)));
+        }
+        let Some(docket) = found else { unreachable!() };
+        match docket.regime.direction {
+            Direction::Idle => {
+                let taken = self.take_up_open(
+                    alloc, activity, number, point, docket, moment, serial, token, sync, tables, locks,
+                );
+                open_again(taken)
+            }
+            Direction::Read { context } => {
+                if !token {
+                    return Err((self, StepError::NoMemory));
+                }
+                let taken = self.take_up_read(
+                    alloc, activity, number, point, docket, context, moment, serial, token, sync,
+                    tables, locks,
+                );
+                reading_again(taken)
+            }
+            Direction::Write { operation } => {
+                let taken = self.take_up_write(
+                    alloc, activity, number, point, docket, operation, moment, serial, token, sync,
+                    tables, locks,
+                );
+                writing_again(taken)
+            }
+        }
+    }
+
+    /// Whether a read would go on by a recovery of this activity and this number. Without the token the caller aborts
+    /// it with 102 then.
+    pub fn would_read(
+        &self,
+        alloc: Global,
+        activity: u32,
+        number: u32,
+        point: u32,
+        tables: &Tables,
+        locks: &Locks,
+    ) -> Result<bool, NoMemory>
+        ensures exact { IfOk result (λ reads. reads ≡ would_read_meant tables.now locks.now self.now.association activity number) }
+        ensures aborts { IfOk result (AbortsRead tables.now locks.now self.now activity number point) }
+    {
+        let reads = would_read(alloc, &self.association, activity, number, tables, locks)?;
+        Ok(reads)
+    }
+}
+
+fn would_read(
+    alloc: Global,
+    association: &Association,
+    activity: u32,
+    number: u32,
+    tables: &Tables,
+    locks: &Locks,
+) -> Result<bool, NoMemory>
+    ensures { IfOk result (λ reads. reads ≡ would_read_meant tables.now locks.now association.now activity number) }
+{
+    let holder = holder_of(alloc, &association.identity, activity)?;
+    let found = docket_in(tables, locks, &association.identity, activity, &holder);
+    let reads = is_read_row(found)
+        && refused_recover(&tables.files, association.units, found, number).is_none();
+    Ok(reads)
+}
+
+fn is_read_row(found: Option<&Docket>) -> bool
+    ensures { result ≡ is_read_row_meant (option_copied found.entry) }
+{
+    let Some(docket) = found else {
+        return false;
+    };
+    match docket.regime.direction {
+        Direction::Idle => false,
+        Direction::Read { .. } => true,
+        Direction::Write { .. } => false,
+    }
+}
+
+fn open_again(
+    taken: Result<Step<Open>, Associated>,
+) -> Result<Step<Recovered>, (Associated, StepError)>
+    ensures { result ≡ step_as Recovered.Open taken }
+{
+    match taken {
+        Ok(step) => Ok(Step {
+            state: Recovered::Open(step.state),
+            said: step.said,
+            changes: step.changes,
+        }),
+        Err(back) => Err((back, StepError::NoMemory)),
+    }
+}
+
+fn reading_again(
+    taken: Result<Step<Reading>, Associated>,
+) -> Result<Step<Recovered>, (Associated, StepError)>
+    ensures { result ≡ step_as Recovered.Reading taken }
+{
+    match taken {
+        Ok(step) => Ok(Step {
+            state: Recovered::Reading(step.state),
+            said: step.said,
+            changes: step.changes,
+        }),
+        Err(back) => Err((back, StepError::NoMemory)),
+    }
+}
+
+fn writing_again(
+    taken: Result<Step<Writing>, Associated>,
+) -> Result<Step<Recovered>, (Associated, StepError)>
+    ensures { result ≡ step_as Recovered.Writing taken }
+{
+    match taken {
+        Ok(step) => Ok(Step {
+            state: Recovered::Writing(step.state),
+            said: step.said,
+            changes: step.changes,
+        }),
+        Err(back) => Err((back, StepError::NoMemory)),
+    }
+}
 
 impl Associated {
     /// Takes up a docket in which no transfer is under way: its open stands again.
