@@ -212,8 +212,11 @@ module _ (tables : Tables) (old : HoldersOfFiles) (state : State) (party : Stand
 
   checked : last_check replied ≡ place
   checked =
-      omega (arith, ap (λ all. length (take (place - 0) (standing 0 all).closed)) happens
-      ∙ (λ i. length (take (less i) closed)) ∙ length-take-le place closed (omega (arith, within)))
+      omega (
+        arith,
+        ap (λ all. length (take (place - 0) (standing 0 all).closed)) happens
+            ∙ (λ i. length (take (less i) closed)) ∙ length-take-le place closed (omega (arith, within)),
+      )
     where
       less : place - 0 ≡ place
       less = omega arith

@@ -34,9 +34,9 @@ mod writing;
 
 pub use idle::Idle;
 pub use quiet::Quiet;
-pub use setting::Setting;
 pub use reading::Reading;
 pub use recovering::Recovered;
+pub use setting::Setting;
 pub use states::{Associated, Open, Selected};
 pub use step::{Step, StepError};
 pub use vf_elements::{Message, Said};

@@ -20,14 +20,16 @@ ghost use Rattle.vf_filestore.specs.History.{Refused};
 ghost use Rattle.vf_regime_effects.specs.Meanings.{given_of_reading};
 ghost use Rattle.vf_tree.specs.Acts.{Reads, does, shown_of};
 
-use crate::states::OpenRegime;
 use crate::due::Due;
 use crate::received::Received;
+use crate::states::OpenRegime;
 use crate::step::{one_change, one_said};
 use crate::{Associated, Open, Reading, Said, Selected, Step, StepError, Writing};
 use std::alloc::Global;
 use vf_attr::File;
-use vf_base::{Context, Controls, Diagnostic, Element, Elements, FaduId, Moment, Name, NoMemory, copy_option};
+use vf_base::{
+    Context, Controls, Diagnostic, Element, Elements, FaduId, Moment, Name, NoMemory, copy_option,
+};
 use vf_files::plain;
 use vf_locks::{Holder, Locks};
 use vf_pdu::Pdu;
@@ -89,23 +91,21 @@ impl Associated {
         let Ok(holder) = holder_of(alloc, &self.association.identity, activity) else {
             return Err((self, StepError::NoMemory));
         };
-        let found = docket_in(
-            tables,
-            locks,
-            &self.association.identity,
-            activity,
-            &holder,
-        );
-        if let Some(diagnostic) =
-            refused_recover(&tables.files, self.association.units, found, number)
-        {
+        let found = docket_in(tables, locks, &self.association.identity, activity, &holder);
+        if let Some(diagnostic) = refused_recover(
+            &tables.files,
+            self.association.units,
+            found,
+            number,
+        ) {
             return Err((self, StepError::Refused(diagnostic)));
         }
         let Some(docket) = found else { unreachable!() };
         match docket.regime.direction {
             Direction::Idle => {
                 let taken = self.take_up_open(
-                    alloc, activity, number, point, docket, moment, serial, token, sync, tables, locks,
+                    alloc, activity, number, point, docket, moment, serial, token, sync, tables,
+                    locks,
                 );
                 open_again(taken)
             }

@@ -21,8 +21,7 @@ use Rattle.vf_party.proofs.states.Associated.recover.Goals as goal
 pub returns-in-Some-clause-consequence : goal.returns-in-Some-clause-consequence
 returns-in-Some-clause-consequence c = λ state party stands kept represents taken.
     let setting : Setting = record { moment = c.args.moment; serial = c.args.serial; token = c.args.token; sync = c.args.sync } in
-    let asks = c.in-RecoverRequest in
-    (
+    let asks = c.in-RecoverRequest in (
       subst (λ (r : Pdu). message_decision state party setting (messages.Pdu r) ≡ Refuses c.in-Some.diagnostic) (sym asks.is)
           (decision_refused c.args.tables.now c.args.locks.now state party c.args.self stands represents setting asks.activity asks.number asks.point _ (sym c.docket_in-found.ensures) c.in-Some.diagnostic
           (sym c.refused_recover.ensures ∙ c.in-Some.is)),
