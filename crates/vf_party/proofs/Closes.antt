@@ -1,7 +1,7 @@
 -- What changes in what a store keeps once a party's open is closed: where it was recoverable, its docket is gone.
 use Rattle.std.proofs.Common.{◌≡◌, ℕ, List, [], ◌∷◌, ◌++◌, Option, None, Some, flat_map, map, refl, ap, sym, subst, ◌∙◌, append-nil}
 use Rattle.std.specs.List.{IsDistinct}
-use Rattle.vf_filestore.specs.Changes.{all_piece_changes, delta, docket_changes, is_same_open}
+use Rattle.vf_filestore.specs.Changes.{delta, is_same_open}
 use Rattle.vf_filestore.specs.Dockets.{docket_left_by}
 use Rattle.vf_filestore.specs.History.{History, regime}
 use Rattle.vf_filestore.specs.Sound.{IsSound}
@@ -13,8 +13,7 @@ use Rattle.vf_filestore.proofs.Lists.{all_right, flat_map-append}
 use Rattle.vf_filestore.proofs.OrderedRows.{IsSelected, has_row, placed, pulled, rows_between}
 use Rattle.vf_filestore.proofs.Parties.{located, with_at}
 use Rattle.vf_filestore.proofs.Recorded.{rows_apart}
-use Rattle.vf_filestore.proofs.Unchanged.{files_themselves}
-use Rattle.vf_party.proofs.DocketChanges.{drop, row_gone}
+use Rattle.vf_party.proofs.DocketChanges.{dockets_change, drop, row_gone}
 use Rattle.vf_party.proofs.Kept.{no_change, none_left, tables_stay, with_history}
 use Rattle.vf_party.proofs.Retained.{rows_left}
 use Rattle.vf_tables.specs.declared.docket.Docket as entries
@@ -59,9 +58,7 @@ module _ (tables : Tables) (state : State) (party : StandingParty) (history : Hi
       = ap (λ (all : List Docket). flat_map row_of (ordered [] all)) all_is ∙ ap (flat_map row_of) spot.is ∙ flat_map-append row_of spot.first spot.later in
       let changed = row_gone rows_first rows_later row.row (subst (λ (rows : List entries.Docket). IsDistinct is_same_open rows) dockets_was (rows_apart state sound)) in
       let left : rows_left party ≡ row.row ∷ [] = ap (flat_map row_of) (left_is party activity is) ∙ append-nil (row_of old) ∙ row.is in
-      ap (λ (t : Tables). delta t (tables_of after)) (sym kept)
-      ∙ (λ i. files_themselves state.files i ++ (docket_changes (dockets_was i) (dockets_is i) ++ all_piece_changes (dockets_was i) (dockets_is i)))
-      ∙ changed ∙ sym (ap (map drop) left)
+      dockets_change tables state after (rows_first ++ row.row ∷ rows_later) (rows_first ++ rows_later) kept refl dockets_was dockets_is ∙ changed ∙ sym (ap (map drop) left)
 
   pub docket_closed : delta tables (tables_of after) ≡ map drop (rows_left party)
   docket_closed = by (activity_of party) refl

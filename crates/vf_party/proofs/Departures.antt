@@ -2,7 +2,7 @@
 use Rattle.std.proofs.Common.{◌≡◌, ℕ, true, false, ◌&&◌, List, Option, None, Some, is_none, is_some, ap, sym, subst, ◌∙◌}
 use Rattle.vf_filestore.specs.Dockets.{broken}
 use Rattle.vf_filestore.specs.History.{Selection, selection}
-use Rattle.vf_filestore.specs.HoldersAfter.{IsLeft}
+use Rattle.vf_filestore.specs.HoldersAfter.{IsAsBefore, IsLeft, Keeps}
 use Rattle.vf_filestore.specs.State.{State, StandingParty, activity_of, identity_of}
 use Rattle.vf_filestore.proofs.HeldCalls.{calls_follow}
 use Rattle.vf_filestore.proofs.HeldGone.{breaks_hold}
@@ -55,3 +55,14 @@ module _ (selected : Selected) (old new : HoldersOfFiles) where
       let may : may_pass old file (Party link) (Docket identity activity) ≡ true = λ i. here i && there i in
       let clash : true ≡ false = sym may ∙ never in
       absurd cc
+
+-- where nothing is selected, each file keeps its holders
+pub nothing_left : (tables : Tables) (locks : HoldersOfFiles) (state : State) (party : StandingParty) → StandsIn tables locks state party → selection party.history ≡ None → activity_of party ≡ None
+    → Keeps locks (broken party.link state)
+nothing_left tables locks state party stands unselected unopened =
+    let after = broken party.link state in
+    let left : IsAsBefore state after
+    = subst (λ (one : Option Selection). IsLeft party.link (identity_of party) None one state after) unselected
+    (subst (λ (activity : Option ℕ). IsLeft party.link (identity_of party) activity (selection party.history) state after) unopened
+    (breaks_hold state party stands.sound stands.stands)) in
+    λ file. stands.held file ∙ sym (left file)

@@ -1,15 +1,18 @@
 -- The changes of dockets where one without pieces stands after the others, or one is gone.
-use Rattle.std.proofs.Common.{◌≡◌, List, [], ◌∷◌, ◌++◌, Option, None, Some, map, refl, ap, ◌∙◌}
+use Rattle.std.proofs.Common.{◌≡◌, List, [], ◌∷◌, ◌++◌, Option, None, Some, map, refl, ap, sym, ◌∙◌}
 use Rattle.std.specs.List.{AllByRecursion, IsDistinct}
 use Rattle.vf_tables.specs.declared.change.Change.{Change}
 use Rattle.vf_tables.specs.declared.change.Change.TheVariants.{DropDocket, PutDocket}
 use Rattle.vf_tables.specs.declared.docket.Docket.{Docket}
 use Rattle.vf_tables.specs.declared.docket.Regime.{Regime}
-use Rattle.vf_filestore.specs.Changes.{all_piece_changes, docket_changes, is_same_open, piece_changes}
+use Rattle.vf_tables.specs.declared.tables.Tables.{Tables}
+use Rattle.vf_filestore.specs.Changes.{all_piece_changes, delta, docket_changes, file_changes, is_same_open, piece_changes}
+use Rattle.vf_filestore.specs.State.{State}
+use Rattle.vf_filestore.specs.Tables.{tables_of}
 use Rattle.vf_filestore.proofs.DocketSteps.{IsOtherDocket, all_pieces, changes_added, changes_gone, later_others, skip}
 use Rattle.vf_filestore.proofs.Lists.{all_append, all_left, all_right}
 use Rattle.vf_filestore.proofs.Meant.{find_none}
-use Rattle.vf_filestore.proofs.Unchanged.{IsFoundIn, all_found, no_piece, no_pieces}
+use Rattle.vf_filestore.proofs.Unchanged.{IsFoundIn, all_found, files_themselves, no_piece, no_pieces}
 use Rattle.vf_party.specs.Dockets.{docket_with}
 use Rattle.vf_party.specs.Openings.{drop_of, put_of}
 
@@ -52,3 +55,10 @@ row_gone first later docket distinct =
     let found = all_found whole distinct in
     let left = all_append (IsFoundIn whole) first later (all_left (IsFoundIn whole) first (docket ∷ later) found) (all_right (IsFoundIn whole) first (docket ∷ later) found).1 in
     λ i. (skip first (docket ∷ later) later ∙ changes_gone docket later (later_others first later docket distinct)) i ++ no_pieces whole (first ++ later) left i
+
+-- where the files stay, the changes are those of dockets
+pub dockets_change : (tables : Tables) (state after : State) (was is : List Docket) → tables_of state ≡ tables → after.files ≡ state.files → (tables_of state).dockets ≡ was
+    → (tables_of after).dockets ≡ is → delta tables (tables_of after) ≡ docket_changes was is ++ all_piece_changes was is
+dockets_change tables state after was is kept files before now =
+    ap (λ (t : Tables). delta t (tables_of after)) (sym kept)
+    ∙ (λ i. (ap (file_changes state.files) files ∙ files_themselves state.files) i ++ (docket_changes (before i) (now i) ++ all_piece_changes (before i) (now i)))

@@ -1,9 +1,11 @@
+pub mod Abortions
 pub mod Activities
 pub mod Answering
+pub mod Bars
 pub mod Closes
 pub mod Concluding
-pub mod CutDockets
 pub mod Creations
+pub mod CutDockets
 pub mod Departures
 pub mod DocketChanges
 pub mod Dues
@@ -19,6 +21,7 @@ pub mod OwnDockets
 pub mod ReadsOn
 pub mod Recovers
 pub mod Refilled
+pub mod Refused
 pub mod Renames
 pub mod Requests
 pub mod Restarts
@@ -31,6 +34,8 @@ pub mod TakenOpen
 pub mod TakenRead
 pub mod TakenUp
 pub mod TakenWrite
+pub mod Turning
+pub mod Unopposed
 pub mod WriteDockets
 pub mod WriteEndings
 pub mod Writes

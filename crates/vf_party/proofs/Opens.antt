@@ -6,7 +6,7 @@ use Rattle.vf_elements.specs.Stages.{takes}
 use Rattle.vf_elements.specs.declared.message.Message.TheVariants as messages
 use Rattle.vf_pdu.specs.declared.pdu.Pdu.{Pdu}
 use Rattle.vf_filestore.specs.Aborts.{Setting}
-use Rattle.vf_filestore.specs.Changes.{all_piece_changes, delta, docket_changes, is_same_open}
+use Rattle.vf_filestore.specs.Changes.{delta, is_same_open}
 use Rattle.vf_filestore.specs.Decision.{Grants, request_decision}
 use Rattle.vf_filestore.specs.Dockets.{docket_left_by}
 use Rattle.vf_filestore.specs.History.{Given, History, regime}
@@ -26,8 +26,7 @@ use Rattle.vf_filestore.proofs.Owned.{AsksCheck}
 use Rattle.vf_filestore.proofs.Parties.{located, with_at}
 use Rattle.vf_filestore.proofs.Recorded.{rows_apart}
 use Rattle.vf_filestore.proofs.Soundness.{opened_some, retains}
-use Rattle.vf_filestore.proofs.Unchanged.{files_themselves}
-use Rattle.vf_party.proofs.DocketChanges.{IsBare, put, row_added}
+use Rattle.vf_party.proofs.DocketChanges.{IsBare, dockets_change, put, row_added}
 use Rattle.vf_party.proofs.Kept.{no_change, none_left, tables_stay, with_history}
 use Rattle.vf_party.proofs.Retained.{rows_left}
 use Rattle.vf_tables.specs.declared.docket.Docket as entries
@@ -90,9 +89,7 @@ module _ (tables : Tables) (state : State) (party : StandingParty) (history : Hi
         let changed = row_added rows row.row (subst (λ (rows : List entries.Docket). IsDistinct is_same_open rows) dockets_was (rows_apart state sound))
         (others rows [] row.row (subst (λ (rows : List entries.Docket). IsDistinct is_same_open rows) dockets_is (rows_apart opened_state sound_after)))
         (subst (λ (rows : List entries.Docket). AllByRecursion IsBare rows) left bare).0 in
-        ap (λ (t : Tables). delta t (tables_of opened_state)) (sym kept)
-        ∙ (λ i. files_themselves state.files i ++ (docket_changes (dockets_was i) (dockets_is i) ++ all_piece_changes (dockets_was i) (dockets_is i)))
-        ∙ changed ∙ sym (ap (map put) left)
+        dockets_change tables state opened_state rows (rows ++ row.row ∷ []) kept refl dockets_was dockets_is ∙ changed ∙ sym (ap (map put) left)
 
     -- a docket is put that has no pieces
     pub docket_opened : delta tables (tables_of opened_state) ≡ map put (rows_left opened_party)

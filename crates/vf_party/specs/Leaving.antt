@@ -7,7 +7,7 @@ use Rattle.vf_filestore.specs.State.{State, StandingParty, activity_of, identity
 use Rattle.vf_locks.specs.Holders.{controls_of}
 use Rattle.vf_locks.specs.Table.{held}
 use Rattle.vf_locks.specs.declared.holder.Holder.{Holder}
-use Rattle.vf_party.specs.Steps.{HoldersOfFiles, StandsIn}
+use Rattle.vf_party.specs.Steps.{HoldersOfFiles, Represents, StandsIn}
 use Rattle.vf_party.specs.declared.states.Selected.{Selected}
 use Rattle.vf_regime_refusals.specs.Asked.{selection_of}
 use Rattle.vf_tables.specs.declared.tables.Tables.{Tables}
@@ -22,4 +22,10 @@ LeavesFile selected activity old new =
     (tables : Tables) (state : State) (party : StandingParty) → StandsIn tables old state party
     → party.link ≡ selected.associated.association.link → identity_of party ≡ selected.associated.association.identity
     → selection party.history ≡ Some (selection_of selected.selection) → activity_of party ≡ activity
+    → Keeps new (broken party.link state)
+
+-- a party is gone that a typed state represents
+abbrev pub LeavesHolders : {S : Type 0} → Represents S → S → (before after : HoldersOfFiles) → Type 0
+LeavesHolders represents self old new =
+    (tables : Tables) (state : State) (party : StandingParty) → StandsIn tables old state party → represents self party.link party.history
     → Keeps new (broken party.link state)

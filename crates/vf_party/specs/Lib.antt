@@ -1,3 +1,4 @@
+pub mod Aborting
 pub mod Answers
 pub mod Creations
 pub mod Dockets
@@ -11,9 +12,11 @@ pub mod Openings
 pub mod Quiets
 pub mod Reads
 pub mod Recoveries
+pub mod Refusals
 pub mod Regimes
 pub mod Renames
 pub mod Represents
 pub mod Settings
 pub mod Steps
+pub mod Turns
 pub mod Writes

@@ -4,13 +4,13 @@ ghost use Rattle.vf_party.specs.Represents.{IsAssociated, IsSelected};
 ghost use Rattle.vf_party.specs.Steps.{IsStep};
 ghost use Rattle.vf_pdu.specs.PduNumbers.{number_of};
 
-use crate::step::one_said;
-use crate::{Associated, Said, Selected, Step, StepError};
+use crate::holding::hold_selected;
+use crate::{Associated, Selected, Step, StepError};
 use std::alloc::Global;
 use vf_base::{Moment, NoMemory};
-use vf_locks::{Holder, Locks};
+use vf_locks::Locks;
 use vf_pdu::Pdu;
-use vf_regime_refusals::{Selection, attribute_controls, joined, not_opened, refused_select};
+use vf_regime_refusals::{Selection, attribute_controls, refused_select};
 use vf_tables::{Changes, Tables};
 
 impl Associated {
@@ -54,14 +54,8 @@ impl Associated {
         if let Some(diagnostic) = refused {
             return Err((self, StepError::Refused(diagnostic)));
         }
-        let Ok(said) = one_said(alloc, Said::Pdu(Pdu::SelectResponse { diagnostic: None })) else {
-            return Err((self, StepError::NoMemory));
-        };
-        let holder = Holder::Party {
-            link: self.association.link,
-        };
-        let wanted = joined(not_opened(), selection.controls);
-        let Ok(()) = locks.grant(alloc, &selection.file, &holder, &wanted) else {
+        let answer = Pdu::SelectResponse { diagnostic: None };
+        let Ok(said) = hold_selected(alloc, &self, &selection, answer, locks) else {
             return Err((self, StepError::NoMemory));
         };
         let state = Selected {

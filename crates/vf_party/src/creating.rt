@@ -5,14 +5,15 @@ ghost use Rattle.vf_party.specs.Represents.{IsAssociated, IsSelected};
 ghost use Rattle.vf_party.specs.Steps.{IsStep};
 ghost use Rattle.vf_pdu.specs.PduNumbers.{number_of};
 
-use crate::step::{one_change, one_said};
-use crate::{Associated, Said, Selected, Step, StepError};
+use crate::holding::hold_selected;
+use crate::step::one_change;
+use crate::{Associated, Selected, Step, StepError};
 use std::alloc::Global;
 use vf_base::{Diagnostic, Moment, NoMemory};
 use vf_files::NewFile;
-use vf_locks::{Holder, Locks};
+use vf_locks::Locks;
 use vf_pdu::Pdu;
-use vf_regime_refusals::{Creation, Selection, attribute_controls, create, joined, not_opened};
+use vf_regime_refusals::{Creation, Selection, attribute_controls, create};
 use vf_tables::{Change, Changes, Tables};
 
 impl Associated {
@@ -83,14 +84,8 @@ impl Associated {
             Ok(changes) => changes,
             Err(diagnostic) => return Err((self, StepError::Refused(diagnostic))),
         };
-        let Ok(said) = one_said(alloc, Said::Pdu(Pdu::CreateResponse { diagnostic: None })) else {
-            return Err((self, StepError::NoMemory));
-        };
-        let holder = Holder::Party {
-            link: self.association.link,
-        };
-        let wanted = joined(not_opened(), selection.controls);
-        let Ok(()) = locks.grant(alloc, &selection.file, &holder, &wanted) else {
+        let answer = Pdu::CreateResponse { diagnostic: None };
+        let Ok(said) = hold_selected(alloc, &self, &selection, answer, locks) else {
             return Err((self, StepError::NoMemory));
         };
         let state = Selected {

@@ -1,10 +1,22 @@
 //! What is left of a party whose association is gone (ISO 8571-3, docket; profile).
 ghost use Rattle.std.specs.Prelude.{◌≡◌};
-ghost use Rattle.vf_party.specs.Leaving.{LeavesFile, may_pass as may_pass_meant};
+ghost use Rattle.vf_party.specs.Leaving.{LeavesFile, LeavesHolders, may_pass as may_pass_meant};
+ghost use Rattle.vf_party.specs.Quiets.{IsQuiet};
 
-use crate::Selected;
+use crate::{Quiet, Selected};
 use vf_base::Name;
 use vf_locks::{Holder, Locks};
+
+/// What is left of a party in which no transfer is under way.
+pub(crate) fn leave_quiet(quiet: Quiet, locks: &mut Locks)
+    ensures { LeavesHolders IsQuiet quiet locks.old locks.new }
+{
+    match quiet {
+        Quiet::Associated(_) => {}
+        Quiet::Selected(selected) => leave(selected, None, locks),
+        Quiet::Open(regimes) => leave(regimes.selected, regimes.regime.activity, locks),
+    }
+}
 
 /// The docket of a recoverable open holds the selected file in the place of its party; else nobody does.
 pub(crate) fn leave(selected: Selected, activity: Option<u32>, locks: &mut Locks)

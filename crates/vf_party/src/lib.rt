@@ -2,22 +2,27 @@
 //! and steps from one to the next, over the store's tables and locks.
 #![tactic(auto)]
 
+mod aborting;
 mod associated;
 mod attributes;
 mod changing;
 mod checking;
 mod creating;
 mod deleting;
+mod departing;
 mod dockets;
 mod due;
 mod ending;
 mod erasing;
 mod files;
+mod holding;
 mod idle;
 mod items;
 mod leaving;
 mod locating;
 mod opening;
+mod outcomes;
+mod party;
 mod positions;
 mod quiet;
 mod read_end;
@@ -25,14 +30,18 @@ mod read_request;
 mod reading;
 mod received;
 mod recovering;
+mod refusals;
 mod regimes;
 mod selected;
 mod setting;
 mod states;
 mod step;
+mod taking_quiet;
+mod taking_regime;
 mod writing;
 
 pub use idle::Idle;
+pub use party::{Grouping, Outcome, Party};
 pub use quiet::Quiet;
 pub use reading::Reading;
 pub use recovering::Recovered;

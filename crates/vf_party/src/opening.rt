@@ -1,12 +1,13 @@
-ghost use Rattle.std.specs.Prelude.{◌≡◌, IfErr, IfOk, option_map};
+ghost use Rattle.std.specs.Prelude.{◌≡◌, None, IfErr, IfOk, option_map};
 ghost use Rattle.vf_elements.specs.declared.message.Message.TheVariants as messages;
 ghost use Rattle.vf_files.specs.Files.{file_named};
-ghost use Rattle.vf_filestore.specs.Replies.{contents_of};
+ghost use Rattle.vf_filestore.specs.Replies.{contents_of, reply};
 ghost use Rattle.vf_party.specs.Dockets.{fields_of as fields_meant, no_transfer};
 ghost use Rattle.vf_party.specs.Openings.{drop_of, put_of};
 ghost use Rattle.vf_party.specs.Represents.{IsOpen, IsSelected};
 ghost use Rattle.vf_party.specs.Steps.{IsStep};
 ghost use Rattle.vf_pdu.specs.PduNumbers.{number_of};
+ghost use Rattle.vf_pdu.specs.declared.pdu.Pdu.TheVariants as pdus;
 
 use crate::dockets::{Underway, fields_of};
 use crate::states::OpenRegime;
@@ -67,14 +68,7 @@ impl Selected {
         if let Some(diagnostic) = refused {
             return Err((self, StepError::Refused(diagnostic)));
         }
-        let Ok(contents) = contents_in(alloc, &tables.files, &self.selection.file) else {
-            return Err((self, StepError::NoMemory));
-        };
-        let answer = Pdu::OpenResponse {
-            diagnostic: None,
-            contents,
-        };
-        let Ok(said) = one_said(alloc, Said::Pdu(answer)) else {
+        let Ok(said) = answered(alloc, &tables.files, &self.selection.file) else {
             return Err((self, StepError::NoMemory));
         };
         let state = Open {
@@ -148,6 +142,19 @@ impl Open {
             changes,
         })
     }
+}
+
+/// The response to the open of the file of this name, which tells its contents type.
+fn answered(alloc: Global, files: &Files, name: &Name) -> Result<Vec<Said>, NoMemory>
+    ensures { IfOk result (λ said. said.items ≡ reply (pdus.OpenResponse None (option_map contents_of (file_named name.now files.now)))) }
+{
+    let contents = contents_in(alloc, files, name)?;
+    let answer = Pdu::OpenResponse {
+        diagnostic: None,
+        contents,
+    };
+    let said = one_said(alloc, Said::Pdu(answer))?;
+    Ok(said)
 }
 
 /// The contents type of the file of this name, where there is the file.

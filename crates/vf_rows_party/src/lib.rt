@@ -2,6 +2,12 @@
 #![tactic(auto)]
 
 #[cfg(test)]
+mod acts;
+#[cfg(test)]
 mod changes;
 #[cfg(test)]
+mod reads;
+#[cfg(test)]
 mod steps;
+#[cfg(test)]
+mod writes;

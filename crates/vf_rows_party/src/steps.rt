@@ -10,7 +10,7 @@ use vf_pdu::Pdu;
 use vf_tables::{Change, Changes, Tables};
 
 /// An association with limited and enhanced file management, and recovery.
-fn associated(alloc: Global, locks: &mut Locks) -> Result<Step<Associated>, Fail> {
+pub(crate) fn associated(alloc: Global, locks: &mut Locks) -> Result<Step<Associated>, Fail> {
     let request = Pdu::InitializeRequest {
         units: 159,
         identity: None,
@@ -206,7 +206,7 @@ fn a_file_is_selected_and_deleted(rt: HostRuntime) -> Result<(), Fail> {
 }
 
 /// What a recoverable open of `a` for reading leaves.
-fn opened(
+pub(crate) fn opened(
     alloc: Global,
     selected: Selected,
     tables: &Tables,

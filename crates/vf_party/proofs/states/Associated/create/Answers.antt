@@ -1,4 +1,4 @@
-use Rattle.std.proofs.Common.{◌≡◌, ℕ, true, List, ◌∷◌, Some, refl, ap, sym, subst, ◌∙◌}
+use Rattle.std.proofs.Common.{◌≡◌, ℕ, true, List, ◌∷◌, None, Some, refl, ap, sym, subst, ◌∙◌}
 use Rattle.vf_base.specs.declared.action.Controls.{Controls}
 use Rattle.vf_elements.specs.Stages.{takes}
 use Rattle.vf_elements.specs.declared.message.Message.TheVariants as messages
@@ -17,12 +17,15 @@ use Rattle.vf_filestore.specs.Selecting.{Wanted, create_rows}
 use Rattle.vf_filestore.specs.Stage.{regime_stage}
 use Rattle.vf_filestore.specs.State.{identity_in, units_in, activity_in}
 use Rattle.vf_filestore.specs.Units.{limited_management}
+use Rattle.vf_filestore.proofs.Decided.{later_passed}
 use Rattle.vf_filestore.proofs.HeldCalls.{calls_follow}
+use Rattle.vf_locks.specs.Clash.{conflict}
 use Rattle.vf_locks.specs.Holders.{granted}
 use Rattle.vf_locks.specs.Table.{IsWith, held}
 use Rattle.vf_locks.specs.declared.holder.Holder.TheVariants.{Party}
 use Rattle.vf_pdu.specs.declared.pdu.Pdu.{Pdu}
 use Rattle.vf_pdu.specs.declared.pdu.Pdu.TheVariants.{CreateRequest}
+use Rattle.vf_pdu_fields.specs.declared.controls.AttributeControls.{AttributeControls}
 use Rattle.vf_regime_refusals.specs.Asked.{found_in, stamp_by}
 use Rattle.vf_regime_refusals.specs.declared.association.Selection.{Selection}
 use Rattle.vf_party.specs.declared.states.Selected.{Selected}
@@ -33,6 +36,7 @@ use Rattle.vf_party.specs.Steps.{Concludes, history_by}
 use Rattle.vf_party.proofs.Concluding.{filed_step, found_is}
 use Rattle.vf_party.proofs.Creations.{changes_are, made_in, refusal_in, refusal_is}
 use Rattle.vf_party.proofs.Kept.{none_left, tables_filed, with_history}
+use Rattle.vf_party.proofs.Unopposed.{creation_unopposed}
 use Rattle.vf_party.proofs.states.Associated.create.Goals as goal
 
 pub returns-in-Err-clause-consequence : goal.returns-in-Err-clause-consequence
@@ -54,6 +58,21 @@ returns-in-Err-clause-consequence c = λ state party stands represents taken.
       λ file. refl,
     )
 
+pub hold_selected-requires : goal.hold_selected-requires
+hold_selected-requires c =
+    let asks = c.in-CreateRequest in
+    let new : NewFile = record { name = asks.name; contents = asks.contents; permitted = asks.permitted; terms = asks.terms } in
+    let association = c.args.self.association in
+    let wanted : Wanted = record { link = association.link; identity = association.identity; password = asks.password; requested = asks.requested; controls = c.attribute_controls.result } in
+    let old = c.args.locks.now in
+    let found = found_in c.args.tables.now.files old in
+    let stamp = stamp_by association c.args.moment in
+    let free = ap refusal_in (sym (c.in-Ok-changes_of.ensures ∙ ap changes_of c.in-Ok-create.ensures) ∙ c.in-Ok-made.is) in
+    let rows = create_rows found wanted asks.over stamp new in
+    subst (λ (file : List ℕ). conflict (Party association.link) (joined not_opened c.attribute_controls.result) (held file old) ≡ None) (sym c.in-Ok.ensures)
+    (creation_unopposed found wanted asks.over stamp new
+    (later_passed (unit_row association.units limited_management) rows (sym (refusal_is found wanted asks.over stamp new association.units) ∙ free)))
+
 pub returns-clause-consequence : goal.returns-clause-consequence
 returns-clause-consequence c = λ state party stands represents.
     let asks = c.in-CreateRequest in
@@ -67,31 +86,30 @@ returns-clause-consequence c = λ state party stands represents.
     let wanted_is : Wanted = record { link = association.link; identity = association.identity; password = asks.password; requested = requested; controls = c.attribute_controls.result } in
     let selection : Selection = record { file = c.in-Ok.file; requested = requested; controls = c.attribute_controls.result; password = asks.password } in
     let made : Selected = record { associated = c.args.self; selection = selection } in
-    let step : Step Selected = record { state = made; said = c.in-Ok-one_said.said; changes = c.in-Ok-made.changes } in
+    let step : Step Selected = record { state = made; said = c.in-Ok-hold_selected.said; changes = c.in-Ok-made.changes } in
     let given = made_unless (file_named name state.files) in
     let next = history_by state party setting message given in
     let after = concluded_by state party setting message given in
     let tables = c.args.tables.now in
     let old = c.args.locks.now in
-    let new = c.grant.new.self in
+    let new = c.hold_selected.new.locks in
     let files = created_where given new_file (stamp_of party c.args.moment) state.files in
     let found = found_in tables.files old in
     let stamp = stamp_by association c.args.moment in
     let comes = c.in-Ok-changes_of.ensures ∙ ap changes_of c.in-Ok-create.ensures in
     let free = ap refusal_in (sym comes ∙ c.in-Ok-made.is) in
     let controls : Controls = joined not_opened (attribute_controls requested asks.controls) in
-    let wanted : c.joined-wanted.result ≡ controls = c.joined-wanted.ensures ∙ (λ i. joined (c.not_opened.ensures i) (c.attribute_controls.ensures i)) in
     let with_controls : IsWith name (granted (Party party.link) controls (held name old)) old new =
     subst (λ (file : List ℕ). IsWith file (granted (Party party.link) controls (held file old)) old new) c.in-Ok.ensures
     (subst (λ (link : ℕ). IsWith c.in-Ok.file (granted (Party link) controls (held c.in-Ok.file old)) old new) (sym represents.linked)
-    (subst (λ (all : Controls). IsWith c.in-Ok.file (granted (Party association.link) all (held c.in-Ok.file old)) old new) wanted c.in-Ok-grant.ensures.ok)) in
+    (subst (λ (all : AttributeControls). IsWith c.in-Ok.file (granted (Party association.link) (joined not_opened all) (held c.in-Ok.file old)) old new) c.attribute_controls.ensures c.in-Ok-hold_selected.ensures.held)) in
     subst (λ (r : Pdu). takes (regime_stage party.history) (messages.Pdu r) ≡ true → Concludes IsSelected tables new state party setting (messages.Pdu r) step) (sym asks.is)
     (λ taken. filed_step IsSelected tables old new state party setting message given files step stands taken
     (ap (λ (row : Row). granted_unless row given)
     ((λ i. first_row (unit_row (units_in (represents.stands i)) limited_management
     ∷ create_rows (found_is tables old state party stands i) (record { link = represents.linked i; identity = identity_in (represents.stands i); password = asks.password; requested = requested; controls = sym c.attribute_controls.ensures i }) asks.over (record { moment = c.args.moment; identity = identity_in (represents.stands i) }) new_file))
     ∙ sym (refusal_is found wanted_is asks.over stamp new_file association.units) ∙ free))
-    c.in-Ok-one_said.ensures represents.moved
+    c.in-Ok-hold_selected.ensures.said represents.moved
     (record {
       linked = represents.linked;
       associated = represents.stands;

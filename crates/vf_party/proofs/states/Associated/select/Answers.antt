@@ -17,6 +17,8 @@ use Rattle.vf_locks.specs.Table.{IsWith, held}
 use Rattle.vf_locks.specs.declared.holder.Holder.TheVariants.{Party}
 use Rattle.vf_pdu.specs.declared.pdu.Pdu.{Pdu}
 use Rattle.vf_pdu.specs.declared.pdu.Pdu.TheVariants.{SelectRequest}
+use Rattle.vf_pdu_fields.specs.declared.controls.AttributeControls.{AttributeControls}
+use Rattle.vf_regime_refusals.specs.Asked.{found_in, wanted_of}
 use Rattle.vf_regime_refusals.specs.declared.association.Selection.{Selection}
 use Rattle.vf_party.specs.declared.states.Selected.{Selected}
 use Rattle.vf_party.specs.declared.step.Step.{Step}
@@ -24,7 +26,13 @@ use Rattle.vf_party.specs.Represents.{IsSelected}
 use Rattle.vf_party.specs.Steps.{Concludes, history_by}
 use Rattle.vf_party.proofs.Concluding.{found_is, quiet_step}
 use Rattle.vf_party.proofs.Kept.{none_left, tables_stay, with_history}
+use Rattle.vf_party.proofs.Unopposed.{selection_unopposed}
 use Rattle.vf_party.proofs.states.Associated.select.Goals as goal
+
+pub hold_selected-requires : goal.hold_selected-requires
+hold_selected-requires c =
+    let selection : Selection = record { file = c.in-SelectRequest.name; requested = c.in-SelectRequest.requested; controls = c.attribute_controls.result; password = c.in-SelectRequest.password } in
+    selection_unopposed (found_in c.args.tables.now.files c.args.locks.now) (wanted_of c.args.self.association selection) c.in-SelectRequest.name (sym c.in-Ok.ensures ∙ c.in_default-refused.is)
 
 pub returns-clause-consequence : goal.returns-clause-consequence
 returns-clause-consequence c = λ state party stands represents.
@@ -35,22 +43,21 @@ returns-clause-consequence c = λ state party stands represents.
     let message = messages.Pdu request in
     let selection : Selection = record { file = name; requested = requested; controls = c.attribute_controls.result; password = c.in-SelectRequest.password } in
     let made : Selected = record { associated = c.args.self; selection = selection } in
-    let step : Step Selected = record { state = made; said = c.in-Ok-one_said.said; changes = c.new.result } in
+    let step : Step Selected = record { state = made; said = c.in-Ok-hold_selected.said; changes = c.new.result } in
     let next = history_by state party setting message Nothing in
     let after = concluded_by state party setting message Nothing in
     let tables = c.args.tables.now in
     let old = c.args.locks.now in
-    let new = c.grant.new.self in
+    let new = c.hold_selected.new.locks in
     let controls : Controls = joined not_opened (attribute_controls requested c.in-SelectRequest.controls) in
-    let wanted : c.joined-wanted.result ≡ controls = c.joined-wanted.ensures ∙ (λ i. joined (c.not_opened.ensures i) (c.attribute_controls.ensures i)) in
     let with_controls : IsWith name (granted (Party party.link) controls (held name old)) old new =
     subst (λ (link : ℕ). IsWith name (granted (Party link) controls (held name old)) old new) (sym represents.linked)
-    (subst (λ (all : Controls). IsWith name (granted (Party c.args.self.association.link) all (held name old)) old new) wanted c.in-Ok-grant.ensures.ok) in
+    (subst (λ (all : AttributeControls). IsWith name (granted (Party c.args.self.association.link) (joined not_opened all) (held name old)) old new) c.attribute_controls.ensures c.in-Ok-hold_selected.ensures.held) in
     subst (λ (r : Pdu). takes (regime_stage party.history) (messages.Pdu r) ≡ true → Concludes IsSelected tables new state party setting (messages.Pdu r) step) (sym c.in-SelectRequest.is)
     (λ taken. quiet_step IsSelected tables old new state party setting message Nothing step stands taken
     (ap (λ (row : Row). granted_unless row Nothing)
     ((λ i. first_row (select_rows (found_is tables old state party stands i) (record { link = represents.linked i; identity = identity_in (represents.stands i); password = c.in-SelectRequest.password; requested = requested; controls = sym c.attribute_controls.ensures i }) name)) ∙ sym c.in-Ok.ensures ∙ c.in_default-refused.is))
-    c.in-Ok-one_said.ensures represents.moved
+    c.in-Ok-hold_selected.ensures.said represents.moved
     (record {
       linked = represents.linked;
       associated = represents.stands;

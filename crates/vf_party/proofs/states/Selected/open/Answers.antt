@@ -63,7 +63,7 @@ returns-clause-consequence c = λ state party stands represents.
     let selected = c.args.self in
     let selection = selected.selection in
     let made : Open = record { selected = selected; regime = regime } in
-    let step : Step Open = record { state = made; said = c.in-Ok-one_said.said; changes = c.in-Ok-docket_put.changes } in
+    let step : Step Open = record { state = made; said = c.in-Ok-answered.said; changes = c.in-Ok-docket_put.changes } in
     let entry : Entry = entry_of state party setting message Nothing in
     let next = history_by state party setting message Nothing in
     let after = concluded_by state party setting message Nothing in
@@ -99,8 +99,7 @@ returns-clause-consequence c = λ state party stands represents.
     record {
       given = Nothing;
       granted = granting;
-      said = c.in-Ok-one_said.ensures
-          ∙ (λ i. answers.Pdu (OpenResponse None (c.in-Ok-contents_in.ensures i)) ∷ [])
+      said = c.in-Ok-answered.ensures
           ∙ (λ i. answers.Pdu (OpenResponse None (option_map contents_of (file_named (file_in (sym represents.stands i)) (sym stands.kept i).files))) ∷ [])
           ∙ nothing_due party.history setting.serial entry represents.moved;
       next = opens;
