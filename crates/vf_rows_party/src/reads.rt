@@ -120,11 +120,7 @@ fn begun(alloc: Global, tables: &Tables, locks: &mut Locks) -> Result<Step<Readi
 }
 
 /// How much is said at first, and with each of two acknowledgements; and how many changes the end of the read makes.
-fn read_to_the_end(
-    alloc: Global,
-    tables: &Tables,
-    locks: &mut Locks,
-) -> Result<[usize; 4], Fail> {
+fn read_to_the_end(alloc: Global, tables: &Tables, locks: &mut Locks) -> Result<[usize; 4], Fail> {
     let first = begun(alloc, tables, locks)?;
     let second = acknowledged(alloc, first.state, 1, tables, locks)?;
     let third = acknowledged(alloc, second.state, 2, tables, locks)?;
