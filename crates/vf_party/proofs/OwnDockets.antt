@@ -31,7 +31,7 @@ use Rattle.vf_tables.specs.declared.docket.Docket as rows
 use Rattle.vf_tables.specs.declared.tables.Tables.{Tables}
 
 -- one row of others is another of the same open
-row_changed : (first later : List rows.Docket) (old new : rows.Docket) → IsDistinct is_same_open (first ++ old ∷ later)
+pub row_changed : (first later : List rows.Docket) (old new : rows.Docket) → IsDistinct is_same_open (first ++ old ∷ later)
     → new.regime.identity ≡ old.regime.identity → new.regime.activity ≡ old.regime.activity
     → all_docket_changes (first ++ old ∷ later) (first ++ new ∷ later) ++ all_piece_changes (first ++ old ∷ later) (first ++ new ∷ later) ≡ own_changes (old ∷ []) (new ∷ [])
 row_changed first later old new distinct identity activity =

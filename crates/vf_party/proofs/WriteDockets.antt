@@ -60,7 +60,7 @@ module _ (regime : Regime) where
       ++ stages_after regime.identity regime.activity (length pieces)
       ((drop-append-le (length pieces) pieces (piece ∷ []) (omega arith) ∙ ap (λ (rest : List (List Element)). rest ++ piece ∷ []) (drop_all (length pieces) pieces (omega arith))) i))
 
-  piece_cut : (pieces : List (List Element)) (check : ℕ) → check ≤ length pieces
+  pub piece_cut : (pieces : List (List Element)) (check : ℕ) → check ≤ length pieces
       → piece_changes regime pieces (take check pieces) ≡ cond (nat_lt check (length pieces)) (CutStage regime.identity regime.activity check ∷ []) []
   piece_cut pieces check within =
       (λ i. changes_at (common_front check pieces within i) (length pieces) (drop (common_front check pieces within i) (take check pieces)))
@@ -74,7 +74,7 @@ module _ (regime : Regime) where
 
 -- ---- fields
 
-field_put : (before after : Regime) → (before ≡ after → ⊥) → field_changes before after ≡ PutDocket after ∷ []
+pub field_put : (before after : Regime) → (before ≡ after → ⊥) → field_changes before after ≡ PutDocket after ∷ []
 field_put before after differ = by (is_same_regime before after) refl
   where
     by : (b : Bool) → is_same_regime before after ≡ b → cond b [] (PutDocket after ∷ []) ≡ PutDocket after ∷ []

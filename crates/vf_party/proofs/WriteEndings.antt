@@ -11,12 +11,11 @@ use Rattle.vf_filestore.specs.Ending.{cancel_ending, cancel_in, ending_in, endin
 use Rattle.vf_filestore.specs.History.{selection}
 use Rattle.vf_filestore.specs.State.{State, StandingParty, file_in, identity_in}
 use Rattle.vf_filestore.specs.Tables.{operation_of, pieces_of}
-use Rattle.vf_filestore.specs.Transfers.{happened, point, refusal_of, survivors}
+use Rattle.vf_filestore.specs.Transfers.{happened, point, survivors}
 use Rattle.vf_filestore.proofs.Filed.{names_flip}
 use Rattle.vf_filestore.proofs.FileSteps.{IsOtherFile}
 use Rattle.vf_filestore.proofs.FilesMoved.{none_named}
 use Rattle.vf_filestore.proofs.Unchanged.{files_themselves}
-use Rattle.vf_regime_effects.specs.Meanings.{given_of_writing}
 use Rattle.vf_regime_refusals.specs.Asked.{stamp_by}
 use Rattle.vf_party.specs.Dockets.{docket_with, fields_of, no_transfer, own_changes}
 use Rattle.vf_party.specs.Erasures.{changes_between}
@@ -65,14 +64,14 @@ module _ (tables : Tables) (locks : HoldersOfFiles) (state : State) (party : Sta
       let opened = represents.opened in
       let values : survivors party.history ≡ writing.received.values = sym (represents.received.values ∙ (λ i. transfer.survivors (represents.counted i) (happened party.history))) in
       ap (ending_in state party (stamp_of party moment)) represents.moved
-      ∙ (λ i. ending_unless (refusal_of (given_of_writing writing.given)) (cond (was_given_up (represents.ended i)) (unchanged (Some (plain cancelled)))
+      ∙ (λ i. ending_unless (represents.earned.refusal i) (cond (was_given_up (represents.ended i)) (unchanged (Some (plain cancelled)))
       (write_of (stands.kept i).files (record { moment = moment; identity = identity_in (opened.associated i) }) (file_named (file_in (opened.selected i)) (stands.kept i).files) (opened.placed i) writing.operation writing.fadu (values i))))
 
   pub cancelled_is : cancel_ending state party moment ≡ cancel_by tables.files stamp writing (offered writing.received.checks) (transfer.front 0 (happened party.history))
   cancelled_is =
       let opened = represents.opened in
       ap (cancel_in state party (stamp_of party moment)) represents.moved
-      ∙ (λ i. in_silence (ending_unless (refusal_of (given_of_writing writing.given)) (cond (nat_eq (sym offered_point i) 0) (unchanged None)
+      ∙ (λ i. in_silence (ending_unless (represents.earned.refusal i) (cond (nat_eq (sym offered_point i) 0) (unchanged None)
       (in_silence (write_of (stands.kept i).files (record { moment = moment; identity = identity_in (opened.associated i) }) (file_named (file_in (opened.selected i)) (stands.kept i).files) (opened.placed i) writing.operation writing.fadu
       (transfer.front 0 (happened party.history)))))))
 

@@ -18,7 +18,7 @@ use Rattle.vf_filestore.specs.Replies.{replies}
 use Rattle.vf_filestore.specs.Sound.{IsNested}
 use Rattle.vf_filestore.specs.Stage.{regime_stage}
 use Rattle.vf_filestore.specs.State.{Docket, State, StandingParty, activity_in, activity_of, identity_in, with_party}
-use Rattle.vf_filestore.specs.Tables.{direction_of, fadu_of, pieces_of, point_of, refused_of, row_of, staged_of, tables_of, version_of}
+use Rattle.vf_filestore.specs.Tables.{direction_of, fadu_of, pieces_of, point_of, refused_in, refused_of, row_of, staged_of, tables_of, version_of}
 use Rattle.vf_filestore.specs.Transfers.{Transfer, Writes, point, under_way}
 use Rattle.vf_filestore.proofs.Decisions.{party_sound}
 use Rattle.vf_filestore.proofs.Unchanged.{files_themselves}
@@ -54,13 +54,13 @@ rows_alone party = by (activity_of party)
 
 -- where the last message secures it
 pub left_then : (writing : Writing) (link : ℕ) (history : History) → IsNested history → IsOpened writing.regimes link history → retained history ≡ since_selection history
-    → under_way history ≡ Some (record { movement = Writes writing.operation writing.fadu; given = given_of_writing writing.given })
+    → (given : Given) → under_way history ≡ Some (record { movement = Writes writing.operation writing.fadu; given = given }) → refused_in given ≡ refused_in (given_of_writing writing.given)
     → rows_by link history ≡ docket_with (fields_at writing (point history)) (pieces_of history)
-left_then writing link history nested opened all moved =
+left_then writing link history nested opened all given moved number =
     rows_opened writing.regimes (party_with link history) (moving_of writing.operation writing.fadu writing.given (point history)) (pieces_of history) nested opened all (record {
       directed = ap direction_of moved;
       named = ap fadu_of moved;
-      refused = ap refused_of moved;
+      refused = ap refused_of moved ∙ number;
       pointed = ap (point_of history) moved;
       versioned = ap version_of moved;
       staged = ap (staged_of history) moved;
@@ -124,7 +124,7 @@ module _ (tables : Tables) (locks : HoldersOfFiles) (state : State) (party : Sta
       → (IsHeldAfter state party message later → IsAsBefore state later) → Concludes IsWriting tables locks state party setting message step
   goes_on was step stands taken granted said next same opened associated becomes rows_was changes held =
       let due : with_due party.history setting.serial replied ≡ replied
-      = none_due party.history setting.serial replied step.state.operation step.state.fadu (given_of_writing step.state.given) next.moved in
+      = none_due party.history setting.serial replied step.state.operation step.state.fadu next.given next.moved in
       let entry : concluding_entry state party setting message given ≡ replied = (λ i. with_due (same i) setting.serial replied) ∙ due in
       let history : whole ≡ replied ∷ party.history = λ i. entry i ∷ same i in
       let is = docket_with (fields_at step.state (point (replied ∷ party.history))) (pieces_of (replied ∷ party.history)) in

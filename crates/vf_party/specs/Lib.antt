@@ -13,6 +13,7 @@ pub mod Moving
 pub mod Openings
 pub mod Quiets
 pub mod Reads
+pub mod Recoveries
 pub mod Refusals
 pub mod Regimes
 pub mod Renames

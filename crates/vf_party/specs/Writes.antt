@@ -10,7 +10,7 @@ use Rattle.vf_files.specs.Files.{file_named}
 use Rattle.vf_filestore.specs.Diagnostics.{plain, cancelled}
 use Rattle.vf_filestore.specs.Dockets.{docket_left_by}
 use Rattle.vf_filestore.specs.Ending.{Ending, ending_unless, in_silence, unchanged, was_given_up, write_of}
-use Rattle.vf_filestore.specs.History.{History}
+use Rattle.vf_filestore.specs.History.{Given, History}
 use Rattle.vf_filestore.specs.State.{StandingParty}
 use Rattle.vf_filestore.specs.Tables.{operation_of, pieces_of, refused_in, row_of}
 use Rattle.vf_filestore.specs.Transfers.{Writes, data_end, happened, last_check, point, refusal_of, start, survivors, under_way}
@@ -57,11 +57,18 @@ party_with link history = record { link = link; trace = []; history = history }
 abbrev pub rows_by : (link : ℕ) → History → List Docket
 rows_by link history = flat_map row_of (docket_left_by (party_with link history))
 
+-- A write was given this, but for the file's version, which a docket doesn't keep of it.
+pub record IsGivenAs (writing : requests.Writing) (given : Given) : Type 0 where
+  pub refusal : refusal_of given ≡ refusal_of (given_of_writing writing)
+  pub number : refused_in given ≡ refused_in (given_of_writing writing)
+
 -- Each check is acknowledged at once, so that the last one is the point. The docket retains what it would be left with
 -- now: a value joins it by the next check.
 pub record IsWriting (writing : Writing) (link : ℕ) (history : History) : Type 0 where
   pub opened : IsOpened writing.regimes link history
-  pub moved : under_way history ≡ Some (record { movement = Writes writing.operation writing.fadu; given = given_of_writing writing.given })
+  pub given : Given
+  pub moved : under_way history ≡ Some (record { movement = Writes writing.operation writing.fadu; given = given })
+  pub earned : IsGivenAs writing.given given
   pub counted : writing.received.checks.start ≡ 0
   pub received : RepresentsReceived writing.received (happened history)
   pub acknowledged : point history ≡ last_check history

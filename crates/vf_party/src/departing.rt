@@ -3,9 +3,9 @@ ghost use Rattle.std.specs.Prelude.{[], ◌∷◌};
 ghost use Rattle.vf_elements.specs.declared.message.Said.TheVariants as answers;
 ghost use Rattle.vf_party.specs.Turns.{EndsSaying, IsEnded};
 
+use crate::Said;
 use crate::party::{Outcome, Party, PartyState};
 use crate::step::one_said;
-use crate::Said;
 use std::alloc::Global;
 use vf_base::NoMemory;
 use vf_locks::Locks;

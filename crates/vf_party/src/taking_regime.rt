@@ -46,7 +46,9 @@ pub(crate) fn take_own(
         return Ok(grouped(alloc, quiet, threshold));
     }
     match quiet {
-        Quiet::Associated(associated) => return take_associated(associated, alloc, request, setting, tables, locks),
+        Quiet::Associated(associated) => return take_associated(
+            associated, alloc, request, setting, tables, locks,
+        ),
         Quiet::Selected(_) => unreachable!(),
         Quiet::Open(regimes) => return take_open(regimes, alloc, request, setting, tables, locks),
     }
@@ -125,27 +127,19 @@ fn take_open(
     } = setting;
     match request {
         request @ Pdu::LocateRequest { .. } => {
-            let answer = regimes.locate(
-                alloc, request, moment, serial, token, sync, tables, locks,
-            );
+            let answer = regimes.locate(alloc, request, moment, serial, token, sync, tables, locks);
             return concluded(alloc, 28, answer, locks);
         }
         request @ Pdu::EraseRequest { .. } => {
-            let answer = regimes.erase(
-                alloc, request, moment, serial, token, sync, tables, locks,
-            );
+            let answer = regimes.erase(alloc, request, moment, serial, token, sync, tables, locks);
             return concluded(alloc, 30, answer, locks);
         }
         request @ Pdu::ReadRequest { .. } => {
-            let answer = regimes.read(
-                alloc, request, moment, serial, token, sync, tables, locks,
-            );
+            let answer = regimes.read(alloc, request, moment, serial, token, sync, tables, locks);
             return concluded(alloc, 32, answer, locks);
         }
         request @ Pdu::WriteRequest { .. } => {
-            let answer = regimes.write(
-                alloc, request, moment, serial, token, sync, tables, locks,
-            );
+            let answer = regimes.write(alloc, request, moment, serial, token, sync, tables, locks);
             return concluded(alloc, 33, answer, locks);
         }
         _ => unreachable!(),

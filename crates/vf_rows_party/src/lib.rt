@@ -8,6 +8,8 @@ mod changes;
 #[cfg(test)]
 mod reads;
 #[cfg(test)]
+mod recoveries;
+#[cfg(test)]
 mod steps;
 #[cfg(test)]
 mod writes;

@@ -75,7 +75,7 @@ fn tables_with(alloc: Global, changes: Changes) -> Result<Tables, Fail> {
 }
 
 /// How many hold the file `a`.
-fn holders(alloc: Global, locks: &Locks) -> Result<usize, BaseError> {
+pub(crate) fn holders(alloc: Global, locks: &Locks) -> Result<usize, BaseError> {
     let name = Name::of(alloc, b"a")?;
     Ok(locks.holders(&name).len())
 }

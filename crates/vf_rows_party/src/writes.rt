@@ -31,7 +31,11 @@ fn opened(alloc: Global, tables: &mut Tables, locks: &mut Locks) -> Result<Open,
 }
 
 /// The replacement of the whole file, under way.
-fn begun(alloc: Global, tables: &mut Tables, locks: &mut Locks) -> Result<Writing, Fail> {
+pub(crate) fn begun(
+    alloc: Global,
+    tables: &mut Tables,
+    locks: &mut Locks,
+) -> Result<Writing, Fail> {
     let state = opened(alloc, tables, locks)?;
     let request = Pdu::WriteRequest {
         operation: WriteOperation::Replace,
@@ -45,7 +49,7 @@ fn begun(alloc: Global, tables: &mut Tables, locks: &mut Locks) -> Result<Writin
 }
 
 /// One more value, of three octets.
-fn with_value(
+pub(crate) fn with_value(
     alloc: Global,
     state: Writing,
     tables: &mut Tables,
@@ -60,7 +64,7 @@ fn with_value(
     }
 }
 
-fn checked(
+pub(crate) fn checked(
     alloc: Global,
     state: Writing,
     tables: &mut Tables,

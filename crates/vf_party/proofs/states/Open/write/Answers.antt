@@ -67,14 +67,16 @@ returns-clause-consequence c = λ state party stands represents.
     (λ taken. goes_on c.args.tables.now c.args.locks.now state party setting message (given_of_writing given) was step stands taken (ap Grants granted) c.new-2.ensures.items
     (record {
       opened = opened_now;
+      given = given_of_writing given;
       moved = refl;
+      earned = record { refusal = refl; number = refl };
       counted = c.new.ensures.start;
       received = c.new.ensures.represents;
       acknowledged = refl;
       started = refl;
       ended = refl;
       left = left_then after party.link (entry ∷ party.history) (nested_with c.args.tables.now c.args.locks.now state party setting message (given_of_writing given) stands taken) opened_now
-          (retained_secured entry party.history refl) refl;
+          (retained_secured entry party.history refl) (given_of_writing given) refl refl;
       weighed = refl;
     })
     refl refl refl refl

@@ -54,7 +54,9 @@ returns-clause-consequence c = λ state party stands represents taken.
     (c.in-Ok-one_said.ensures ∙ (λ i. answers.Acknowledge (next i) ∷ []))
     (record {
       opened = opened_now;
+      given = represents.given;
       moved = represents.moved;
+      earned = represents.earned;
       counted = c.in-Ok-check.ensures.start ∙ represents.counted;
       received = subst (λ (n : ℕ). RepresentsReceived c.check.new.self (transfer.Acknowledgement (n + 1) ∷ transfer.Check ∷ entries)) (offered_is before.received.checks entries represents.counted represents.received.checks)
           (c.in-Ok-check.ensures.ok entries represents.received);
@@ -62,7 +64,7 @@ returns-clause-consequence c = λ state party stands represents taken.
       started = represents.started;
       ended = represents.ended;
       left = left_then after party.link (entry ∷ history) (nested_with c.args.tables.now c.args.locks.now state party setting messages.Check Nothing stands taken) opened_now
-          (retained_secured entry history refl) represents.moved;
+          (retained_secured entry history refl) represents.given represents.moved represents.earned.number;
       weighed = weighed_checked entries (last_check history + 1) ∙ represents.weighed;
     })
     refl refl refl refl (rows_alone party ∙ represents.left)

@@ -9,7 +9,6 @@ use Rattle.vf_filestore.specs.Tables.{pieces_of}
 use Rattle.vf_filestore.specs.Transfers.{Writes, point}
 use Rattle.vf_pdu.specs.declared.pdu.Pdu.{Pdu}
 use Rattle.vf_pdu.specs.declared.pdu.Pdu.TheVariants.{DataEnd}
-use Rattle.vf_regime_effects.specs.Meanings.{given_of_writing}
 use Rattle.vf_party.specs.Dockets.{docket_with}
 use Rattle.vf_party.specs.Steps.{Concludes}
 use Rattle.vf_party.specs.Writes.{IsWriting, fields_at}
@@ -29,8 +28,8 @@ returns-clause-consequence c = λ state party stands represents.
     let was = docket_with (fields_at before (point party.history)) (pieces_of party.history) in
     let opened = represents.opened in
     let entry = entry_of state party setting message Nothing in
-    let left = left_as party.link entry party.history (record { movement = Writes before.operation before.fadu; given = given_of_writing before.given })
-    (record { movement = Writes before.operation before.fadu; given = given_of_writing before.given }) refl represents.moved represents.moved refl refl in
+    let left = left_as party.link entry party.history (record { movement = Writes before.operation before.fadu; given = represents.given })
+    (record { movement = Writes before.operation before.fadu; given = represents.given }) refl represents.moved represents.moved refl refl in
     subst (λ (r : Pdu). takes (regime_stage party.history) (messages.Pdu r) ≡ true → Concludes IsWriting c.args.tables.now c.args.locks.now state party setting (messages.Pdu r) step) (sym c.in-DataEnd.is)
     (λ taken. goes_on c.args.tables.now c.args.locks.now state party setting message Nothing was step stands taken refl c.new.ensures.items
     (record {
@@ -44,7 +43,9 @@ returns-clause-consequence c = λ state party stands represents.
         counted = opened.counted;
         ended = opened.ended;
       };
+      given = represents.given;
       moved = represents.moved;
+      earned = represents.earned;
       counted = represents.counted;
       received = represents.received;
       acknowledged = represents.acknowledged;

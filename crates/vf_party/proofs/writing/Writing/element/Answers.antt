@@ -5,7 +5,6 @@ use Rattle.vf_filestore.specs.Conclusion.{entry_of}
 use Rattle.vf_filestore.specs.History.{Nothing}
 use Rattle.vf_filestore.specs.Tables.{pieces_of}
 use Rattle.vf_filestore.specs.Transfers.{Writes, happened, point}
-use Rattle.vf_regime_effects.specs.Meanings.{given_of_writing}
 use Rattle.vf_tree.specs.FileTree.{octets_of}
 use Rattle.vf_party.specs.Dockets.{docket_with}
 use Rattle.vf_party.specs.Writes.{fields_at}
@@ -26,8 +25,8 @@ returns-clause-consequence c = λ state party stands represents taken.
     let was = docket_with (fields_at before (point party.history)) (pieces_of party.history) in
     let opened = represents.opened in
     let entry = entry_of state party setting message Nothing in
-    let left = left_as party.link entry party.history (record { movement = Writes before.operation before.fadu; given = given_of_writing before.given })
-    (record { movement = Writes before.operation before.fadu; given = given_of_writing before.given }) refl represents.moved represents.moved refl refl in
+    let left = left_as party.link entry party.history (record { movement = Writes before.operation before.fadu; given = represents.given })
+    (record { movement = Writes before.operation before.fadu; given = represents.given }) refl represents.moved represents.moved refl refl in
     goes_on c.args.tables.now c.args.locks.now state party setting message Nothing was step stands taken refl c.new.ensures.items
     (record {
       opened = record {
@@ -40,7 +39,9 @@ returns-clause-consequence c = λ state party stands represents taken.
         counted = opened.counted;
         ended = opened.ended;
       };
+      given = represents.given;
       moved = represents.moved;
+      earned = represents.earned;
       counted = (λ i. (c.in-Ok.ensures.checks i).start) ∙ represents.counted;
       received = c.in-Ok.ensures.ok (happened party.history) represents.received;
       acknowledged = represents.acknowledged;

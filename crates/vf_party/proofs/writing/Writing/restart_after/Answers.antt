@@ -47,14 +47,16 @@ returns-clause-consequence c = λ state party stands represents taken.
     (goes_on c.args.tables.now c.args.locks.now state party setting message Nothing was step stands taken refl back.said
     (record {
       opened = opened_now;
+      given = represents.given;
       moved = represents.moved;
+      earned = represents.earned;
       counted = back.counted ∙ represents.counted;
       received = back.received entries represents.received;
       acknowledged = acknowledged_back entries represents.acknowledged check within;
       started = represents.started;
       ended = refl;
       left = left_then after party.link (entry ∷ history) (nested_with c.args.tables.now c.args.locks.now state party setting message Nothing stands taken) opened_now
-          (retained_secured entry history refl) represents.moved;
+          (retained_secured entry history refl) represents.given represents.moved represents.earned.number;
       weighed = back.weighed entries represents.received;
     })
     refl refl refl refl (rows_alone party ∙ represents.left)
