@@ -11,8 +11,8 @@ pub mod DocketChanges
 pub mod Dues
 pub mod Erasures
 pub mod FileChanges
-pub mod GroupEnds
 pub mod FoundDockets
+pub mod GroupEnds
 pub mod Heard
 pub mod Kept
 pub mod Locations
@@ -30,13 +30,13 @@ pub mod Restarts
 pub mod ResumedAt
 pub mod Retained
 pub mod Rows
-pub mod Trials
 pub mod ShownAgain
 pub mod TakenDockets
 pub mod TakenOpen
 pub mod TakenRead
 pub mod TakenUp
 pub mod TakenWrite
+pub mod Trials
 pub mod Turning
 pub mod Unopposed
 pub mod WriteDockets
