@@ -57,6 +57,7 @@ use Rattle.vf_tables.specs.declared.docket.Operation.{Operation}
 use Rattle.vf_tables.specs.declared.tables.Tables.{Tables}
 use Rattle.vf_transfer.specs.Checks.{Receiver, RepresentsReceived}
 use Rattle.vf_transfer.specs.Transfer as transfer
+use Rattle.vf_tree.specs.FileTree.{octets_of_unit}
 use Rattle.vf_transfer.specs.Transfer.{NamesKnownChecks, standing}
 use Rattle.vf_transfer.proofs.Recovered.{point_stands}
 
@@ -179,6 +180,7 @@ module _ (tables : Tables) (old : HoldersOfFiles) (state : State) (party : Stand
     fadu = row.regime.fadu;
     given = given_by row.regime.refused;
     received = received;
+    octets = octets_of_unit received.values;
     start = min check row.regime.point;
     ended = None;
   }
@@ -249,6 +251,7 @@ module _ (tables : Tables) (old : HoldersOfFiles) (state : State) (party : Stand
         ended = refl;
         left = left_then writing party.link replied (subst IsNested history_is (up.nested tables old state party self stands represents setting activity number check row is given)) opened
             (retained_secured entry earlier refl) own.given moves given_is.number;
+        weighed = ap octets_of_unit (ap (λ start. transfer.survivors start (happened replied)) (sym filled.counted) ∙ sym represents_all.values);
       }
 
   -- the row is cut to the check

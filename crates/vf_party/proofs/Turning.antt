@@ -26,6 +26,7 @@ use Rattle.vf_filestore.specs.Transition.{answered, associates, met, with_messag
 use Rattle.vf_filestore.specs.Transition.{leaves as leaves_with}
 use Rattle.vf_locks.specs.Table.{IsAsBefore}
 use Rattle.vf_party.specs.Answers.{GoesOn, IsAnswered}
+use Rattle.vf_party.specs.Recoveries.{IsKeptStep}
 use Rattle.vf_party.specs.Refusals.{refusal_numbered}
 use Rattle.vf_party.specs.Steps.{Concludes, HoldersOfFiles, IsStep, MeetsStep, Represents, StandsIn}
 use Rattle.vf_party.specs.Turns.{ComesOn, ComesTo, EndsSaying, IsAlone, IsEnded, IsNext, IsOutcomeOf, IsParty, IsRefused, IsTaken, IsTurnIn, IsTurnOf}
@@ -219,9 +220,9 @@ module _ {Old New : Type 0} (represents : Represents Old) (after : Represents Ne
     (unbarred : (party : StandingParty) → represents self party.link party.history → first_abort (all_aborts party setting message) ≡ None)
     (ungrouped : (trace : List Message) → pending trace ≡ None → pending (message ∷ trace) ≡ None) (stays : associates message ≡ false)
     (number : ℕ) (refusal_is : (diagnostic : Diagnostic) → refusal diagnostic message ≡ refusal_numbered number diagnostic) where
-  pub step_turn : (answer : Result (Step New) (Old × StepError)) (result : Result Outcome (Party × NoMemory)) → IsStep represents after tables old mid self setting message answer
+  pub kept_step_turn : (answer : Result (Step New) (Old × StepError)) (result : Result Outcome (Party × NoMemory)) → IsKeptStep represents after tables old mid self setting message answer
       → IfErr answer (λ back. back.0 ≡ self) → ComesTo after back next number mid new answer result → IsTurnOf represents back tables old new self setting message result
-  step_turn answer result step kept comes state party stands alone =
+  kept_step_turn answer result step kept comes state party stands histories alone =
       let takes_it = ap (λ stage. takes stage message) (staged party alone.represented) ∙ taken in
       let asked : IsAsked state party setting message = record {
         alone = alone.alone;
@@ -230,7 +231,12 @@ module _ {Old New : Type 0} (represents : Represents Old) (after : Represents Ne
         unaborted = unbarred party alone.represented;
       } in
       turn_of represents after back next enters_back enters tables old mid new self setting message number refusal_is stays state party stands alone asked answer result
-      (step state party stands alone.represented takes_it) kept comes
+      (step state party stands histories alone.represented takes_it) kept comes
+
+  pub step_turn : (answer : Result (Step New) (Old × StepError)) (result : Result Outcome (Party × NoMemory)) → IsStep represents after tables old mid self setting message answer
+      → IfErr answer (λ back. back.0 ≡ self) → ComesTo after back next number mid new answer result → IsTurnOf represents back tables old new self setting message result
+  step_turn answer result step kept comes =
+      kept_step_turn answer result (λ state party stands histories represents taken. step state party stands represents taken) kept comes
 
 -- what a party with an association is, and one with an open file
 abbrev pub associated_party : Associated → Party

@@ -9,6 +9,7 @@ use Rattle.vf_filestore.specs.Aborts.{Setting}
 use Rattle.vf_filestore.specs.Conclusion.{has_abort}
 use Rattle.vf_filestore.specs.Decision.{decision}
 use Rattle.vf_filestore.specs.History.{History}
+use Rattle.vf_filestore.specs.Keeping.{AreHistoriesKept}
 use Rattle.vf_filestore.specs.HoldersAfter.{Keeps}
 use Rattle.vf_filestore.specs.Records.{changes_where}
 use Rattle.vf_filestore.specs.Stage.{pending}
@@ -108,7 +109,7 @@ EndsSaying represents party self said old new (Err (back, error)) = (back ≡ pa
 -- what a party outside of a group owes to a message
 abbrev pub IsTurnOf : {S : Type 0} → Represents S → (S → Party) → Tables → (before after : HoldersOfFiles) → S → Setting → Message → Result Outcome (Party × NoMemory) → Type 0
 IsTurnOf represents party_of tables old new self setting message result =
-    (state : State) (party : StandingParty) → StandsIn tables old state party → IsAlone represents self party
+    (state : State) (party : StandingParty) → StandsIn tables old state party → AreHistoriesKept state → IsAlone represents self party
     → IsTurnIn tables old new (party_of self) state party setting message result
 
 -- a group begins: nothing is said
@@ -120,7 +121,7 @@ pub record IsBegun (quiet : Quiet) (threshold : ℕ) (outcome : Outcome) : Type 
 -- what a party in a group owes to a message
 abbrev pub IsTurnInGroup : Tables → (before after : HoldersOfFiles) → Grouping → Setting → Message → Result Outcome (Party × NoMemory) → Type 0
 IsTurnInGroup tables old new grouping setting message result =
-    (state : State) (party : StandingParty) → StandsIn tables old state party → IsGrouped grouping party
+    (state : State) (party : StandingParty) → StandsIn tables old state party → AreHistoriesKept state → IsGrouped grouping party
     → IsTurnIn tables old new (parties.Grouping grouping) state party setting message result
 
 -- a party whose group is still pending is one of its regimes

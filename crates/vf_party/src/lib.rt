@@ -39,7 +39,6 @@ mod selected;
 mod setting;
 mod states;
 mod step;
-mod taking_grouping;
 mod taking_idle;
 mod taking_quiet;
 mod taking_reading;

@@ -106,6 +106,14 @@ impl Received {
         marks[place]
     }
 
+    /// The octets of the strings of all values. More than 18,446,744,073,709,551,615 want memory.
+    pub(crate) fn octets(&self) -> Result<u64, NoMemory>
+        ensures { IfOk result (λ octets. octets ≡ octets_of_unit self.now.values) }
+    {
+        let octets = octets_in(self.receiving.values())?;
+        Ok(octets)
+    }
+
     /// All values.
     pub(crate) fn values(&self) -> &[Element]
         ensures { result.now ≡ self.now.values }

@@ -306,6 +306,9 @@ impl Associated {
         let Ok(received) = refilled(alloc, first_pieces(&docket.staged, check)) else {
             return Err(self);
         };
+        let Ok(octets) = received.octets() else {
+            return Err(self);
+        };
         let Ok(changes) = cut_to(alloc, &docket.regime, check) else {
             return Err(self);
         };
@@ -318,6 +321,7 @@ impl Associated {
             fadu: docket.regime.fadu,
             given: given_by(docket.regime.refused),
             received,
+            octets,
             start: check,
             ended: None,
         };

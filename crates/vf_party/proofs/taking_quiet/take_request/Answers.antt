@@ -18,7 +18,7 @@ use Rattle.vf_party.proofs.Turning.{barred_turn, ended_turn, leaves, step_turn, 
 use Rattle.vf_party.proofs.taking_quiet.take_request.Goals as goal
 
 pub returns-in-Some : goal.returns-in-Some
-returns-in-Some c = λ state party stands alone.
+returns-in-Some c = λ state party stands histories alone.
     let message = messages.Pdu c.args.request in
     barred_turn IsQuiet parties.Quiet c.args.tables.now c.args.locks.now c.aborted.new.locks c.args.quiet (setting_of c.args.setting) message state party stands alone c.in-Some.number c.aborted.result
     (ap (λ stage. takes stage message) (quiet_stage c.args.quiet party alone.represented) ∙ c.requires)
@@ -36,7 +36,7 @@ returns-then-is_item c =
     c.take_item-answer.result c.concluded.result c.take_item-answer.ensures.consequence c.take_item-answer.ensures.kept c.concluded.ensures
 
 pub returns-then-is_leaving : goal.returns-then-is_leaving
-returns-then-is_leaving c = λ state party stands alone.
+returns-then-is_leaving c = λ state party stands histories alone.
     let setting = setting_of c.args.setting in
     let message = messages.Pdu c.args.request in
     let taken = ap (λ stage. takes stage message) (quiet_stage c.args.quiet party alone.represented) ∙ c.requires in

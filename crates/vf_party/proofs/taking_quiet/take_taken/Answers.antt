@@ -15,7 +15,7 @@ use Rattle.vf_party.proofs.Turning.{ended_turn, leaves, unbarred_decides}
 use Rattle.vf_party.proofs.taking_quiet.take_taken.Goals as goal
 
 pub returns : goal.returns
-returns c = λ state party stands alone.
+returns c = λ state party stands histories alone.
     let setting = setting_of c.args.setting in
     let message = c.args.message in
     let taken = ap (λ stage. takes stage message) (quiet_stage c.args.quiet party alone.represented) ∙ c.requires in

@@ -10,12 +10,12 @@ use Rattle.vf_party.proofs.Turning.{barred_turn, untaken_turn}
 use Rattle.vf_party.proofs.taking_reading.take_reading.Goals as goal
 
 pub returns-then-not-takes : goal.returns-then-not-takes
-returns-then-not-takes c = λ state party stands alone.
+returns-then-not-takes c = λ state party stands histories alone.
     untaken_turn IsReading parties.Reading c.args.tables.now c.args.locks.now c.aborted.new.locks c.args.reading (setting_of c.args.setting) c.args.message state party stands alone c.aborted.result
     (ap (λ stage. takes stage c.args.message) (reading_stage c.args.reading party.link party.history alone.represented ∙ sym c.stage.ensures) ∙ sym c.takes.ensures ∙ c.if-not-takes.true) c.aborted.ensures
 
 pub returns-in-Some : goal.returns-in-Some
-returns-in-Some c = λ state party stands alone.
+returns-in-Some c = λ state party stands histories alone.
     let setting = setting_of c.args.setting in
     let taken = ap (λ stage. takes stage c.args.message) (sym c.stage.ensures) ∙ sym c.takes.ensures ∙ c.if-not-takes.false in
     barred_turn IsReading parties.Reading c.args.tables.now c.args.locks.now c.aborted-in-Some.new.locks c.args.reading setting c.args.message state party stands alone c.in-Some.number c.aborted-in-Some.result

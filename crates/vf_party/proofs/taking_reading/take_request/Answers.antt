@@ -67,7 +67,7 @@ returns-in-CancelRequest c =
     c.cancel-answer.result c.concluded-in-CancelRequest.result (subst (λ (request : Pdu). IsStep IsReading IsOpen c.args.tables.now c.args.locks.now c.cancel-answer.new.locks c.args.reading setting (messages.Pdu request) c.cancel-answer.result) c.in-CancelRequest.is c.cancel-answer.ensures.consequence) c.cancel-answer.ensures.kept c.concluded-in-CancelRequest.ensures)
 
 pub returns-in-UserAbort : goal.returns-in-UserAbort
-returns-in-UserAbort c = λ state party stands alone.
+returns-in-UserAbort c = λ state party stands histories alone.
     let setting = setting_of c.args.setting in
     let message = messages.Pdu c.args.request in
     let taken = ap (λ stage. takes stage message) (reading_stage c.args.reading party.link party.history alone.represented) ∙ c.requires.taken in
@@ -80,7 +80,7 @@ returns-in-UserAbort c = λ state party stands alone.
     c.ended.ensures
 
 pub returns-in-ProviderAbort : goal.returns-in-ProviderAbort
-returns-in-ProviderAbort c = λ state party stands alone.
+returns-in-ProviderAbort c = λ state party stands histories alone.
     let setting = setting_of c.args.setting in
     let message = messages.Pdu c.args.request in
     let taken = ap (λ stage. takes stage message) (reading_stage c.args.reading party.link party.history alone.represented) ∙ c.requires.taken in

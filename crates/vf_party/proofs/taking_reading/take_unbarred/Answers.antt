@@ -46,7 +46,7 @@ returns-in-Restart c =
     c.restart-answer.result c.concluded-in-Restart.result c.restart-answer.ensures.session c.restart-answer.ensures.kept c.concluded-in-Restart.ensures)
 
 pub returns : goal.returns
-returns c = λ state party stands alone.
+returns c = λ state party stands histories alone.
     let setting = setting_of c.args.setting in
     let message = c.args.message in
     let taken = ap (λ stage. takes stage message) (reading_stage c.args.reading party.link party.history alone.represented) ∙ c.requires.taken in

@@ -18,7 +18,7 @@ use Rattle.vf_party.proofs.Turning.{associated_party, ends, saying_turn, unbarre
 use Rattle.vf_party.proofs.taking_regime.take_associated.Goals as goal
 
 pub returns-in-TerminateRequest : goal.returns-in-TerminateRequest
-returns-in-TerminateRequest c = λ state party stands alone.
+returns-in-TerminateRequest c = λ state party stands histories alone.
     let setting = setting_of c.args.setting in
     let message = messages.Pdu c.args.request in
     let quiet = quiets.Associated c.args.associated in

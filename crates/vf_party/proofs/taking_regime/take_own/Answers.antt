@@ -13,7 +13,7 @@ use Rattle.vf_party.proofs.Turning.{unbarred_decides, waits_turn}
 use Rattle.vf_party.proofs.taking_regime.take_own.Goals as goal
 
 pub returns-in-BeginGroupRequest : goal.returns-in-BeginGroupRequest
-returns-in-BeginGroupRequest c = λ state party stands alone.
+returns-in-BeginGroupRequest c = λ state party stands histories alone.
     let message = messages.Pdu c.args.request in
     let taken = ap (λ stage. takes stage message) (quiet_stage c.args.quiet party alone.represented) ∙ c.requires.taken in
     let unbarred = ap first_abort (quiet_bars party (setting_of c.args.setting) c.args.quiet c.args.request alone.represented c.requires.taken) ∙ c.requires.unbarred in

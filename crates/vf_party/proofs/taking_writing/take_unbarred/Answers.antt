@@ -60,7 +60,7 @@ returns-in-Restart c =
     c.restart_after-answer.result c.concluded-in-Restart.result c.restart_after-answer.ensures.consequence c.restart_after-answer.ensures.kept c.concluded-in-Restart.ensures)
 
 pub returns : goal.returns
-returns c = λ state party stands alone.
+returns c = λ state party stands histories alone.
     let setting = setting_of c.args.setting in
     let message = c.args.message in
     let taken = ap (λ stage. takes stage message) (writing_stage c.args.writing party.link party.history alone.represented) ∙ c.requires.taken in

@@ -30,6 +30,7 @@ returns-clause-consequence c = λ state party stands kept represents taken asked
       fadu = row.regime.fadu;
       given = c.given_by.result;
       received = received;
+      octets = c.in-Ok-octets.octets;
       start = check;
       ended = None;
     } in
@@ -44,6 +45,7 @@ returns-clause-consequence c = λ state party stands kept represents taken asked
       fadu = row.regime.fadu;
       given = c.given_by.ensures i;
       received = received;
+      octets = c.in-Ok-octets.ensures i;
       start = c.min-check.ensures i;
       ended = None;
     })
