@@ -11,6 +11,7 @@ pub mod Dues
 pub mod Erasures
 pub mod FileChanges
 pub mod GroupEnds
+pub mod GroupTurns
 pub mod Heard
 pub mod Kept
 pub mod Locations

@@ -38,6 +38,7 @@ mod selected;
 mod setting;
 mod states;
 mod step;
+mod taking_group;
 mod taking_quiet;
 mod taking_regime;
 mod trying;
