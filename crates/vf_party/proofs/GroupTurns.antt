@@ -1,6 +1,5 @@
 -- What a party in a group that isn't ended owes to a message.
-use Rattle.std.proofs.Common.{◌≡◌, ℕ, Bool, true, false, cond, List, [], ◌∷◌, ◌++◌, is_some, length, Option, None, Some, option_map, Result, Ok, Err, refl, ap, sym, subst, ◌∙◌, nat_le, nat_eq}
-use Rattle.std.specs.List.{AllByRecursion}
+use Rattle.std.proofs.Common.{◌≡◌, Bool, true, false, cond, List, [], ◌∷◌, ◌++◌, is_some, length, Option, option_map, Result, Ok, Err, refl, ap, sym, subst, ◌∙◌, nat_le}
 use Rattle.vf_base.specs.declared.errors.NoMemory.{NoMemory}
 use Rattle.vf_elements.specs.Stages.{takes}
 use Rattle.vf_elements.specs.declared.message.Message.{Message}
@@ -9,28 +8,24 @@ use Rattle.vf_elements.specs.declared.message.Said.{Said}
 use Rattle.vf_elements.specs.declared.message.Said.TheVariants as answers
 use Rattle.vf_elements.specs.declared.stage.Stage.TheVariants as stages
 use Rattle.vf_filestore.specs.Aborts.{Setting}
-use Rattle.vf_filestore.specs.Decision.{Decision, Aborts, Waits, Groups, Leaves, decision, decision_in, grouped_decision, grouped_request, item_decision}
+use Rattle.vf_filestore.specs.Decision.{Decision, Aborts, Waits, Leaves, decision, decision_in, grouped_decision, grouped_request, item_decision}
 use Rattle.vf_filestore.specs.Diagnostics.{wrong_state}
 use Rattle.vf_filestore.specs.HoldersAfter.{hearing}
 use Rattle.vf_filestore.specs.Limits.{most_items}
-use Rattle.vf_filestore.specs.Records.{changes_where}
 use Rattle.vf_filestore.specs.Stage.{Group, grouping, pending, regime_stage, stage, with_item}
 use Rattle.vf_filestore.specs.State.{State, StandingParty, party_of}
 use Rattle.vf_filestore.specs.Transition.{answered, met, with_message}
 use Rattle.vf_filestore.specs.Transition.{leaves as leaves_with}
 use Rattle.vf_filestore.proofs.Lists.{all_append}
 use Rattle.vf_locks.specs.Table.{IsAsBefore}
-use Rattle.vf_party.specs.GroupEnds.{HasEnded, changes_at_end, end_message}
-use Rattle.vf_party.specs.GroupTurns.{HasItem, IsAdded, IsInGroup}
+use Rattle.vf_party.specs.GroupTurns.{IsAdded, IsInGroup}
 use Rattle.vf_party.specs.Items.{is_item}
 use Rattle.vf_party.specs.Steps.{HoldersOfFiles, StandsIn}
-use Rattle.vf_party.specs.Turns.{EndsSaying, IsEnded, IsGrouped, IsNext, IsParty, IsTaken, IsTurnIn}
+use Rattle.vf_party.specs.Turns.{EndsSaying, IsEnded, IsGrouped, IsNext, IsTaken, IsTurnIn}
 use Rattle.vf_party.specs.declared.party.Grouping.{Grouping}
 use Rattle.vf_party.specs.declared.party.Outcome.{Outcome}
 use Rattle.vf_party.specs.declared.party.Party.{Party}
 use Rattle.vf_party.specs.declared.party.Party.TheVariants as parties
-use Rattle.vf_party.specs.declared.quiet.Quiet.{Quiet}
-use Rattle.vf_party.specs.declared.step.Step.{Step}
 use Rattle.vf_party.proofs.Answering.{end_answers}
 use Rattle.vf_party.proofs.Turning.{IsSingle, aborts, leaves, taken_of, waits_turn}
 use Rattle.vf_pdu.specs.PduNumbers.{number_of}

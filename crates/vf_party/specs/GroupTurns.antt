@@ -1,5 +1,5 @@
 -- What a party in a group that isn't ended owes to a message (ISO 8571-3, grouping; profile).
-use Rattle.std.specs.Prelude.{◌≡◌, ℕ, List, [], ◌∷◌, ◌++◌, Some, Result, Ok, Err}
+use Rattle.std.specs.Prelude.{◌≡◌, ℕ, [], ◌∷◌, ◌++◌, Some, Result, Ok, Err}
 use Rattle.vf_base.specs.declared.errors.NoMemory.{NoMemory}
 use Rattle.vf_elements.specs.declared.message.Message.{Message}
 use Rattle.vf_filestore.specs.Aborts.{Setting}
