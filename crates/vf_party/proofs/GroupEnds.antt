@@ -33,10 +33,10 @@ use Rattle.vf_party.proofs.NoChanges.{any_unless_same}
 use Rattle.vf_tables.specs.declared.change.Change.{Change}
 use Rattle.vf_tables.specs.declared.tables.Tables.{Tables}
 
-le_true : (a b : ℕ) → a ≤ b → nat_le a b ≡ true
+pub le_true : (a b : ℕ) → a ≤ b → nat_le a b ≡ true
 le_true a b is = grind (arith, is)
 
-lt_false : (a b : ℕ) → b < a → nat_le a b ≡ false
+pub lt_false : (a b : ℕ) → b < a → nat_le a b ≡ false
 lt_false a b is = grind (arith, is)
 
 module _ (state : State) (party : StandingParty) (setting : Setting) (group : Group) where

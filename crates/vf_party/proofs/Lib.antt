@@ -13,6 +13,7 @@ pub mod Erasures
 pub mod FileChanges
 pub mod FoundDockets
 pub mod GroupEnds
+pub mod GroupTurns
 pub mod Heard
 pub mod Kept
 pub mod Locations

@@ -6,6 +6,7 @@ pub mod Dues
 pub mod Erasures
 pub mod Files
 pub mod GroupEnds
+pub mod GroupTurns
 pub mod Items
 pub mod Leaving
 pub mod Locations

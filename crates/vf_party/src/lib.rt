@@ -40,6 +40,7 @@ mod setting;
 mod states;
 mod step;
 mod taking_idle;
+mod taking_group;
 mod taking_quiet;
 mod taking_reading;
 mod taking_regime;

@@ -1,0 +1,173 @@
+//! What comes of a message in a group that isn't ended (ISO 8571-3, grouping; profile).
+ghost use Rattle.std.specs.Prelude.{◌≡◌, true};
+ghost use Rattle.vf_elements.specs.Stages.{takes};
+ghost use Rattle.vf_elements.specs.declared.message.Message.TheVariants as messages;
+ghost use Rattle.vf_elements.specs.declared.stage.Stage.TheVariants as stages;
+ghost use Rattle.vf_party.specs.GroupEnds.{end_message};
+ghost use Rattle.vf_party.specs.GroupTurns.{IsAdded, IsGroupTurn, IsInGroup};
+ghost use Rattle.vf_party.specs.Settings.{setting_of};
+ghost use Rattle.vf_party.specs.declared.party.Party.TheVariants as parties;
+
+use crate::aborting::WRONG_STATE;
+use crate::departing::{aborted, ended};
+use crate::grouping::end_group;
+use crate::items::is_item;
+use crate::leaving::leave_quiet;
+use crate::party::{Grouping, Outcome, Party, PartyState};
+use crate::{Message, Setting};
+use std::alloc::Global;
+use vf_base::NoMemory;
+use vf_elements::Stage;
+use vf_locks::Locks;
+use vf_pdu::Pdu;
+use vf_tables::{Changes, Tables};
+
+/// How many items a group has at most.
+const MOST_ITEMS: usize = 16;
+
+impl PartyState for Grouping {
+    ghost represents = { IsInGroup };
+
+    ghost party_of = { parties.Grouping };
+
+    fn into_party(self) -> Party {
+        Party::Grouping(self)
+    }
+
+    fn leave(self, locks: &mut Locks) {
+        leave_quiet(self.quiet, locks);
+    }
+}
+
+/// Takes a message: an item more, the group's end, or what ends the association.
+pub(crate) fn take_grouping(
+    grouping: Grouping,
+    alloc: Global,
+    message: Message,
+    setting: Setting,
+    tables: &Tables,
+    locks: &mut Locks,
+) -> Result<Outcome, (Party, NoMemory)>
+    ensures { IsGroupTurn tables.now locks.old locks.new grouping (setting_of setting) message result }
+{
+    let stage = Stage::Grouping;
+    if !stage.takes(&message) {
+        return aborted(alloc, grouping, WRONG_STATE, locks);
+    }
+    return take_taken(grouping, alloc, message, setting, tables, locks);
+}
+
+/// Takes a message that a group takes.
+fn take_taken(
+    grouping: Grouping,
+    alloc: Global,
+    message: Message,
+    setting: Setting,
+    tables: &Tables,
+    locks: &mut Locks,
+) -> Result<Outcome, (Party, NoMemory)>
+    requires { takes stages.Grouping message ≡ true }
+    ensures { IsGroupTurn tables.now locks.old locks.new grouping (setting_of setting) message result }
+{
+    match message {
+        Message::Pdu(request) => {
+            return take_request(grouping, alloc, request, setting, tables, locks);
+        }
+        Message::Break => Ok(ended(alloc, grouping, Vec::new(alloc), locks)),
+        Message::Element(_) => unreachable!(),
+        Message::Check => unreachable!(),
+        Message::Acknowledge { .. } => unreachable!(),
+        Message::Restart { .. } => unreachable!(),
+    }
+}
+
+/// Takes a request that a group takes. Where the group is full, an item more aborts.
+fn take_request(
+    grouping: Grouping,
+    alloc: Global,
+    request: Pdu,
+    setting: Setting,
+    tables: &Tables,
+    locks: &mut Locks,
+) -> Result<Outcome, (Party, NoMemory)>
+    requires { takes stages.Grouping (messages.Pdu request) ≡ true }
+    ensures { IsGroupTurn tables.now locks.old locks.new grouping (setting_of setting) (messages.Pdu request) result }
+{
+    let is_item = is_item(&request);
+    if is_item {
+        if MOST_ITEMS <= grouping.items.len() {
+            return aborted(alloc, grouping, WRONG_STATE, locks);
+        }
+        return added(alloc, grouping, request);
+    }
+    if request.number() == 24 {
+        return take_end(grouping, alloc, setting, tables, locks);
+    }
+    Ok(ended(alloc, grouping, Vec::new(alloc), locks))
+}
+
+/// The group has an item more.
+fn added(alloc: Global, grouping: Grouping, item: Pdu) -> Result<Outcome, (Party, NoMemory)>
+    ensures { IsAdded grouping item result }
+{
+    let Grouping {
+        quiet,
+        threshold,
+        items,
+    } = grouping;
+    let mut items = items;
+    let pushed = items.push(item);
+    let grouping = Grouping {
+        quiet,
+        threshold,
+        items,
+    };
+    if pushed.is_err() {
+        return Err((Party::Grouping(grouping), NoMemory));
+    }
+    Ok(Outcome {
+        party: Some(Party::Grouping(grouping)),
+        said: Vec::new(alloc),
+        changes: Changes::new(alloc),
+    })
+}
+
+/// The group ends.
+fn take_end(
+    grouping: Grouping,
+    alloc: Global,
+    setting: Setting,
+    tables: &Tables,
+    locks: &mut Locks,
+) -> Result<Outcome, (Party, NoMemory)>
+    ensures { IsGroupTurn tables.now locks.old locks.new grouping (setting_of setting) end_message result }
+{
+    let Grouping {
+        quiet,
+        threshold,
+        items,
+    } = grouping;
+    match end_group(
+        quiet,
+        alloc,
+        threshold,
+        items.as_slice(),
+        &setting,
+        tables,
+        locks,
+    ) {
+        Ok(step) => Ok(Outcome {
+            party: Some(Party::Quiet(step.state)),
+            said: step.said,
+            changes: step.changes,
+        }),
+        Err((quiet, _error)) => {
+            let grouping = Grouping {
+                quiet,
+                threshold,
+                items,
+            };
+            Err((Party::Grouping(grouping), NoMemory))
+        }
+    }
+}
