@@ -95,7 +95,7 @@ impl Received {
         Ok(octets)
     }
 
-    /// How many values are before this check, or before the last one where that is lower.
+    /// How many values are before this check, or before the last where that is lower.
     fn count_before(&self, check: u32) -> usize
         ensures { result ≡ mark (min check (length self.now.checks.marks)) self.now.checks.marks }
     {

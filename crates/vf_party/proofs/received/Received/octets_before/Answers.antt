@@ -1,9 +1,9 @@
-use Rattle.std.proofs.Common.{◌≡◌, ℕ, ◌-◌, List, ◌∷◌, ◌++◌, length, min, take, ap, sym, subst, ◌∙◌, append-nil, arith}
+use Rattle.std.proofs.Common.{◌≡◌, ℕ, ◌-◌, List, ◌++◌, length, min, take, ap, sym, subst, ◌∙◌, append-nil, arith}
 use Rattle.std.proofs.lemmas.List.{take_all}
 use Rattle.vf_base.specs.declared.element.Element.{Element}
 use Rattle.vf_transfer.proofs.Cuts.{cut_there, length_counts, mark_there, take_least}
 use Rattle.vf_transfer.specs.Checks.{Receiver, RepresentsReceived, mark}
-use Rattle.vf_transfer.specs.Transfer.{Entry, Restart, counts_from, joined, standing, survivors}
+use Rattle.vf_transfer.specs.Transfer.{counts_from, joined, standing, survivors}
 use Rattle.vf_tree.specs.FileTree.{octets_of_unit}
 use Rattle.vf_party.proofs.received.Received.octets_before.Goals as goal
 
