@@ -23,7 +23,9 @@ use Rattle.vf_party.specs.Quiets.{IsQuiet, stage_of}
 use Rattle.vf_party.specs.Moving.{stage_of_writing}
 use Rattle.vf_party.specs.Reads.{IsReading}
 use Rattle.vf_party.specs.Reads.{stage_of as reading_stage_of}
+use Rattle.vf_party.specs.Represents.{IsIdle}
 use Rattle.vf_party.specs.Writes.{IsWriting}
+use Rattle.vf_party.specs.declared.idle.Idle.{Idle}
 use Rattle.vf_party.specs.declared.reading.Reading.{Reading}
 use Rattle.vf_party.specs.declared.writing.Writing.{Writing}
 use Rattle.vf_party.specs.declared.quiet.Quiet.{Quiet}
@@ -37,6 +39,10 @@ use Rattle.vf_pdu.specs.declared.pdu.Pdu.{Pdu}
 use Rattle.vf_pdu.specs.declared.pdu.Pdu.TheVariants.{InitializeRequest, UserAbort, ProviderAbort, BeginGroupRequest, ReadRequest, WriteRequest, CancelRequest, RestartRequest}
 
 -- ---- stages
+
+pub idle_stage : (idle : Idle) (link : ℕ) (history : History) → IsIdle idle link history → regime_stage history ≡ stages.Idle
+idle_stage idle link history is =
+    λ i. stage_by (is.associated i) (is.selected i) (is.opened i) (is.moved i) (is_some (data_end history)) (was_shown history)
 
 pub quiet_stage : (quiet : Quiet) (party : StandingParty) → IsQuiet quiet party.link party.history → regime_stage party.history ≡ stage_of quiet
 quiet_stage (quiets.Associated associated) party is =

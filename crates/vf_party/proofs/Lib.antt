@@ -15,6 +15,7 @@ pub mod FoundDockets
 pub mod GroupEnds
 pub mod GroupTurns
 pub mod Heard
+pub mod IdleTurns
 pub mod Kept
 pub mod Locations
 pub mod NoChanges

@@ -1,6 +1,7 @@
 -- What a party owes to a message (ISO 8571-4; profile): what it says, what changes in what a store keeps, who holds each
 -- file, and the party after it are those of the filestore.
 use Rattle.std.specs.Prelude.{◌≡◌, ℕ, Bool, true, false, List, [], Option, None, Some, Result, Ok, Err}
+use Rattle.std.specs.List.{AllByRecursion}
 use Rattle.vf_base.specs.declared.errors.NoMemory.{NoMemory}
 use Rattle.vf_elements.specs.declared.message.Message.{Message}
 use Rattle.vf_elements.specs.declared.message.Said.{Said}
@@ -16,6 +17,7 @@ use Rattle.vf_filestore.specs.Stage.{pending}
 use Rattle.vf_filestore.specs.State.{State, StandingParty, party_of}
 use Rattle.vf_filestore.specs.Transition.{answered}
 use Rattle.vf_locks.specs.Table.{IsAsBefore}
+use Rattle.vf_party.specs.Items.{is_item}
 use Rattle.vf_party.specs.Leaving.{LeavesHolders}
 use Rattle.vf_party.specs.Quiets.{IsQuiet}
 use Rattle.vf_party.specs.Reads.{IsReading}
@@ -44,6 +46,7 @@ pub record IsAlone {S : Type 0} (represents : Represents S) (self : S) (standing
 pub record IsGrouped (grouping : Grouping) (standing : StandingParty) : Type 0 where
   pub represented : IsQuiet grouping.quiet standing.link standing.history
   pub grouped : pending standing.trace ≡ Some (record { threshold = grouping.threshold; items = grouping.items })
+  pub items : AllByRecursion (λ item. is_item item ≡ true) grouping.items
 
 abbrev pub IsParty : Party → StandingParty → Type 0
 IsParty (parties.Idle idle) standing = IsAlone IsIdle idle standing
@@ -117,16 +120,6 @@ pub record IsBegun (quiet : Quiet) (threshold : ℕ) (outcome : Outcome) : Type 
   pub groups : outcome.party ≡ Some (parties.Grouping (record { quiet = quiet; threshold = threshold; items = [] }))
   pub says : outcome.said.items ≡ []
   pub differs : outcome.changes ≡ []
-
--- what a party in a group owes to a message
-abbrev pub IsTurnInGroup : Tables → (before after : HoldersOfFiles) → Grouping → Setting → Message → Result Outcome (Party × NoMemory) → Type 0
-IsTurnInGroup tables old new grouping setting message result =
-    (state : State) (party : StandingParty) → StandsIn tables old state party → AreHistoriesKept state → IsGrouped grouping party
-    → IsTurnIn tables old new (parties.Grouping grouping) state party setting message result
-
--- a party whose group is still pending is one of its regimes
-abbrev pub IsWithin : Grouping → (link : ℕ) → History → Type 0
-IsWithin grouping link history = IsQuiet grouping.quiet link history
 
 -- the association of an idle party is as its request's step has it
 abbrev pub Associates : (before after : HoldersOfFiles) → Result (Step Associated) (Idle × StepError) → Result Outcome (Party × NoMemory) → Type 0

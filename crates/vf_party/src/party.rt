@@ -4,7 +4,6 @@ ghost use Rattle.vf_party.specs.Leaving.{LeavesHolders};
 ghost use Rattle.vf_party.specs.Quiets.{IsQuiet};
 ghost use Rattle.vf_party.specs.Reads.{IsReading};
 ghost use Rattle.vf_party.specs.Represents.{IsAssociated, IsIdle, IsOpen};
-ghost use Rattle.vf_party.specs.Turns.{IsWithin};
 ghost use Rattle.vf_party.specs.Writes.{IsWriting};
 ghost use Rattle.vf_party.specs.declared.party.Party.{Party as PartyMeant};
 ghost use Rattle.vf_party.specs.declared.party.Party.TheVariants as parties;
@@ -140,19 +139,5 @@ impl PartyState for Open {
 
     fn leave(self, locks: &mut Locks) {
         leave_quiet(Quiet::Open(self), locks);
-    }
-}
-
-impl PartyState for Grouping {
-    ghost represents = { IsWithin };
-
-    ghost party_of = { parties.Grouping };
-
-    fn into_party(self) -> Party {
-        Party::Grouping(self)
-    }
-
-    fn leave(self, locks: &mut Locks) {
-        leave_quiet(self.quiet, locks);
     }
 }

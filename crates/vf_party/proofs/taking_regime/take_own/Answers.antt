@@ -24,5 +24,6 @@ returns-in-BeginGroupRequest c = λ state party stands histories alone.
     c.grouped.ensures.groups c.grouped.ensures.says c.grouped.ensures.differs
     (record {
       represented = alone.represented;
+      items = tt;
       grouped = ap (grouping c.args.request) alone.alone ∙ ap (λ (request : Pdu). grouping request None) c.in-BeginGroupRequest.is;
     })
