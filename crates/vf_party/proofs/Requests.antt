@@ -1,5 +1,5 @@
 -- Which requests are left of those that a regime takes and that may be items of a group.
-use Rattle.std.proofs.Common.{◌≡◌, ℕ, true, ◌&&◌, List, Option, refl}
+use Rattle.std.proofs.Common.{◌≡◌, ◌==◌, ℕ, true, false, not, ◌&&◌, ◌||◌, List, Option, refl}
 use Rattle.vf_base.specs.declared.action.Actions.{Actions}
 use Rattle.vf_base.specs.declared.contents.Contents.{Contents}
 use Rattle.vf_base.specs.declared.term.Term.{Term}
@@ -7,8 +7,9 @@ use Rattle.vf_elements.specs.Stages.{takes}
 use Rattle.vf_elements.specs.declared.message.Message.TheVariants as messages
 use Rattle.vf_elements.specs.declared.stage.Stage.TheVariants as stages
 use Rattle.vf_party.specs.Items.{is_item}
+use Rattle.vf_pdu.specs.PduNumbers.{number_of}
 use Rattle.vf_pdu.specs.declared.pdu.Pdu.{Pdu}
-use Rattle.vf_pdu.specs.declared.pdu.Pdu.TheVariants.{SelectRequest, CreateRequest, DeselectRequest, DeleteRequest, ReadAttribRequest, ChangeAttribRequest, OpenRequest, CloseRequest}
+use Rattle.vf_pdu.specs.declared.pdu.Pdu.TheVariants.{TerminateRequest, RecoverRequest, SelectRequest, CreateRequest, DeselectRequest, DeleteRequest, ReadAttribRequest, ChangeAttribRequest, OpenRequest, CloseRequest}
 use Rattle.vf_pdu_fields.specs.declared.controls.AttributeControls.{AttributeControls}
 use Rattle.vf_pdu_fields.specs.declared.controls.ContentControls.{ContentControls}
 
@@ -35,3 +36,12 @@ left_selected request item taken no_deselect no_delete no_read no_change no_open
 pub left_opened : (request : Pdu) → is_item request ≡ true → takes stages.Opened (messages.Pdu request) ≡ true → (request ≡ CloseRequest → ⊥) → ⊥
 left_opened CloseRequest item taken no_close = no_close refl
 left_opened request item taken no_close = let no : (is_item request && takes stages.Opened (messages.Pdu request)) ≡ true = (λ i. item i && taken i) in cc
+
+-- what else an association takes, beside items, aborts and the begin of a group
+pub left_with_association : (request : Pdu) → takes stages.Associated (messages.Pdu request) ≡ true → is_item request ≡ false → (number_of request == 4 || number_of request == 5) ≡ false
+    → (number_of request == 22) ≡ false → (request ≡ TerminateRequest → ⊥) → ((activity number point : ℕ) → request ≡ RecoverRequest activity number point → ⊥) → ⊥
+left_with_association TerminateRequest taken item stays single no_terminate no_recover = no_terminate refl
+left_with_association (RecoverRequest activity number point) taken item stays single no_terminate no_recover = no_recover activity number point refl
+left_with_association request taken item stays single no_terminate no_recover =
+    let no : (takes stages.Associated (messages.Pdu request) && not (is_item request) && not (number_of request == 4 || number_of request == 5) && not (number_of request == 22)) ≡ true
+    = (λ i. taken i && not (item i) && not (stays i) && not (single i)) in cc

@@ -26,14 +26,15 @@ use Rattle.vf_filestore.specs.Transition.{answered, associates, met, with_messag
 use Rattle.vf_filestore.specs.Transition.{leaves as leaves_with}
 use Rattle.vf_locks.specs.Table.{IsAsBefore}
 use Rattle.vf_party.specs.Answers.{GoesOn, IsAnswered}
-use Rattle.vf_party.specs.Recoveries.{IsKeptStep}
+use Rattle.vf_party.specs.Recoveries.{IsKeptStep, IsRecovered}
 use Rattle.vf_party.specs.Refusals.{refusal_numbered}
 use Rattle.vf_party.specs.Steps.{Concludes, HoldersOfFiles, IsStep, MeetsStep, Represents, StandsIn}
-use Rattle.vf_party.specs.Turns.{ComesOn, ComesTo, EndsSaying, IsAlone, IsEnded, IsNext, IsOutcomeOf, IsParty, IsRefused, IsTaken, IsTurnIn, IsTurnOf}
+use Rattle.vf_party.specs.Turns.{ComesOn, ComesTo, EndsSaying, IsAlone, IsEnded, IsNext, IsOutcomeOf, IsParty, IsRefused, IsTaken, IsTurnIn, IsTurnOf, party_of_recovered}
 use Rattle.vf_party.specs.declared.party.Outcome.{Outcome}
 use Rattle.vf_party.specs.declared.party.Party.{Party}
 use Rattle.vf_party.specs.declared.party.Party.TheVariants as parties
 use Rattle.vf_party.specs.declared.quiet.Quiet.TheVariants as quiets
+use Rattle.vf_party.specs.declared.recovering.Recovered.TheVariants as recovered
 use Rattle.vf_party.specs.declared.states.Associated.{Associated}
 use Rattle.vf_party.specs.declared.states.Open.{Open}
 use Rattle.vf_party.specs.Quiets.{IsQuiet}
@@ -257,3 +258,9 @@ associated_alone associated standing is = record { represented = is.represented;
 
 pub opened_alone : (regimes : Open) (standing : StandingParty) → IsAlone IsQuiet (quiets.Open regimes) standing → IsAlone IsOpen regimes standing
 opened_alone regimes standing is = record { represented = is.represented; alone = is.alone }
+
+-- what a recovery leaves is a party
+pub recovered_enters : Enters IsRecovered party_of_recovered
+recovered_enters (recovered.Open regimes) standing is = record { represented = is.represented; alone = is.alone }
+recovered_enters (recovered.Reading reading) standing is = record { represented = is.represented; alone = is.alone }
+recovered_enters (recovered.Writing writing) standing is = record { represented = is.represented; alone = is.alone }

@@ -9,6 +9,7 @@ use Rattle.vf_elements.specs.declared.message.Said.TheVariants as answers
 use Rattle.vf_filestore.specs.Aborts.{Setting}
 use Rattle.vf_filestore.specs.Conclusion.{has_abort}
 use Rattle.vf_filestore.specs.Decision.{decision}
+use Rattle.vf_filestore.specs.Dockets.{broken}
 use Rattle.vf_filestore.specs.History.{History}
 use Rattle.vf_filestore.specs.Keeping.{AreHistoriesKept}
 use Rattle.vf_filestore.specs.HoldersAfter.{Keeps}
@@ -30,6 +31,8 @@ use Rattle.vf_party.specs.declared.party.Outcome.{Outcome}
 use Rattle.vf_party.specs.declared.party.Party.{Party}
 use Rattle.vf_party.specs.declared.party.Party.TheVariants as parties
 use Rattle.vf_party.specs.declared.idle.Idle.{Idle}
+use Rattle.vf_party.specs.declared.recovering.Recovered.{Recovered}
+use Rattle.vf_party.specs.declared.recovering.Recovered.TheVariants as recovered
 use Rattle.vf_party.specs.declared.quiet.Quiet.{Quiet}
 use Rattle.vf_party.specs.declared.quiet.Quiet.TheVariants as quiets
 use Rattle.vf_party.specs.declared.states.Associated.{Associated}
@@ -127,3 +130,21 @@ Associates mid new (Ok step) (Ok outcome) = IsOutcomeOf IsAssociated (λ associa
 Associates mid new (Err (idle, errors.Refused diagnostic)) (Ok outcome) = IsEnded IsIdle idle (refusal_numbered 0 diagnostic) mid new outcome
 Associates mid new (Err (idle, error)) (Err (party, memory)) = (party ≡ parties.Idle idle) × (new ≡ mid)
 Associates mid new _ _ = ⊥
+
+-- the party that a recovery leaves
+abbrev pub party_of_recovered : Recovered → Party
+party_of_recovered (recovered.Open regimes) = parties.Quiet (quiets.Open regimes)
+party_of_recovered (recovered.Reading reading) = parties.Reading reading
+party_of_recovered (recovered.Writing writing) = parties.Writing writing
+
+-- WHAT A PARTY OWES to a message: this, in every sound state with kept histories of which code has these tables and
+-- holders, and in which a party stands that it is.
+abbrev pub IsTurn : Tables → (before after : HoldersOfFiles) → Party → Setting → Message → Result Outcome (Party × NoMemory) → Type 0
+IsTurn tables old new self setting message result =
+    (state : State) (party : StandingParty) → StandsIn tables old state party → AreHistoriesKept state → IsParty self party
+    → IsTurnIn tables old new self state party setting message result
+
+-- and once it is gone: who holds each file in the state without it
+abbrev pub LeavesParty : Party → (before after : HoldersOfFiles) → Type 0
+LeavesParty self old new =
+    (tables : Tables) (state : State) (party : StandingParty) → StandsIn tables old state party → IsParty self party → Keeps new (broken party.link state)

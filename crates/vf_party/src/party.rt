@@ -1,8 +1,12 @@
 ghost use Rattle.std.specs.Prelude.{◌≡◌, ℕ};
 ghost use Rattle.vf_filestore.specs.History.{History};
+ghost use Rattle.vf_filestore.specs.State.{arrived as arrived_meant};
 ghost use Rattle.vf_party.specs.Leaving.{LeavesHolders};
 ghost use Rattle.vf_party.specs.Quiets.{IsQuiet};
 ghost use Rattle.vf_party.specs.Reads.{IsReading};
+ghost use Rattle.vf_party.specs.Recoveries.{IsRecovered};
+ghost use Rattle.vf_party.specs.Settings.{setting_of};
+ghost use Rattle.vf_party.specs.Turns.{IsParty, IsTurn, LeavesParty, party_of_recovered};
 ghost use Rattle.vf_party.specs.Represents.{IsAssociated, IsIdle, IsOpen};
 ghost use Rattle.vf_party.specs.Writes.{IsWriting};
 ghost use Rattle.vf_party.specs.declared.party.Party.{Party as PartyMeant};
@@ -10,12 +14,17 @@ ghost use Rattle.vf_party.specs.declared.party.Party.TheVariants as parties;
 ghost use Rattle.vf_party.specs.declared.quiet.Quiet.TheVariants as quiets;
 
 use crate::leaving::{leave, leave_quiet};
-use crate::{Associated, Idle, Open, Quiet, Reading, Writing};
-use vf_base::Sequence;
-use vf_elements::Said;
+use crate::taking_group::take_grouping;
+use crate::taking_idle::take_idle;
+use crate::taking_quiet::take_quiet;
+use crate::taking_reading::take_reading;
+use crate::taking_writing::take_writing;
+use crate::{Associated, Idle, Message, Open, Quiet, Reading, Recovered, Said, Setting, Writing};
+use std::alloc::Global;
+use vf_base::{NoMemory, Sequence};
 use vf_locks::Locks;
 use vf_pdu::Pdu;
-use vf_tables::Changes;
+use vf_tables::{Changes, Tables};
 
 /// One party of the filestore, in its innermost regime (ISO 8571-4).
 #[derive(Drop)]
@@ -25,6 +34,57 @@ pub enum Party {
     Reading(Reading),
     Writing(Writing),
     Grouping(Grouping),
+}
+
+impl Party {
+    /// The party of a link that has just arrived.
+    pub fn arrived(link: u32) -> Party
+        ensures { IsParty result (arrived_meant link) }
+    {
+        Party::Idle(Idle::new(link))
+    }
+
+    /// Takes a message: one transition of the filestore that keeps these tables and holders (ISO 8571-4). What it says is
+    /// said on its link; a party that is gone has none after it. Without memory the party is given back as it was, and
+    /// each file keeps its holders.
+    pub fn take(
+        self,
+        alloc: Global,
+        message: Message,
+        setting: Setting,
+        tables: &Tables,
+        locks: &mut Locks,
+    ) -> Result<Outcome, (Party, NoMemory)>
+        ensures { IsTurn tables.now locks.old locks.new self (setting_of setting) message result }
+    {
+        match self {
+            Party::Idle(idle) => return take_idle(idle, alloc, message, setting, tables, locks),
+            Party::Quiet(quiet) => return take_quiet(quiet, alloc, message, setting, tables, locks),
+            Party::Reading(reading) => {
+                return take_reading(reading, alloc, message, setting, tables, locks);
+            }
+            Party::Writing(writing) => {
+                return take_writing(writing, alloc, message, setting, tables, locks);
+            }
+            Party::Grouping(grouping) => {
+                return take_grouping(grouping, alloc, message, setting, tables, locks);
+            }
+        }
+    }
+
+    /// The association is gone, without an answer: the docket of a recoverable open holds its file in the place of the
+    /// party, and no other file is held by it.
+    pub fn leave(self, locks: &mut Locks)
+        ensures { LeavesParty self locks.old locks.new }
+    {
+        match self {
+            Party::Idle(idle) => PartyState::leave(idle, locks),
+            Party::Quiet(quiet) => PartyState::leave(quiet, locks),
+            Party::Reading(reading) => PartyState::leave(reading, locks),
+            Party::Writing(writing) => PartyState::leave(writing, locks),
+            Party::Grouping(grouping) => PartyState::leave(grouping, locks),
+        }
+    }
 }
 
 /// A party in a group that isn't ended (ISO 8571-3, F-BEGIN-GROUP): nothing comes of its items before its end.
@@ -139,5 +199,27 @@ impl PartyState for Open {
 
     fn leave(self, locks: &mut Locks) {
         leave_quiet(Quiet::Open(self), locks);
+    }
+}
+
+impl PartyState for Recovered {
+    ghost represents = { IsRecovered };
+
+    ghost party_of = { party_of_recovered };
+
+    fn into_party(self) -> Party {
+        match self {
+            Recovered::Open(regimes) => Party::Quiet(Quiet::Open(regimes)),
+            Recovered::Reading(reading) => Party::Reading(reading),
+            Recovered::Writing(writing) => Party::Writing(writing),
+        }
+    }
+
+    fn leave(self, locks: &mut Locks) {
+        match self {
+            Recovered::Open(regimes) => regimes.leave(locks),
+            Recovered::Reading(reading) => reading.leave(locks),
+            Recovered::Writing(writing) => writing.leave(locks),
+        }
     }
 }

@@ -16,7 +16,8 @@ ghost use Rattle.vf_party.specs.declared.quiet.Quiet.TheVariants as quiets;
 ghost use Rattle.vf_pdu.specs.PduNumbers.{number_of};
 ghost use Rattle.vf_pdu.specs.declared.pdu.Pdu.TheVariants as pdus;
 
-use crate::departing::ended_saying;
+use crate::aborting::WRONG_STATE;
+use crate::departing::{aborted, ended_saying};
 use crate::outcomes::concluded;
 use crate::party::{Grouping, Outcome, Party};
 use crate::quiet::quieted;
@@ -88,6 +89,15 @@ fn take_associated(
 {
     match request {
         Pdu::TerminateRequest => return terminate(alloc, associated, locks),
+        Pdu::RecoverRequest {
+            activity,
+            number,
+            point,
+        } => {
+            return take_recovery(
+                associated, alloc, activity, number, point, setting, tables, locks,
+            );
+        }
         _ => unreachable!(),
     }
 }
@@ -101,6 +111,42 @@ fn terminate(
     ensures { EndsSaying IsAssociated (λ one. parties.Quiet (quiets.Associated one)) associated (answers.Pdu pdus.TerminateResponse ∷ []) locks.old locks.new result }
 {
     return ended_saying(alloc, associated, Said::Pdu(Pdu::TerminateResponse), locks);
+}
+
+/// Takes a recovery. One by which a read would go on needs the token.
+fn take_recovery(
+    associated: Associated,
+    alloc: Global,
+    activity: u32,
+    number: u32,
+    point: u32,
+    setting: Setting,
+    tables: &Tables,
+    locks: &mut Locks,
+) -> Result<Outcome, (Party, NoMemory)>
+    ensures { IsTurnOf IsQuiet parties.Quiet tables.now locks.old locks.new (quiets.Associated associated) (setting_of setting) (messages.Pdu (pdus.RecoverRequest activity number point)) result }
+{
+    let Setting {
+        moment,
+        serial,
+        token,
+        sync,
+    } = setting;
+    let Ok(reads) = associated.would_read(alloc, activity, number, point, tables, locks) else {
+        return Err((Party::Quiet(Quiet::Associated(associated)), NoMemory));
+    };
+    if reads && !token {
+        return aborted(alloc, associated, WRONG_STATE, locks);
+    }
+    let request = Pdu::RecoverRequest {
+        activity,
+        number,
+        point,
+    };
+    let answer = associated.recover(
+        alloc, request, moment, serial, token, sync, tables, locks,
+    );
+    return concluded(alloc, 26, answer, locks);
 }
 
 /// Takes such a request with an open file.

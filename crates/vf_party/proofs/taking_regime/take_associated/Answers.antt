@@ -14,6 +14,7 @@ use Rattle.vf_party.specs.declared.quiet.Quiet.TheVariants as quiets
 use Rattle.vf_pdu.specs.declared.pdu.Pdu.{Pdu}
 use Rattle.vf_pdu.specs.declared.pdu.Pdu.TheVariants.{TerminateResponse}
 use Rattle.vf_party.proofs.Bars.{quiet_bars, quiet_stage}
+use Rattle.vf_party.proofs.Requests.{left_with_association}
 use Rattle.vf_party.proofs.Turning.{associated_party, ends, saying_turn, unbarred_decides}
 use Rattle.vf_party.proofs.taking_regime.take_associated.Goals as goal
 
@@ -28,3 +29,6 @@ returns-in-TerminateRequest c = λ state party stands histories alone.
     ∙ ap (λ (request : Pdu). message_decision state party setting (messages.Pdu request)) c.in-TerminateRequest.is in
     saying_turn IsAssociated associated_party c.args.tables.now c.args.locks.now c.terminate.new.locks c.args.associated setting message state party stands alone.represented
     (answers.Pdu TerminateResponse ∷ []) c.terminate.result Ends ends decides (ap (met (hearing state party message) (with_message message party) setting message) decides) c.terminate.ensures
+
+pub unreachable-requires : goal.unreachable-requires
+unreachable-requires c = left_with_association c.args.request c.requires.taken c.requires.item c.requires.stays c.requires.single c.in_default.not-TerminateRequest c.in_default.not-RecoverRequest
