@@ -1,5 +1,5 @@
 -- What aborts a message, and which stage takes it, by what typed states keep.
-use Rattle.std.proofs.Common.{◌≡◌, ℕ, ◌+◌, ◌-◌, ◌==◌, Bool, true, false, cond, not, length, nat_lt, ◌&&◌, ◌||◌, List, [], ◌∷◌, is_some, nat_le, Option, None, Some, refl, ap, sym, subst, ◌∙◌}
+use Rattle.std.proofs.Common.{◌≡◌, ℕ, ◌+◌, ◌-◌, ◌==◌, Bool, true, false, cond, not, length, nat_lt, ◌&&◌, ◌||◌, [], ◌∷◌, is_some, nat_le, Option, None, refl, ap, sym, ◌∙◌}
 use Rattle.vf_elements.specs.Stages.{initialize, lists, takes}
 use Rattle.vf_base.specs.declared.diagnostic.Diagnostic.{Diagnostic}
 use Rattle.vf_elements.specs.declared.message.Message.{Message}

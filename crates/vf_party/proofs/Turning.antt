@@ -25,7 +25,7 @@ use Rattle.vf_filestore.specs.Tables.{tables_of}
 use Rattle.vf_filestore.specs.Transition.{answered, associates, met, with_message}
 use Rattle.vf_filestore.specs.Transition.{leaves as leaves_with}
 use Rattle.vf_locks.specs.Table.{IsAsBefore}
-use Rattle.vf_party.specs.Answers.{GoesOn, IsAnswered}
+use Rattle.vf_party.specs.Answers.{IsAnswered}
 use Rattle.vf_party.specs.Recoveries.{IsKeptStep, IsRecovered}
 use Rattle.vf_party.specs.Refusals.{refusal_numbered}
 use Rattle.vf_party.specs.Steps.{Concludes, HoldersOfFiles, IsStep, MeetsStep, Represents, StandsIn}

@@ -10,7 +10,6 @@ use Rattle.vf_filestore.specs.Aborts.{Setting}
 use Rattle.vf_filestore.specs.Conclusion.{has_abort}
 use Rattle.vf_filestore.specs.Decision.{decision}
 use Rattle.vf_filestore.specs.Dockets.{broken}
-use Rattle.vf_filestore.specs.History.{History}
 use Rattle.vf_filestore.specs.Keeping.{AreHistoriesKept}
 use Rattle.vf_filestore.specs.HoldersAfter.{Keeps}
 use Rattle.vf_filestore.specs.Records.{changes_where}

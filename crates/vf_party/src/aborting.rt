@@ -7,8 +7,8 @@ ghost use Rattle.vf_filestore.specs.Units.{has_checks as has_checks_meant};
 ghost use Rattle.vf_transfer.specs.Checks.{offered};
 ghost use Rattle.vf_party.specs.Aborting.{aborts_of_open, aborts_of_quiet, aborts_of_reading, aborts_of_restart, aborts_of_units, aborts_of_writing, passes_with as passes_with_meant, spent_aborts};
 
-use crate::{Message, Quiet, Reading, Writing};
 use crate::states::OpenRegime;
+use crate::{Message, Quiet, Reading, Writing};
 use vf_base::Element;
 use vf_pdu::Pdu;
 use vf_regime_refusals::Association;
@@ -199,18 +199,18 @@ fn aborted_write_restart(writing: &Writing, serial: u32, point: u32) -> Option<u
     ensures { result ≡ first_abort (aborts_of_restart writing.now.regimes.selected.associated.association.units writing.now.start (offered writing.now.received.checks) serial point) }
 {
     let units = writing.regimes.selected.associated.association.units;
-    aborted_restart(units, writing.start, writing.received.point(), serial, point)
+    aborted_restart(
+        units,
+        writing.start,
+        writing.received.point(),
+        serial,
+        point,
+    )
 }
 
 /// What aborts a restart at a check under these functional units, of a transfer that began at the check `start` and whose
 /// last is `check`, where the session's next check has this number.
-fn aborted_restart(
-    units: u16,
-    start: u32,
-    check: u32,
-    serial: u32,
-    point: u32,
-) -> Option<u16>
+fn aborted_restart(units: u16, start: u32, check: u32, serial: u32, point: u32) -> Option<u16>
     ensures { result ≡ first_abort (aborts_of_restart units start check serial point) }
 {
     if !has_checks(units) {

@@ -61,7 +61,9 @@ fn take_unbarred(
         sync,
     } = setting;
     match message {
-        Message::Pdu(request) => return take_request(reading, alloc, request, setting, tables, locks),
+        Message::Pdu(request) => return take_request(
+            reading, alloc, request, setting, tables, locks,
+        ),
         Message::Acknowledge { point } => {
             let answer = reading.acknowledge(
                 alloc, point, moment, serial, token, sync, tables, locks,
@@ -69,9 +71,7 @@ fn take_unbarred(
             return concluded(alloc, 32, answer, locks);
         }
         Message::Restart { point } => {
-            let answer = reading.restart(
-                alloc, point, moment, serial, token, sync, tables, locks,
-            );
+            let answer = reading.restart(alloc, point, moment, serial, token, sync, tables, locks);
             return concluded(alloc, 39, answer, locks);
         }
         Message::Break => Ok(ended(alloc, reading, Vec::new(alloc), locks)),
@@ -101,9 +101,7 @@ fn take_request(
     } = setting;
     match request {
         Pdu::RestartRequest { point } => {
-            let answer = reading.restart(
-                alloc, point, moment, serial, token, sync, tables, locks,
-            );
+            let answer = reading.restart(alloc, point, moment, serial, token, sync, tables, locks);
             return concluded(alloc, 39, answer, locks);
         }
         request @ Pdu::TransferEndRequest => {
@@ -113,9 +111,7 @@ fn take_request(
             return concluded(alloc, 35, answer, locks);
         }
         request @ Pdu::CancelRequest { .. } => {
-            let answer = reading.cancel(
-                alloc, request, moment, serial, token, sync, tables, locks,
-            );
+            let answer = reading.cancel(alloc, request, moment, serial, token, sync, tables, locks);
             return concluded(alloc, 37, answer, locks);
         }
         Pdu::UserAbort { .. } => Ok(ended(alloc, reading, Vec::new(alloc), locks)),

@@ -143,9 +143,7 @@ fn take_recovery(
         number,
         point,
     };
-    let answer = associated.recover(
-        alloc, request, moment, serial, token, sync, tables, locks,
-    );
+    let answer = associated.recover(alloc, request, moment, serial, token, sync, tables, locks);
     return concluded(alloc, 26, answer, locks);
 }
 

@@ -14,7 +14,7 @@ use crate::aborting::{WRONG_STATE, aborted_in_writing};
 use crate::departing::{aborted, ended};
 use crate::outcomes::concluded;
 use crate::party::{Outcome, Party};
-use crate::{Message, Writing, Setting};
+use crate::{Message, Setting, Writing};
 use std::alloc::Global;
 use vf_base::NoMemory;
 use vf_elements::Stage;
@@ -63,7 +63,9 @@ fn take_unbarred(
         sync,
     } = setting;
     match message {
-        Message::Pdu(request) => return take_request(writing, alloc, request, setting, tables, locks),
+        Message::Pdu(request) => return take_request(
+            writing, alloc, request, setting, tables, locks,
+        ),
         Message::Element(element) => {
             let answer = writing.element(
                 alloc, element, moment, serial, token, sync, tables, locks,
@@ -124,9 +126,7 @@ fn take_request(
             return concluded(alloc, 35, answer, locks);
         }
         request @ Pdu::CancelRequest { .. } => {
-            let answer = writing.cancel(
-                alloc, request, moment, serial, token, sync, tables, locks,
-            );
+            let answer = writing.cancel(alloc, request, moment, serial, token, sync, tables, locks);
             return concluded(alloc, 37, answer, locks);
         }
         Pdu::UserAbort { .. } => Ok(ended(alloc, writing, Vec::new(alloc), locks)),

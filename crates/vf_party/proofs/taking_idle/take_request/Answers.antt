@@ -1,7 +1,5 @@
-use Rattle.std.proofs.Common.{ap, refl, subst, sym, ◌∙◌}
-use Rattle.vf_elements.specs.Stages.{takes}
+use Rattle.std.proofs.Common.{subst, sym}
 use Rattle.vf_elements.specs.declared.message.Message.TheVariants as messages
-use Rattle.vf_elements.specs.declared.stage.Stage.TheVariants as stages
 use Rattle.vf_party.specs.Represents.{IsAssociated, IsIdle}
 use Rattle.vf_party.specs.Settings.{setting_of}
 use Rattle.vf_party.specs.Steps.{IsStep}

@@ -1,7 +1,6 @@
 use Rattle.std.proofs.Common.{ap, sym, ◌∙◌}
 use Rattle.vf_elements.specs.Stages.{takes}
 use Rattle.vf_elements.specs.declared.message.Message.{Message}
-use Rattle.vf_elements.specs.declared.message.Message.TheVariants as messages
 use Rattle.vf_filestore.specs.Aborts.{aborts, first_abort}
 use Rattle.vf_filestore.specs.Decision.{Leaves, message_decision}
 use Rattle.vf_filestore.specs.HoldersAfter.{hearing}

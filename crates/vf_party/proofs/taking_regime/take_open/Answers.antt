@@ -3,7 +3,6 @@ use Rattle.vf_elements.specs.declared.message.Message.TheVariants as messages
 use Rattle.vf_elements.specs.declared.stage.Stage.TheVariants as stages
 use Rattle.vf_filestore.specs.Aborts.{first_abort}
 use Rattle.vf_filestore.specs.Stage.{grouping}
-use Rattle.vf_party.specs.Quiets.{stage_of}
 use Rattle.vf_party.specs.Represents.{IsOpen}
 use Rattle.vf_party.specs.Reads.{IsReading}
 use Rattle.vf_party.specs.Settings.{setting_of}

@@ -2,7 +2,7 @@ use Rattle.std.proofs.Common.{ap, refl, subst, sym, ◌∙◌}
 use Rattle.vf_elements.specs.Stages.{takes}
 use Rattle.vf_elements.specs.declared.message.Message.{Message}
 use Rattle.vf_elements.specs.declared.message.Message.TheVariants as messages
-use Rattle.vf_filestore.specs.Aborts.{aborts, first_abort}
+use Rattle.vf_filestore.specs.Aborts.{first_abort}
 use Rattle.vf_filestore.specs.Decision.{Leaves, message_decision}
 use Rattle.vf_filestore.specs.HoldersAfter.{hearing}
 use Rattle.vf_filestore.specs.Transition.{met, with_message}
