@@ -9,6 +9,7 @@ pub mod DocketChanges
 pub mod Dues
 pub mod Erasures
 pub mod FileChanges
+pub mod GoingOn
 pub mod Heard
 pub mod Kept
 pub mod Locations
