@@ -1,6 +1,6 @@
 -- A party that goes on after a message stands in the state that the message leaves, of which code has the tables and the
 -- holders, once the changes are made.
-use Rattle.std.proofs.Common.{◌≡◌, ℕ, List, Option, None, Some, refl, ap, sym, subst, ◌∙◌}
+use Rattle.std.proofs.Common.{◌≡◌, ℕ, List, Option, None, Some, ap, sym, subst, ◌∙◌}
 use Rattle.vf_elements.specs.declared.message.Message.{Message}
 use Rattle.vf_filestore.specs.Aborts.{Setting}
 use Rattle.vf_filestore.specs.Decision.{decision}
@@ -12,20 +12,14 @@ use Rattle.vf_filestore.specs.Transition.{Turn, answered, superseded_by, taking_
 use Rattle.vf_filestore.proofs.Decisions.{answered_sound}
 use Rattle.vf_filestore.proofs.Parties.{located}
 use Rattle.vf_filestore.proofs.Recorded.{messages_lead}
+use Rattle.vf_party.specs.GoingOn.{StandsAs}
 use Rattle.vf_party.specs.Steps.{HoldersOfFiles, StandsIn}
-use Rattle.vf_party.specs.Turns.{IsNext, IsParty, IsTaken}
+use Rattle.vf_party.specs.Turns.{IsNext, IsTaken}
 use Rattle.vf_party.specs.declared.party.Outcome.{Outcome}
 use Rattle.vf_party.specs.declared.party.Party.{Party}
 use Rattle.vf_tables.specs.Changes.{after_all}
 use Rattle.vf_tables.specs.declared.change.Change.{Change}
 use Rattle.vf_tables.specs.declared.tables.Tables.{Tables}
-
--- a sound state of which code has these tables and locks, in which a party stands on the link that this one represents
-pub record GoesOn (tables : Tables) (locks : HoldersOfFiles) (state : State) (link : ℕ) (party : Party) : Type 0 where
-  pub standing : StandingParty
-  pub linked : standing.link ≡ link
-  pub represented : IsParty party standing
-  pub stands : StandsIn tables locks state standing
 
 module _ (state : State) (party : StandingParty) (setting : Setting) (message : Message) (found : party_of party.link state.parties ≡ Some party)
     (nobody : superseded_by state party message ≡ None) where
@@ -63,7 +57,7 @@ module _ (tables : Tables) (old new : HoldersOfFiles) (state : State) (party : S
       ∙ ap (λ (kept : Tables). after_all kept outcome.changes) stands.kept
 
   turn_goes_on : (next : Party) → IsNext (Some next) (party_of party.link (answered state party setting message).state.parties)
-      → GoesOn (after_all tables outcome.changes) new (answered state party setting message).state party.link next
+      → StandsAs (after_all tables outcome.changes) new (answered state party setting message).state party.link next
   turn_goes_on next (standing, found, represented) =
       let linked = has_link (answered state party setting message).state party.link standing found in
       record {
@@ -79,6 +73,6 @@ module _ (tables : Tables) (old new : HoldersOfFiles) (state : State) (party : S
       }
 
   pub turns_go_on : (next : Party) → outcome.party ≡ Some next
-      → GoesOn (after_all tables outcome.changes) new (answered state party setting message).state party.link next
+      → StandsAs (after_all tables outcome.changes) new (answered state party setting message).state party.link next
   turns_go_on next is =
       turn_goes_on next (subst (λ (one : Option Party). IsNext one (party_of party.link (answered state party setting message).state.parties)) is taken.next)

@@ -5,6 +5,7 @@ pub mod Dockets
 pub mod Dues
 pub mod Erasures
 pub mod Files
+pub mod GoingOn
 pub mod Items
 pub mod Leaving
 pub mod Locations
