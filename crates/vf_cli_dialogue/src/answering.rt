@@ -1,7 +1,7 @@
 //! One party's messages over an empty filestore, from lines to lines.
 ghost use Rattle.std.specs.Prelude.{◌≡◌, ◌<◌, [], ◌∷◌, true, false, IsErrOf, IfErr, OnErr, OnOk, IfOk, List, Option, Some, ℕ};
 ghost use Rattle.vf_base.specs.Faults.{HasRisen, NeverFalls};
-ghost use Rattle.vf_regime.specs.State.{State};
+ghost use Rattle.vf_filestore.specs.State.{State};
 ghost use Rattle.vf_cli_dialogue.specs.Conversation.{Goes, IsInterrupted, PrintsAll, PrintsPrefix, ReadsLine, Stands, Steps, is_ready, left_of, octets_in, size_of};
 ghost use Rattle.vf_cli_dialogue.specs.Lines.{Input, bad_line};
 ghost use Rattle.vf_cli_dialogue.specs.Dialogue.{EndsDialogue, MeetsDialogue};

@@ -1,7 +1,9 @@
 use Rattle.std.proofs.Common.{ℕ, Option, subst, arith}
-use Rattle.vf_regime.specs.State.{State}
+use Rattle.vf_filestore.specs.State.{State}
 use Rattle.vf_cli_dialogue.specs.Conversation.{Goes, Stands, Steps, left_of, octets_in}
 use Rattle.vf_cli_dialogue.specs.Reader.{will_say}
+use Rattle.vf_cli_dialogue.specs.declared.answering.Interruption.TheVariants.{Input, Output}
+use Rattle.vf_cli_dialogue.proofs.FaultLemmas.{came_from, risen_before}
 use Rattle.vf_cli_dialogue.proofs.LineLemmas.{on_err}
 use Rattle.vf_cli_dialogue.proofs.TopLemmas.{prints_all, prints_prefix, so_far_begins, so_far_ends, so_far_goes, so_far_stops}
 use Rattle.vf_cli_dialogue.proofs.answering.converse.Goals as goal
@@ -48,3 +50,13 @@ pub steps-smaller : goal.steps-smaller
 steps-smaller g c =
     subst (λ (step : Option ℕ). Goes (left_of c.steps.reader c.steps.conversation) (left_of c.take_step.new.reader c.take_step.new.conversation) step)
     c.in_default.is c.in_ok-step.ensures.goes
+
+pub returns-in_err-step-clause-input : goal.returns-in_err-step-clause-input
+returns-in_err-step-clause-input g c = λ is.
+    risen_before _ _ _ c.steps.invariant.input_falls
+    (c.in_err-step.ensures.input (came_from c.from_residual-in_err-step.result c.in_err-step.field-0.0 Input c.from_residual-in_err-step.ensures.1 is))
+
+pub returns-in_err-step-clause-output : goal.returns-in_err-step-clause-output
+returns-in_err-step-clause-output g c = λ is.
+    risen_before _ _ _ c.steps.invariant.out_falls
+    (c.in_err-step.ensures.output (came_from c.from_residual-in_err-step.result c.in_err-step.field-0.0 Output c.from_residual-in_err-step.ensures.1 is))
