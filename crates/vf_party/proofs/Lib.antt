@@ -15,6 +15,7 @@ pub mod Kept
 pub mod Locations
 pub mod OpenRows
 pub mod Opens
+pub mod Others
 pub mod OwnDockets
 pub mod ReadsOn
 pub mod Refused
