@@ -36,7 +36,7 @@ use Rattle.vf_tables.specs.declared.tables.Tables.{Tables}
 
 -- ---- parties
 
-found_heard : (state : State) (party : StandingParty) (message : Message) → party_of party.link state.parties ≡ Some party
+pub found_heard : (state : State) (party : StandingParty) (message : Message) → party_of party.link state.parties ≡ Some party
     → party_of party.link (hearing state party message).parties ≡ Some (with_message message party)
 found_heard state party message found =
     let at = located party.link state.parties party found in
@@ -226,3 +226,13 @@ module _ (state : State) (party : StandingParty) (setting : Setting) (message : 
         held = keeps;
       } in
       subst (λ (one : Answered). IsAnswered tables new said [] one × (party_of party.link one.state.parties ≡ None)) (sym is) (owed, none_left_of party.link state.parties)
+
+  -- ---- what waits
+
+  -- nothing is said, and all is as it was, but for the trace
+  pub waits_answers : (tables : Tables) (locks : HoldersOfFiles) → StandsIn tables locks state party → IsAnswered tables locks [] [] (record { said = []; state = heard })
+  waits_answers tables locks stands = record {
+    says = refl;
+    differs = sym (no_change tables state heard stands.sound stands.kept (tables_heard state party message stands.stands));
+    held = λ file. stands.held file ∙ sym (traces_hold state party message stands.stands file);
+  }

@@ -1,6 +1,7 @@
 pub mod Abortions
 pub mod Activities
 pub mod Answering
+pub mod Bars
 pub mod Closes
 pub mod Concluding
 pub mod Creations

@@ -1,5 +1,6 @@
 -- What is read off a history in which a read goes on or ends, and what a store keeps of it.
-use Rattle.std.proofs.Common.{◌≡◌, ℕ, ◌+◌, ◌*◌, ◌-◌, Bool, true, false, cond, ◌||◌, List, [], ◌∷◌, ◌++◌, length, min, take, Option, None, Some, refl, ap, sym, ◌∙◌, arith, length-append}
+use Rattle.std.proofs.Common.{◌≡◌, ℕ, ◌+◌, ◌*◌, ◌-◌, Bool, true, false, cond, ◌&&◌, ◌||◌, List, [], ◌∷◌, ◌++◌, length, min, take, is_some, Option, None, Some, refl, ap, sym, ◌∙◌, arith, length-append}
+use Rattle.std.specs.Prelude.{nat_le}
 use Rattle.std.proofs.lemmas.List.{length-take}
 use Rattle.vf_attr.specs.declared.file.File.{File}
 use Rattle.vf_attr.specs.declared.stamp.Stamp.{Stamp}
@@ -10,8 +11,9 @@ use Rattle.vf_elements.specs.Stages.{takes}
 use Rattle.vf_elements.specs.declared.message.Message.{Message}
 use Rattle.vf_elements.specs.declared.message.Said.{Said}
 use Rattle.vf_elements.specs.declared.message.Said.TheVariants as answers
+use Rattle.vf_elements.specs.declared.stage.Stage.TheVariants as stages
 use Rattle.vf_files.specs.Files.{file_named}
-use Rattle.vf_filestore.specs.Aborts.{Setting}
+use Rattle.vf_filestore.specs.Aborts.{Setting, is_known}
 use Rattle.vf_filestore.specs.Changes.{file_changes}
 use Rattle.vf_filestore.specs.Conclusion.{concluding_entry, taken_up}
 use Rattle.vf_filestore.specs.Decision.{Grants, message_decision}
@@ -22,10 +24,10 @@ use Rattle.vf_filestore.specs.Ending.{after_read, ending_unless, read_ending, st
 use Rattle.vf_filestore.specs.History.{Entry, Given, Nothing, History, association, done, last, position, regime, selection}
 use Rattle.vf_filestore.specs.HoldersAfter.{IsHeldAfter, Keeps, concluded_by}
 use Rattle.vf_filestore.specs.Limits.{between_checks}
-use Rattle.vf_filestore.specs.Stage.{regime_stage}
+use Rattle.vf_filestore.specs.Stage.{regime_stage, stage_by}
 use Rattle.vf_filestore.specs.State.{State, StandingParty, file_in, identity_in, name_in, selected_file, with_party}
 use Rattle.vf_filestore.specs.Tables.{direction_of, fadu_of, point_of, refused_of, staged_of, tables_of, version_of}
-use Rattle.vf_filestore.specs.Transfers.{Reads, happened, has_data_end, last_check, point, refusal_of, start, under_way, was_shown, with_heard, with_said}
+use Rattle.vf_filestore.specs.Transfers.{Reads, data_end, happened, has_data_end, last_check, point, refusal_of, start, under_way, was_shown, with_heard, with_said}
 use Rattle.vf_filestore.proofs.Decisions.{party_sound}
 use Rattle.vf_filestore.proofs.Named.{ArePlain, due_after_plain}
 use Rattle.vf_filestore.proofs.Unchanged.{files_themselves}
@@ -36,7 +38,7 @@ use Rattle.vf_party.specs.declared.states.OpenRegime.{OpenRegime}
 use Rattle.vf_party.specs.declared.step.Step.{Step}
 use Rattle.vf_party.specs.Dockets.{docket_with, fields_of, no_transfer, own_changes}
 use Rattle.vf_party.specs.Dues.{Says, checks_in}
-use Rattle.vf_party.specs.Reads.{IsReading, dues, ended_changes, moving_of, read_changes, unless_refused}
+use Rattle.vf_party.specs.Reads.{IsReading, dues, ended_changes, knows, moving_of, read_changes, stage_of, unless_refused}
 use Rattle.vf_party.specs.Regimes.{with_regime}
 use Rattle.vf_party.specs.Represents.{IsOpen, IsOpened, association_of, regime_of}
 use Rattle.vf_party.specs.Steps.{Concludes, HoldersOfFiles, StandsIn, history_by}
@@ -261,3 +263,13 @@ ended_is tables state party reading moment kept is =
     (λ i. file_changes (sym kept i).files (put_where name (ending_unless refused (read_ending (stamp_of party moment) (file_named name state.files))).file state.files))
     ∙ files_ended refused (stamp_of party moment) name state.files
     ∙ (λ i. unless_refused refused (read_changes (record { moment = moment; identity = identity_in (is.within.associated i) }) (file_named (file_in (is.within.selected i)) (kept i).files)))
+
+-- ---- what is asked of a message before its step
+
+pub reading_stage : (reading : Reading) (link : ℕ) (history : History) → IsReading reading link history → regime_stage history ≡ stage_of reading
+reading_stage reading link history is =
+    (λ i. stage_by (association history) (selection history) (regime history) (is.moves i) (is_some (data_end history)) (was_shown history))
+    ∙ ap (λ (b : Bool). cond b stages.Shown stages.Reading) is.showed
+
+pub reading_knows : (reading : Reading) (link : ℕ) (history : History) (check : ℕ) → IsReading reading link history → is_known history check ≡ knows check reading
+reading_knows reading link history check is = λ i. nat_le (is.started i) check && nat_le check (is.checked i)

@@ -7,6 +7,7 @@ use Rattle.vf_elements.specs.Stages.{takes}
 use Rattle.vf_elements.specs.declared.message.Message.{Message}
 use Rattle.vf_elements.specs.declared.message.Said.{Said}
 use Rattle.vf_elements.specs.declared.message.Said.TheVariants as answers
+use Rattle.vf_elements.specs.declared.stage.Stage.{Stage}
 use Rattle.vf_elements.specs.declared.stage.Stage.TheVariants as stages
 use Rattle.vf_filestore.specs.Aborts.{Setting, first_abort}
 use Rattle.vf_filestore.specs.Aborts.{aborts as all_aborts}
@@ -27,13 +28,19 @@ use Rattle.vf_locks.specs.Table.{IsAsBefore}
 use Rattle.vf_party.specs.Answers.{GoesOn, IsAnswered}
 use Rattle.vf_party.specs.Refusals.{refusal_numbered}
 use Rattle.vf_party.specs.Steps.{Concludes, HoldersOfFiles, IsStep, MeetsStep, Represents, StandsIn}
-use Rattle.vf_party.specs.Turns.{ComesOn, ComesTo, EndsSaying, IsAlone, IsEnded, IsNext, IsOutcomeOf, IsParty, IsRefused, IsTaken, IsTurnIn}
+use Rattle.vf_party.specs.Turns.{ComesOn, ComesTo, EndsSaying, IsAlone, IsEnded, IsNext, IsOutcomeOf, IsParty, IsRefused, IsTaken, IsTurnIn, IsTurnOf}
 use Rattle.vf_party.specs.declared.party.Outcome.{Outcome}
 use Rattle.vf_party.specs.declared.party.Party.{Party}
+use Rattle.vf_party.specs.declared.party.Party.TheVariants as parties
+use Rattle.vf_party.specs.declared.quiet.Quiet.TheVariants as quiets
+use Rattle.vf_party.specs.declared.states.Associated.{Associated}
+use Rattle.vf_party.specs.declared.states.Open.{Open}
+use Rattle.vf_party.specs.Quiets.{IsQuiet}
+use Rattle.vf_party.specs.Represents.{IsAssociated, IsOpen}
 use Rattle.vf_party.specs.declared.step.Step.{Step}
 use Rattle.vf_party.specs.declared.step.StepError.{StepError}
 use Rattle.vf_party.specs.declared.step.StepError.TheVariants as errors
-use Rattle.vf_party.proofs.Answering.{IsAsked, asked_decides, end_answers, refusal_answers, step_answers, step_ends}
+use Rattle.vf_party.proofs.Answering.{IsAsked, asked_decides, end_answers, found_heard, refusal_answers, step_answers, step_ends, waits_answers}
 use Rattle.vf_tables.specs.declared.tables.Tables.{Tables}
 
 -- a decision that is no end of a group
@@ -161,6 +168,15 @@ module _ {S : Type 0} (represents : Represents S) (back : S → Party) (tables :
       untaken_decides : decision state party setting message ≡ Aborts wrong_state
       untaken_decides = λ i. cond (here i) (decision_in (pending party.trace) state party setting message) (Aborts wrong_state)
 
+  -- what nothing bars comes to what its rows say
+  pub unbarred_decides : takes (regime_stage party.history) message ≡ true → first_abort (all_aborts party setting message) ≡ None → decision state party setting message ≡ message_decision state party setting message
+  unbarred_decides taken unbarred =
+      (λ i. cond (here i) (decision_in (alone.alone i) state party setting message) (Aborts wrong_state))
+      ∙ (λ i. unless_aborted (unbarred i) (message_decision state party setting message))
+    where
+      here : takes (stage party) message ≡ true
+      here = (λ i. takes (cond (is_some (alone.alone i)) stages.Grouping (regime_stage party.history)) message) ∙ taken
+
   -- of one that an abort's row refuses
   pub barred_turn : (number : ℕ) (result : Result Outcome (Party × NoMemory)) → takes (regime_stage party.history) message ≡ true → first_abort (all_aborts party setting message) ≡ Some number
       → EndsSaying represents back self (answers.Abort number 0 ∷ []) old new result → IsTurnIn tables old new (back self) state party setting message result
@@ -173,3 +189,61 @@ module _ {S : Type 0} (represents : Represents S) (back : S → Party) (tables :
       barred_decides =
           (λ i. cond (here i) (decision_in (alone.alone i) state party setting message) (Aborts wrong_state))
           ∙ (λ i. unless_aborted (barred i) (message_decision state party setting message))
+
+-- ---- what waits
+
+module _ (tables : Tables) (locks : HoldersOfFiles) (setting : Setting) (message : Message) (state : State) (party : StandingParty) (stands : StandsIn tables locks state party) where
+  pub waits_turn : (outcome : Outcome) (next : Party) → decision state party setting message ≡ Waits → outcome.party ≡ Some next → outcome.said.items ≡ [] → outcome.changes ≡ []
+      → IsParty next (with_message message party) → IsTaken tables locks state party setting message outcome
+  waits_turn outcome next decides goes says differs represents =
+      let answer : Answered = record { said = []; state = hearing state party message } in
+      let is : answered state party setting message ≡ answer = ap (met (hearing state party message) (with_message message party) setting message) decides in
+      let owed = waits_answers state party setting message tables locks stands in
+      taken_of tables state party setting message stands.kept locks outcome Waits waits decides
+      (subst (λ (one : Answered). IsAnswered tables locks outcome.said.items outcome.changes one) (sym is)
+      (record { says = says; differs = differs ∙ owed.differs; held = owed.held }))
+      (subst (λ (one : Answered). IsNext outcome.party (party_of party.link one.state.parties)) (sym is)
+      (subst (λ (one : Option Party). IsNext one (party_of party.link (hearing state party message).parties)) (sym goes)
+      (with_message message party, found_heard state party message stands.stands, represents)))
+
+-- ---- typed states
+
+-- a step of a typed state, by the stage that it is in and by what aborts its message
+module _ {Old New : Type 0} (represents : Represents Old) (after : Represents New) (back : Old → Party) (next : New → Party) (enters_back : Enters represents back) (enters : Enters after next)
+    (tables : Tables) (old mid new : HoldersOfFiles) (self : Old) (setting : Setting) (message : Message) (here : Stage)
+    (staged : (party : StandingParty) → represents self party.link party.history → regime_stage party.history ≡ here) (taken : takes here message ≡ true)
+    (unbarred : (party : StandingParty) → represents self party.link party.history → first_abort (all_aborts party setting message) ≡ None)
+    (ungrouped : (trace : List Message) → pending trace ≡ None → pending (message ∷ trace) ≡ None) (stays : associates message ≡ false)
+    (number : ℕ) (refusal_is : (diagnostic : Diagnostic) → refusal diagnostic message ≡ refusal_numbered number diagnostic) where
+  pub step_turn : (answer : Result (Step New) (Old × StepError)) (result : Result Outcome (Party × NoMemory)) → IsStep represents after tables old mid self setting message answer
+      → IfErr answer (λ back. back.0 ≡ self) → ComesTo after back next number mid new answer result → IsTurnOf represents back tables old new self setting message result
+  step_turn answer result step kept comes state party stands alone =
+      let takes_it = ap (λ stage. takes stage message) (staged party alone.represented) ∙ taken in
+      let asked : IsAsked state party setting message = record {
+        alone = alone.alone;
+        stays = ungrouped party.trace alone.alone;
+        taken = takes_it;
+        unaborted = unbarred party alone.represented;
+      } in
+      turn_of represents after back next enters_back enters tables old mid new self setting message number refusal_is stays state party stands alone asked answer result
+      (step state party stands alone.represented takes_it) kept comes
+
+-- what a party with an association is, and one with an open file
+abbrev pub associated_party : Associated → Party
+associated_party associated = parties.Quiet (quiets.Associated associated)
+
+abbrev pub opened_party : Open → Party
+opened_party regimes = parties.Quiet (quiets.Open regimes)
+
+pub associated_enters : Enters IsAssociated associated_party
+associated_enters self standing is = record { represented = is.represented; alone = is.alone }
+
+pub opened_enters : Enters IsOpen opened_party
+opened_enters self standing is = record { represented = is.represented; alone = is.alone }
+
+-- and back
+pub associated_alone : (associated : Associated) (standing : StandingParty) → IsAlone IsQuiet (quiets.Associated associated) standing → IsAlone IsAssociated associated standing
+associated_alone associated standing is = record { represented = is.represented; alone = is.alone }
+
+pub opened_alone : (regimes : Open) (standing : StandingParty) → IsAlone IsQuiet (quiets.Open regimes) standing → IsAlone IsOpen regimes standing
+opened_alone regimes standing is = record { represented = is.represented; alone = is.alone }

@@ -1,11 +1,13 @@
 -- A read that is under way, as a typed state keeps it, and what a store keeps of it.
-use Rattle.std.specs.Prelude.{◌≡◌, ℕ, ◌*◌, List, [], Option, None, Some}
+use Rattle.std.specs.Prelude.{◌≡◌, ℕ, ◌*◌, Bool, ◌&&◌, List, [], Option, None, Some, if◌then◌else◌, nat_le}
 use Rattle.vf_attr.specs.declared.file.File.{File}
 use Rattle.vf_attr.specs.declared.stamp.Stamp.{Stamp}
 use Rattle.vf_base.specs.declared.access.Context.{Context}
 use Rattle.vf_base.specs.declared.access.FaduId.{FaduId}
 use Rattle.vf_base.specs.declared.diagnostic.Diagnostic.{Diagnostic}
 use Rattle.vf_elements.specs.declared.message.Said.{Said}
+use Rattle.vf_elements.specs.declared.stage.Stage.{Stage}
+use Rattle.vf_elements.specs.declared.stage.Stage.TheVariants as stages
 use Rattle.vf_files.specs.Files.{file_named}
 use Rattle.vf_filestore.specs.Dockets.{retained, since_selection}
 use Rattle.vf_filestore.specs.Due.{check_window, due_of}
@@ -72,3 +74,11 @@ abbrev pub ended_changes : Reading → (moment : ℕ) → List File → List Cha
 ended_changes reading moment files =
     unless_refused (refusal_of (given_of_reading reading.given))
     (read_changes (stamp_at reading.opened.selected.associated.association moment) (file_named reading.opened.selected.selection.file files))
+
+-- the stage of a party in which it is under way
+abbrev pub stage_of : Reading → Stage
+stage_of reading = if reading.shown then stages.Shown else stages.Reading
+
+-- a check that an acknowledgement and a restart may name
+abbrev pub knows : (check : ℕ) → Reading → Bool
+knows check reading = nat_le reading.start check && nat_le check reading.check

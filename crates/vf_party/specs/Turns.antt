@@ -18,13 +18,16 @@ use Rattle.vf_locks.specs.Table.{IsAsBefore}
 use Rattle.vf_party.specs.Items.{is_item}
 use Rattle.vf_party.specs.Leaving.{LeavesHolders}
 use Rattle.vf_party.specs.Quiets.{IsQuiet}
+use Rattle.vf_party.specs.Reads.{IsReading}
 use Rattle.vf_party.specs.Refusals.{refusal_numbered}
 use Rattle.vf_party.specs.Represents.{IsIdle}
 use Rattle.vf_party.specs.Steps.{HoldersOfFiles, Represents, StandsIn}
+use Rattle.vf_party.specs.Writes.{IsWriting}
 use Rattle.vf_party.specs.declared.party.Grouping.{Grouping}
 use Rattle.vf_party.specs.declared.party.Outcome.{Outcome}
 use Rattle.vf_party.specs.declared.party.Party.{Party}
 use Rattle.vf_party.specs.declared.party.Party.TheVariants as parties
+use Rattle.vf_party.specs.declared.quiet.Quiet.{Quiet}
 use Rattle.vf_party.specs.declared.step.Step.{Step}
 use Rattle.vf_party.specs.declared.step.StepError.{StepError}
 use Rattle.vf_party.specs.declared.step.StepError.TheVariants as errors
@@ -43,6 +46,8 @@ pub record IsGrouped (grouping : Grouping) (standing : StandingParty) : Type 0 w
 abbrev pub IsParty : Party → StandingParty → Type 0
 IsParty (parties.Idle idle) standing = IsAlone IsIdle idle standing
 IsParty (parties.Quiet quiet) standing = IsAlone IsQuiet quiet standing
+IsParty (parties.Reading reading) standing = IsAlone IsReading reading standing
+IsParty (parties.Writing writing) standing = IsAlone IsWriting writing standing
 IsParty (parties.Grouping grouping) standing = IsGrouped grouping standing
 
 -- the party that a message leaves, if it leaves one
@@ -98,3 +103,15 @@ pub record IsEnded {S : Type 0} (represents : Represents S) (self : S) (said : L
 abbrev pub EndsSaying : {S : Type 0} → Represents S → (S → Party) → S → List Said → (before after : HoldersOfFiles) → Result Outcome (Party × NoMemory) → Type 0
 EndsSaying represents party self said old new (Ok outcome) = IsEnded represents self said old new outcome
 EndsSaying represents party self said old new (Err (back, error)) = (back ≡ party self) × (new ≡ old)
+
+-- what a party outside of a group owes to a message
+abbrev pub IsTurnOf : {S : Type 0} → Represents S → (S → Party) → Tables → (before after : HoldersOfFiles) → S → Setting → Message → Result Outcome (Party × NoMemory) → Type 0
+IsTurnOf represents party_of tables old new self setting message result =
+    (state : State) (party : StandingParty) → StandsIn tables old state party → IsAlone represents self party
+    → IsTurnIn tables old new (party_of self) state party setting message result
+
+-- a group begins: nothing is said
+pub record IsBegun (quiet : Quiet) (threshold : ℕ) (outcome : Outcome) : Type 0 where
+  pub groups : outcome.party ≡ Some (parties.Grouping (record { quiet = quiet; threshold = threshold; items = [] }))
+  pub says : outcome.said.items ≡ []
+  pub differs : outcome.changes ≡ []

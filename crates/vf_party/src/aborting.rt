@@ -1,12 +1,11 @@
 //! What aborts a request before anything else is asked (profile): an abort has no diagnostic, and ends the association.
-ghost use Rattle.std.specs.Prelude.{◌≡◌, ◌||◌};
+ghost use Rattle.std.specs.Prelude.{◌≡◌, ◌&&◌, nat_le};
 ghost use Rattle.vf_files.specs.Rows.{includes as includes_meant};
 ghost use Rattle.vf_filestore.specs.Aborts.{first_abort, passes_serials as passes_serials_meant};
 ghost use Rattle.vf_filestore.specs.Units.{has_checks as has_checks_meant};
-ghost use Rattle.vf_party.specs.Aborting.{aborts_of_open, aborts_of_units, spent_aborts};
-ghost use Rattle.vf_party.specs.Settings.{setting_of};
+ghost use Rattle.vf_party.specs.Aborting.{aborts_of_open, aborts_of_quiet, aborts_of_restart, aborts_of_units, spent_aborts};
 
-use crate::Setting;
+use crate::Quiet;
 use crate::states::OpenRegime;
 use vf_pdu::Pdu;
 use vf_regime_refusals::Association;
@@ -29,10 +28,27 @@ const RECOVERY: u16 = 128;
 const MOST_TRANSFERS: u32 = 1_000_000;
 
 /// The highest number of a session.
-const MOST_SERIAL: u32 = 999_999;
+const MOST_SERIAL: u64 = 999_999;
+
+/// What aborts a request of a party in which no transfer is under way; `token` is whether this end has the token of minor
+/// synchronization.
+pub(crate) fn aborted_in_quiet(quiet: &Quiet, request: &Pdu, token: bool) -> Option<u16>
+    ensures { result ≡ first_abort (aborts_of_quiet quiet.now token request.now) }
+{
+    match quiet {
+        Quiet::Associated(associated) => aborted_by_units(associated.association.units, request),
+        Quiet::Selected(selected) => {
+            aborted_by_units(selected.associated.association.units, request)
+        }
+        Quiet::Open(regimes) => {
+            let association = &regimes.selected.associated.association;
+            aborted_in_open(association, &regimes.regime, request, token)
+        }
+    }
+}
 
 /// What aborts the begin of a group under these functional units.
-pub(crate) fn aborted_by_units(units: u16, request: &Pdu) -> Option<u16>
+fn aborted_by_units(units: u16, request: &Pdu) -> Option<u16>
     ensures { result ≡ first_abort (aborts_of_units units request.now) }
 {
     match request {
@@ -47,17 +63,17 @@ pub(crate) fn aborted_by_units(units: u16, request: &Pdu) -> Option<u16>
 }
 
 /// What aborts a request in an open regime in which no transfer is under way.
-pub(crate) fn aborted_in_open(
+fn aborted_in_open(
     association: &Association,
     regime: &OpenRegime,
     request: &Pdu,
-    setting: Setting,
+    token: bool,
 ) -> Option<u16>
-    ensures { result ≡ first_abort (aborts_of_open association.now.units regime.now.done (setting_of setting) request.now) }
+    ensures { result ≡ first_abort (aborts_of_open association.now.units regime.now.done token request.now) }
 {
     match request {
         Pdu::ReadRequest { .. } => {
-            if has_checks(association.units) && !setting.token {
+            if has_checks(association.units) && !token {
                 return Some(WRONG_STATE);
             }
             spent(regime.done)
@@ -91,8 +107,38 @@ fn includes(units: u16, others: u16) -> bool
     others & units == others
 }
 
+/// What aborts a restart at a check under these functional units, of a transfer that began at the check `start` and whose
+/// last is `check`, where the session's next check has this number.
+pub(crate) fn aborted_restart(
+    units: u16,
+    start: u32,
+    check: u32,
+    serial: u32,
+    point: u32,
+) -> Option<u16>
+    ensures { result ≡ first_abort (aborts_of_restart units start check serial point) }
+{
+    if !has_checks(units) {
+        return Some(WRONG_STATE);
+    }
+    if !is_known(start, check, point) {
+        return Some(WRONG_STATE);
+    }
+    if passes_serials((u64::from(serial) + u64::from(point)).saturating_sub(u64::from(check))) {
+        return Some(NUMBERS_SPENT);
+    }
+    None
+}
+
+/// Whether a check is one of these.
+pub(crate) fn is_known(start: u32, last: u32, check: u32) -> bool
+    ensures { result ≡ (nat_le start check && nat_le check last) }
+{
+    start <= check && check <= last
+}
+
 /// Whether this is no number of a session.
-pub(crate) fn passes_serials(serial: u32) -> bool
+pub(crate) fn passes_serials(serial: u64) -> bool
     ensures { result ≡ passes_serials_meant serial }
 {
     MOST_SERIAL < serial

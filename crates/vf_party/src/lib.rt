@@ -35,6 +35,8 @@ mod selected;
 mod setting;
 mod states;
 mod step;
+mod taking_quiet;
+mod taking_regime;
 mod writing;
 
 pub use idle::Idle;

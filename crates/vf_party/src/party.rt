@@ -2,12 +2,15 @@ ghost use Rattle.std.specs.Prelude.{◌≡◌, ℕ};
 ghost use Rattle.vf_filestore.specs.History.{History};
 ghost use Rattle.vf_party.specs.Leaving.{LeavesHolders};
 ghost use Rattle.vf_party.specs.Quiets.{IsQuiet};
-ghost use Rattle.vf_party.specs.Represents.{IsIdle};
+ghost use Rattle.vf_party.specs.Reads.{IsReading};
+ghost use Rattle.vf_party.specs.Represents.{IsAssociated, IsIdle, IsOpen};
+ghost use Rattle.vf_party.specs.Writes.{IsWriting};
 ghost use Rattle.vf_party.specs.declared.party.Party.{Party as PartyMeant};
 ghost use Rattle.vf_party.specs.declared.party.Party.TheVariants as parties;
+ghost use Rattle.vf_party.specs.declared.quiet.Quiet.TheVariants as quiets;
 
-use crate::leaving::leave_quiet;
-use crate::{Idle, Quiet};
+use crate::leaving::{leave, leave_quiet};
+use crate::{Associated, Idle, Open, Quiet, Reading, Writing};
 use vf_base::Sequence;
 use vf_elements::Said;
 use vf_locks::Locks;
@@ -19,6 +22,8 @@ use vf_tables::Changes;
 pub enum Party {
     Idle(Idle),
     Quiet(Quiet),
+    Reading(Reading),
+    Writing(Writing),
     Grouping(Grouping),
 }
 
@@ -78,5 +83,61 @@ impl PartyState for Quiet {
 
     fn leave(self, locks: &mut Locks) {
         leave_quiet(self, locks);
+    }
+}
+
+impl PartyState for Reading {
+    ghost represents = { IsReading };
+
+    ghost party_of = { parties.Reading };
+
+    fn into_party(self) -> Party {
+        Party::Reading(self)
+    }
+
+    fn leave(self, locks: &mut Locks) {
+        leave(self.opened.selected, self.opened.regime.activity, locks);
+    }
+}
+
+impl PartyState for Writing {
+    ghost represents = { IsWriting };
+
+    ghost party_of = { parties.Writing };
+
+    fn into_party(self) -> Party {
+        Party::Writing(self)
+    }
+
+    fn leave(self, locks: &mut Locks) {
+        leave(self.regimes.selected, self.regimes.regime.activity, locks);
+    }
+}
+
+impl PartyState for Associated {
+    ghost represents = { IsAssociated };
+
+    ghost party_of = { λ associated. parties.Quiet (quiets.Associated associated) };
+
+    fn into_party(self) -> Party {
+        Party::Quiet(Quiet::Associated(self))
+    }
+
+    fn leave(self, locks: &mut Locks) {
+        leave_quiet(Quiet::Associated(self), locks);
+    }
+}
+
+impl PartyState for Open {
+    ghost represents = { IsOpen };
+
+    ghost party_of = { λ regimes. parties.Quiet (quiets.Open regimes) };
+
+    fn into_party(self) -> Party {
+        Party::Quiet(Quiet::Open(self))
+    }
+
+    fn leave(self, locks: &mut Locks) {
+        leave_quiet(Quiet::Open(self), locks);
     }
 }

@@ -1,7 +1,7 @@
 ghost use Rattle.std.specs.Prelude.{◌≡◌, [], IfErr, IfOk, if◌then◌else◌};
 ghost use Rattle.vf_elements.specs.declared.message.Message.TheVariants as messages;
 ghost use Rattle.vf_party.specs.Dues.{Says};
-ghost use Rattle.vf_party.specs.Reads.{IsReading, dues, moving_of, read_at as read_at_meant};
+ghost use Rattle.vf_party.specs.Reads.{IsReading, dues, knows, moving_of, read_at as read_at_meant, stage_of};
 ghost use Rattle.vf_party.specs.Regimes.{docket_changes};
 ghost use Rattle.vf_party.specs.Steps.{IsStep};
 ghost use Rattle.vf_pdu.specs.declared.pdu.Pdu.TheVariants.{RestartRequest};
@@ -13,6 +13,7 @@ use crate::step::one_said;
 use crate::{Open, Said, Step, StepError};
 use std::alloc::Global;
 use vf_base::{Context, FaduId, Moment, NoMemory};
+use vf_elements::Stage;
 use vf_locks::Locks;
 use vf_pdu::Pdu;
 use vf_regime_effects::Reading as Given;
@@ -37,6 +38,24 @@ pub struct Reading {
 }
 
 impl Reading {
+    /// The stage of the party (ISO 8571-4): its transfer may end once the end of the values was said.
+    pub fn stage(&self) -> Stage
+        ensures { result ≡ stage_of self.now }
+    {
+        if self.shown {
+            return Stage::Shown;
+        }
+        Stage::Reading
+    }
+
+    /// Whether this check stands and isn't before the last recovery, or is the point of that: an acknowledgement and a
+    /// restart name no other.
+    pub fn is_known(&self, check: u32) -> bool
+        ensures { result ≡ knows check self.now }
+    {
+        self.start <= check && check <= self.check
+    }
+
     /// Takes the acknowledgement of a check, and so of each one before it (ISO 8571-3, F-CHECK): the party is sent what is
     /// due now. That the check stands is looked at before. Without memory the state is given back as it was.
     pub fn acknowledge(

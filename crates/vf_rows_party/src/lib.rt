@@ -6,4 +6,8 @@ mod acts;
 #[cfg(test)]
 mod changes;
 #[cfg(test)]
+mod reads;
+#[cfg(test)]
 mod steps;
+#[cfg(test)]
+mod writes;

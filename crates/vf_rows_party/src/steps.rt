@@ -206,7 +206,7 @@ fn a_file_is_selected_and_deleted(rt: HostRuntime) -> Result<(), Fail> {
 }
 
 /// What a recoverable open of `a` for reading leaves.
-fn opened(
+pub(crate) fn opened(
     alloc: Global,
     selected: Selected,
     tables: &Tables,
