@@ -8,7 +8,6 @@ mod ContinuesLemmas
 mod ReceivedLemmas
 mod ReadingLemmas
 mod TurnLemmas
-pub mod FaultLemmas
 pub mod HexLemmas
 pub mod HexLineLemmas
 pub mod HexTable

@@ -1,6 +1,6 @@
 -- What the one party answers is what the whole filestore does, and it stays the only one.
-use Rattle.std.proofs.Common.{◌≡◌, ℕ, suc, ◌≤◌, Bool, true, false, cond, not, List, [], ◌∷◌, ◌++◌, length, map, Option, None, Some, is_some, refl, ap, sym, subst, ◌∙◌, arith}
-use Rattle.std.specs.Prelude.{◌&&◌, find, nat_eq, nat_le, count_by, flat_map}
+use Rattle.std.proofs.Common.{◌≡◌, ℕ, suc, ◌≤◌, Bool, true, false, true≢false, cond, not, List, [], ◌∷◌, ◌++◌, length, map, Option, None, Some, Result, Ok, is_some, refl, ap, sym, subst, ◌∙◌, arith}
+use Rattle.std.specs.Prelude.{◌&&◌, if◌then◌else◌, find, nat_eq, nat_le, count_by, flat_map}
 use Rattle.std.specs.List.{IsDistinct, list_any}
 use Rattle.std.specs.Str.{bytes_eq}
 use Rattle.vf_elements.specs.Stages.{takes}
@@ -26,15 +26,18 @@ use Rattle.vf_filestore.specs.State.{State, StandingParty, activity_in, arrived,
 use Rattle.vf_filestore.specs.Transfers.{Movement, Reads, Writes, Transfer, data_end, under_way, was_shown}
 use Rattle.vf_filestore.specs.Transition.{Turn, answered, associates, leaves, met, sent_on, superseded_by, transition, turn_of, with_message}
 use Rattle.vf_cli_dialogue.specs.declared.conversation.Filestore.{Filestore}
-use Rattle.vf_cli_dialogue.specs.Conversation.{Holds}
+use Rattle.vf_cli_dialogue.specs.declared.conversation.After.TheVariants as after
+use Rattle.vf_cli_dialogue.specs.Conversation.{Holds, IsAnsweredBy, IsPut, Makes}
 use Rattle.vf_cli_dialogue.specs.Dialogue.{is_abort, link, opened, reply, said_in, said_of, setting}
 use Rattle.vf_party.specs.GoingOn.{StandsAs}
 use Rattle.vf_party.specs.Steps.{HoldersOfFiles, StandsIn}
-use Rattle.vf_party.specs.Turns.{IsNext, IsParty, IsTaken}
+use Rattle.vf_party.specs.Turns.{IsNext, IsParty, IsTaken, IsTurnIn}
 use Rattle.vf_party.specs.declared.party.Outcome.{Outcome}
 use Rattle.vf_party.specs.declared.party.Party.{Party}
 use Rattle.vf_party.proofs.GoingOn.{answers_alone, turns_go_on}
+use Rattle.vf_base.specs.declared.errors.NoMemory.{NoMemory}
 use Rattle.vf_tables.specs.Changes.{after_all}
+use Rattle.vf_tables.specs.declared.change.Change.{Change}
 use Rattle.vf_tables.specs.Entries.{no_tables}
 use Rattle.vf_tables.specs.declared.tables.Tables.{Tables}
 use Rattle.vf_filestore.proofs.Transitions.{begins_sound, runs_sound}
@@ -126,26 +129,26 @@ left_few n (party ∷ parties) = by (is_of_link n party) (left_few n parties)
 broken_few : (n : ℕ) (state : State) → length state.parties ≤ 1 → length (broken n state).parties ≤ 1
 broken_few n state few = omega (arith, few, left_few n state.parties)
 
-granted_few : (state : State) (party : StandingParty) (setting : Setting) (message : Message) (given : Given) → length state.parties ≤ 1
-    → length (grants state party setting message given).state.parties ≤ 1
-granted_few state party setting message given few = by (has_abort (concluding_entry state party setting message given).said)
+granted_few : (state : State) (party : StandingParty) (during : Setting) (message : Message) (given : Given) → length state.parties ≤ 1
+    → length (grants state party during message given).state.parties ≤ 1
+granted_few state party during message given few = by (has_abort (concluding_entry state party during message given).said)
   where
     after : State
-    after = concluded state party (concluding_entry state party setting message given)
+    after = concluded state party (concluding_entry state party during message given)
 
     after_few : length after.parties ≤ 1
-    after_few = omega (arith, few, put_few (record party { history = concluding_entry state party setting message given ∷ taken_up state party message }) state.parties)
+    after_few = omega (arith, few, put_few (record party { history = concluding_entry state party during message given ∷ taken_up state party message }) state.parties)
 
     by : (b : Bool) → length (cond b (broken party.link after) after).parties ≤ 1
     by true = broken_few party.link after after_few
     by false = after_few
 
-trial_few : (n : ℕ) (setting : Setting) (items : List Pdu) (state : State) → length state.parties ≤ 1 → length (trial n setting items state).state.parties ≤ 1
-trial_few n setting [] state few = few
-trial_few n setting (item ∷ items) state few = by (λ next few. trial_few n setting items next few) (party_of n state.parties)
+trial_few : (n : ℕ) (during : Setting) (items : List Pdu) (state : State) → length state.parties ≤ 1 → length (trial n during items state).state.parties ≤ 1
+trial_few n during [] state few = few
+trial_few n during (item ∷ items) state few = by (λ next few. trial_few n during items next few) (party_of n state.parties)
   where
-    step : ((next : State) → length next.parties ≤ 1 → length (trial n setting items next).state.parties ≤ 1) → (party : StandingParty) (one : Decision) → length (trial_step (trial n setting items) setting item state party one).state.parties ≤ 1
-    step rest party (Grants given) = rest (grants state party setting (messages.Pdu item) given).state (granted_few state party setting (messages.Pdu item) given few)
+    step : ((next : State) → length next.parties ≤ 1 → length (trial n during items next).state.parties ≤ 1) → (party : StandingParty) (one : Decision) → length (trial_step (trial n during items) during item state party one).state.parties ≤ 1
+    step rest party (Grants given) = rest (grants state party during (messages.Pdu item) given).state (granted_few state party during (messages.Pdu item) given few)
     step rest party (Refuses diagnostic) = rest state few
     step rest party (Aborts number) = rest state few
     step rest party Waits = rest state few
@@ -153,35 +156,35 @@ trial_few n setting (item ∷ items) state few = by (λ next few. trial_few n se
     step rest party Ends = rest state few
     step rest party Leaves = rest state few
 
-    by : ((next : State) → length next.parties ≤ 1 → length (trial n setting items next).state.parties ≤ 1) → (one : Option StandingParty) → length (trial_by (trial n setting items) setting item state one).state.parties ≤ 1
+    by : ((next : State) → length next.parties ≤ 1 → length (trial n during items next).state.parties ≤ 1) → (one : Option StandingParty) → length (trial_by (trial n during items) during item state one).state.parties ≤ 1
     by rest None = rest state few
-    by rest (Some party) = step rest party (trial_decision state party setting item)
+    by rest (Some party) = step rest party (trial_decision state party during item)
 
-met_few : (state : State) (party : StandingParty) (setting : Setting) (message : Message) (one : Decision) → length state.parties ≤ 1
-    → length (met state party setting message one).state.parties ≤ 1
-met_few state party setting message (Aborts number) few = broken_few party.link state few
-met_few state party setting message (Refuses diagnostic) few = by (associates message)
+met_few : (state : State) (party : StandingParty) (during : Setting) (message : Message) (one : Decision) → length state.parties ≤ 1
+    → length (met state party during message one).state.parties ≤ 1
+met_few state party during message (Aborts number) few = broken_few party.link state few
+met_few state party during message (Refuses diagnostic) few = by (associates message)
   where
     by : (b : Bool) → length (cond b (leaves state party (refusal diagnostic message)) (record { said = refusal diagnostic message; state = state })).state.parties ≤ 1
     by true = broken_few party.link state few
     by false = few
-met_few state party setting message (Grants given) few = granted_few state party setting message given few
-met_few state party setting message Waits few = few
-met_few state party setting message (Groups group) few = by (nat_le group.threshold (count_by is_good (trial party.link setting group.items state).tried))
+met_few state party during message (Grants given) few = granted_few state party during message given few
+met_few state party during message Waits few = few
+met_few state party during message (Groups group) few = by (nat_le group.threshold (count_by is_good (trial party.link during group.items state).tried))
   where
     by : (b : Bool) → length (cond {A = Answered} b
-        (record { said = between (flat_map item_said (trial party.link setting group.items state).tried); state = (trial party.link setting group.items state).state })
-        (record { said = between (flat_map said_in_vain (trial party.link setting group.items state).tried); state = state })).state.parties ≤ 1
-    by true = trial_few party.link setting group.items state few
+        (record { said = between (flat_map item_said (trial party.link during group.items state).tried); state = (trial party.link during group.items state).state })
+        (record { said = between (flat_map said_in_vain (trial party.link during group.items state).tried); state = state })).state.parties ≤ 1
+    by true = trial_few party.link during group.items state few
     by false = few
-met_few state party setting message Ends few = broken_few party.link state few
-met_few state party setting message Leaves few = broken_few party.link state few
+met_few state party during message Ends few = broken_few party.link state few
+met_few state party during message Leaves few = broken_few party.link state few
 
-pub stays_alone : (state : State) (party : StandingParty) (setting : Setting) (message : Message) → length state.parties ≤ 1
-    → length (answered state party setting message).state.parties ≤ 1
-stays_alone state party setting message few =
+pub stays_alone : (state : State) (party : StandingParty) (during : Setting) (message : Message) → length state.parties ≤ 1
+    → length (answered state party during message).state.parties ≤ 1
+stays_alone state party during message few =
     let heard = with_message message party in
-    met_few (record state { parties = with_party heard state.parties }) heard setting message (decision state party setting message)
+    met_few (record state { parties = with_party heard state.parties }) heard during message (decision state party during message)
     (omega (arith, few, put_few heard state.parties))
 
 -- ---- what it is told
@@ -241,17 +244,65 @@ module _ (state : State) (filestore : Filestore) (holds : Holds filestore state)
       subst (λ (s : State). party_of link s.parties ≡ None) state_is
       (subst (λ (n : ℕ). party_of n (answered state one setting message).state.parties ≡ None) holds.goes.linked gone)
 
+-- What was answered makes the turn, once its changes are made and its replies appended.
+module _ (state : State) (before : Filestore) (holds : Holds before state) (message : Message) (filestore : Filestore) (goes : Bool) (said told : List Said) (changes : List Change)
+    (answered : IsAnsweredBy state before holds message filestore goes said changes) (same : told ≡ said) (old new : List ℕ) (lines : new ≡ old ++ flat_map reply told) where
+  now_said : new ≡ old ++ flat_map reply (said_in (transition state link setting message))
+  now_said = replies_told state before holds message filestore.locks answered.outcome answered.taken old new told (same ∙ answered.says) lines
+
+  now_aborted : (aborted : Bool) → aborted ≡ list_any is_abort told → list_any is_abort (said_in (transition state link setting message)) ≡ aborted
+  now_aborted aborted is = abort_told state before holds message filestore.locks answered.outcome answered.taken aborted told (same ∙ answered.says) is
+
+  pub makes_abort : (next : Filestore) (aborted : Bool) → aborted ≡ list_any is_abort told → aborted ≡ true
+      → Makes (transition state link setting message) old new next after.Aborted
+  makes_abort next aborted is abort = record { said = now_said; comes = now_aborted aborted is ∙ abort }
+
+  pub makes_rest : (tables : Tables) (aborted : Bool) → aborted ≡ list_any is_abort told → aborted ≡ false → tables ≡ after_all before.tables changes
+      → Makes (transition state link setting message) old new (record { party = filestore.party; tables = tables; locks = filestore.locks }) (if goes then after.Goes else after.Gone)
+  makes_rest tables aborted is none made = by goes answered.outcome.party refl answered.put
+    where
+      silent : list_any is_abort (said_in (transition state link setting message)) ≡ false
+      silent = now_aborted aborted is ∙ none
+
+      made_so : tables ≡ after_all before.tables answered.outcome.changes
+      made_so = made ∙ ap (after_all before.tables) answered.differs
+
+      gone : answered.outcome.party ≡ None → Makes (transition state link setting message) old new (record { party = filestore.party; tables = tables; locks = filestore.locks }) after.Gone
+      gone is = record { said = now_said; comes = (party_gone state before holds message filestore.locks answered.outcome answered.taken is, silent) }
+
+      goes_on : (next : Party) → answered.outcome.party ≡ Some next → filestore.party ≡ next
+          → Makes (transition state link setting message) old new (record { party = filestore.party; tables = tables; locks = filestore.locks }) after.Goes
+      goes_on next is put = record {
+        said = now_said;
+        comes = (party_goes state before holds message filestore.locks answered.outcome answered.taken filestore.party tables (is ∙ ap Some (sym put)) made_so, silent);
+      }
+
+      by : (goes : Bool) (next : Option Party) → answered.outcome.party ≡ next → IsPut next filestore.party goes
+          → Makes (transition state link setting message) old new (record { party = filestore.party; tables = tables; locks = filestore.locks }) (if goes then after.Goes else after.Gone)
+      by true None is put = absurd cc
+      by false None is put = gone is
+      by true (Some next) is put = goes_on next is put.0
+      by false (Some next) is put = absurd (true≢false (sym put.1))
+
 -- what a party takes that a filestore has, from what is owed of it in any state
-pub taken_by : (state : State) (filestore : Filestore) (holds : Holds filestore state) (message : Message) (locks : HoldersOfFiles) (outcome : Outcome)
-    (tables : Tables) (party : Party) (given : Setting) → tables ≡ filestore.tables → party ≡ filestore.party → given ≡ setting
-    → ((state : State) (standing : StandingParty) → StandsIn tables filestore.locks state standing → IsParty party standing → IsTaken tables locks state standing given message outcome)
-    → IsTaken filestore.tables locks state holds.goes.standing setting message outcome
-taken_by state filestore holds message locks outcome tables party given same_tables same_party same_setting takes =
+pub answered_by : (state : State) (before : Filestore) (holds : Holds before state) (message : Message) (filestore : Filestore) (outcome : Outcome) (taken : Result Outcome (Party × NoMemory))
+    (tables : Tables) (party : Party) (given : Setting) (goes : Bool) → taken ≡ Ok outcome → tables ≡ before.tables → party ≡ before.party → given ≡ setting
+    → ((state : State) (standing : StandingParty) → StandsIn tables before.locks state standing → IsParty party standing → IsTurnIn tables before.locks filestore.locks party state standing given message taken)
+    → IsPut outcome.party filestore.party goes → IsAnsweredBy state before holds message filestore goes outcome.said.items outcome.changes
+answered_by state before holds message filestore outcome taken tables party given goes is same_tables same_party same_setting takes put =
     let one = holds.goes.standing in
-    let stands = subst (λ (t : Tables). StandsIn t filestore.locks state one) (sym same_tables) holds.goes.stands in
+    let locks = filestore.locks in
+    let stands = subst (λ (t : Tables). StandsIn t before.locks state one) (sym same_tables) holds.goes.stands in
     let represented = subst (λ (p : Party). IsParty p one) (sym same_party) holds.goes.represented in
-    subst (λ (t : Tables). IsTaken t locks state one setting message outcome) same_tables
-    (subst (λ (s : Setting). IsTaken tables locks state one s message outcome) same_setting (takes state one stands represented))
+    let turn : IsTaken tables locks state one given message outcome =
+    subst (λ (r : Result Outcome (Party × NoMemory)). IsTurnIn tables before.locks locks party state one given message r) is (takes state one stands represented) in
+    record {
+      outcome = outcome;
+      taken = subst (λ (t : Tables). IsTaken t locks state one setting message outcome) same_tables (subst (λ (s : Setting). IsTaken tables locks state one s message outcome) same_setting turn);
+      says = refl;
+      differs = refl;
+      put = put;
+    }
 
 -- ---- the begin
 

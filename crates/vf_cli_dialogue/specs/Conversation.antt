@@ -8,7 +8,12 @@ use Rattle.vf_elements.specs.declared.message.Message.{Message}
 use Rattle.vf_pdu_fields.specs.Fault.{Fault}
 use Rattle.vf_filestore.specs.State.{State, party_of}
 use Rattle.vf_filestore.specs.Transition.{Turn}
+use Rattle.vf_elements.specs.declared.message.Said.{Said}
 use Rattle.vf_party.specs.GoingOn.{StandsAs}
+use Rattle.vf_party.specs.Turns.{IsTaken}
+use Rattle.vf_party.specs.declared.party.Outcome.{Outcome}
+use Rattle.vf_party.specs.declared.party.Party.{Party}
+use Rattle.vf_tables.specs.declared.change.Change.{Change}
 use Rattle.vf_ber_scan.specs.Scanned.{HasTaken}
 use Rattle.vf_ber_scan.specs.declared.scan.Scan.{Scan}
 use Rattle.vf_cli_dialogue.specs.declared.conversation.After.{After}
@@ -18,7 +23,7 @@ use Rattle.vf_cli_dialogue.specs.declared.conversation.Filestore.{Filestore}
 use Rattle.vf_cli_dialogue.specs.declared.conversation.Stream.{Stream}
 use Rattle.vf_cli_dialogue.specs.declared.conversation.Stream.TheVariants as stream
 use Rattle.vf_cli_dialogue.specs.declared.conversation.First.{First}
-use Rattle.vf_cli_dialogue.specs.Dialogue.{dialogue, dialogue_from, received, is_abort, link, reply, said_in, said_to}
+use Rattle.vf_cli_dialogue.specs.Dialogue.{dialogue, dialogue_from, received, is_abort, link, reply, said_in, said_to, setting}
 use Rattle.vf_cli_dialogue.specs.declared.lines.NextLine.{NextLine}
 use Rattle.vf_cli_dialogue.specs.Lines.{Input, input_limit}
 use Rattle.vf_cli_dialogue.specs.Reader.{Answers, Place}
@@ -118,6 +123,20 @@ Comes filestore turn after.Aborted = list_any is_abort (said_in turn) ≡ true
 pub record Makes (turn : Turn) (old_replies new_replies : List ℕ) (filestore : Filestore) (rest : After) : Type 0 where
   pub said : new_replies ≡ old_replies ++ flat_map reply (said_in turn)
   pub comes : Comes filestore turn rest
+
+-- there is a next party, and this is it
+abbrev pub IsPut : Option Party → Party → Bool → Type 0
+IsPut None party goes = goes ≡ false
+IsPut (Some next) party goes = (party ≡ next) × (goes ≡ true)
+
+-- What the party that holds answered, whose changes are still to be made: where it goes on, the next one is in its place.
+pub record IsAnsweredBy (state : State) (before : Filestore) (holds : Holds before state) (message : Message) (filestore : Filestore)
+    (goes : Bool) (said : List Said) (changes : List Change) : Type 0 where
+  pub outcome : Outcome
+  pub taken : IsTaken before.tables filestore.locks state holds.goes.standing setting message outcome
+  pub says : said ≡ outcome.said.items
+  pub differs : changes ≡ outcome.changes
+  pub put : IsPut outcome.party filestore.party goes
 
 -- what was made of octets in this state: the replies, and the state in which the rest will be received
 abbrev pub Took : State → List ℕ → List ℕ → Filestore → After → List ℕ → Type 0

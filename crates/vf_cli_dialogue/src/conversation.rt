@@ -1,12 +1,12 @@
 //! A conversation with one party.
-ghost use Rattle.std.specs.Prelude.{◌≡◌, ◌++◌, ◌+◌, ◌<◌, ◌≤◌, [], drop, false, true, if◌then◌else◌, IfOk, IfSome, OnOk, Some, length, List, ℕ};
+ghost use Rattle.std.specs.Prelude.{◌≡◌, ◌++◌, ◌+◌, ◌<◌, ◌≤◌, [], drop, false, true, if◌then◌else◌, IfOk, IfSome, Ok, OnOk, Some, length, List, ℕ};
 ghost use Rattle.std.specs.List.{flat_map, list_any};
 ghost use Rattle.vf_ber.specs.Reader.{reading};
 ghost use Rattle.vf_ber.specs.Reading.{Read, Short};
 ghost use Rattle.vf_ber.specs.Views.{tree_of};
 ghost use Rattle.vf_ber_scan.specs.Scanned.{HasTaken};
 ghost use Rattle.vf_cli_dialogue.specs.declared.conversation.After.TheVariants as ends;
-ghost use Rattle.vf_cli_dialogue.specs.Conversation.{Adds, Advances, Appends, Holds, IsRest, IsTaking, Makes, Stands, TakesFirst, TakesReady, is_ready as ready_test, left_in, octets_in, size_of};
+ghost use Rattle.vf_cli_dialogue.specs.Conversation.{Adds, Advances, Appends, Holds, IsAnsweredBy, IsPut, IsRest, IsTaking, Makes, Stands, TakesFirst, TakesReady, is_ready as ready_test, left_in, octets_in, size_of};
 ghost use Rattle.vf_cli_dialogue.specs.Dialogue.{is_abort as abort_test, link, opened, outside, reply, setting as setting_meant};
 ghost use Rattle.vf_filestore.specs.State.{State};
 ghost use Rattle.vf_filestore.specs.Transition.{transition};
@@ -366,32 +366,80 @@ fn take_message(
     ensures { IfOk result (λ rest. (state : State) → Holds filestore.old state
         → Makes (transition state link setting_meant message) replies.old.lines.items replies.new.lines.items filestore.new rest) }
 {
-    let setting = setting();
-    let party = mem::replace(&mut filestore.party, Party::arrived(LINK));
-    let taken = party.take(
-        alloc,
-        message,
-        setting,
-        filestore.tables.tables(),
-        &mut filestore.locks,
-    );
-    let Ok(outcome) = taken else {
-        return Err(NoMemory);
-    };
-    let Outcome {
-        party: next,
+    let Answered {
+        goes,
         said,
         changes,
-    } = outcome;
+    } = answer(alloc, filestore, message)?;
     make_changes(alloc, &mut filestore.tables, changes)?;
     if append_replies(alloc, said.as_slice(), replies)? {
         return Ok(After::Aborted);
     }
-    let Some(party) = next else {
-        return Ok(After::Gone);
+    Ok(after_replies(goes))
+}
+
+/// What became of a party that was told no abort.
+fn after_replies(goes: bool) -> After
+    ensures { result ≡ (if goes then ends.Goes else ends.Gone) }
+{
+    if goes { After::Goes } else { After::Gone }
+}
+
+/// What the party answers to a message, and its changes, which are still to be made.
+#[derive(Drop)]
+struct Answered {
+    /// The party goes on.
+    goes: bool,
+    said: Vec<Said>,
+    changes: Changes,
+}
+
+/// The party takes a message, and the next one stands in its place. Where memory is wanting, the party is gone.
+fn answer(alloc: Global, filestore: &mut Filestore, message: Message) -> Result<Answered, NoMemory>
+    ensures tables { filestore.new.tables ≡ filestore.old.tables }
+    ensures answers { IfOk result (λ answered. (state : State) → (holds : Holds filestore.old state)
+        → IsAnsweredBy state filestore.old holds message filestore.new answered.goes answered.said.items answered.changes) }
+{
+    let party = mem::replace(&mut filestore.party, Party::arrived(LINK));
+    let taken = party.take(
+        alloc,
+        message,
+        setting(),
+        filestore.tables.tables(),
+        &mut filestore.locks,
+    );
+    let Outcome {
+        party: next,
+        said,
+        changes,
+    } = outcome_in(taken)?;
+    let goes = put_next(&mut filestore.party, next);
+    Ok(Answered {
+        goes,
+        said,
+        changes,
+    })
+}
+
+/// What came of a message; the party is dropped that is given back for want of memory.
+fn outcome_in(taken: Result<Outcome, (Party, NoMemory)>) -> Result<Outcome, NoMemory>
+    ensures { IfOk result (λ outcome. taken ≡ Ok outcome) }
+{
+    match taken {
+        Ok(outcome) => Ok(outcome),
+        Err(_) => Err(NoMemory),
+    }
+}
+
+/// Puts the next party in the place of another, if there is one, and says whether there is.
+fn put_next(party: &mut Party, next: Option<Party>) -> bool
+    ensures { IsPut next party.new result }
+{
+    let Some(next) = next else {
+        return false;
     };
-    filestore.party = party;
-    Ok(After::Goes)
+    *party = next;
+    true
 }
 
 /// The setting of every message: it comes at moment 0, and no session stands below.

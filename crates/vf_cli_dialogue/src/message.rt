@@ -79,6 +79,7 @@ fn append_provider_abort(
     append_pdu(alloc, &abort, replies)
 }
 
+/// Appends the line of a PDU. One with a field out of its range has none, and counts as one for which memory is wanting.
 fn append_pdu(alloc: Global, pdu: &Pdu, replies: &mut Replies) -> Result<(), NoMemory>
     ensures { OnOk result (replies.new.lines.items ≡ replies.old.lines.items ++ hex_line (spell (value pdu.now))) }
 {
@@ -91,6 +92,7 @@ fn append_pdu(alloc: Global, pdu: &Pdu, replies: &mut Replies) -> Result<(), NoM
     Ok(())
 }
 
+/// Appends the line of an element. One that no value means has none, and counts as one for which memory is wanting.
 fn append_element(alloc: Global, element: &Element, replies: &mut Replies) -> Result<(), NoMemory>
     ensures { OnOk result (replies.new.lines.items ≡ replies.old.lines.items ++ hex_line (spell (element_value element.now))) }
 {

@@ -1,44 +1,31 @@
-use Rattle.std.proofs.Common.{◌∙◌}
-use Rattle.vf_party.specs.Settings.{setting_of}
-use Rattle.vf_cli_dialogue.proofs.TurnLemmas.{abort_told, party_goes, party_gone, replies_told, taken_by}
+use Rattle.std.proofs.Common.{ap, sym, subst, ◌∙◌}
+use Rattle.vf_filestore.specs.Transition.{transition}
+use Rattle.vf_tables.specs.Changes.{after_all}
+use Rattle.vf_tables.specs.declared.tables.Tables.{Tables}
+use Rattle.vf_cli_dialogue.specs.declared.conversation.After.{After}
+use Rattle.vf_cli_dialogue.specs.Conversation.{Makes}
+use Rattle.vf_cli_dialogue.specs.Dialogue.{link, setting}
+use Rattle.vf_cli_dialogue.proofs.TurnLemmas.{makes_abort, makes_rest}
 use Rattle.vf_cli_dialogue.proofs.conversation.take_message.Goals as goal
 
 pub returns-then-branch : goal.returns-then-branch
 returns-then-branch c = λ state holds.
-    let filestore = c.args.filestore.now in
-    let locks = c.take-taken.new.locks in
-    let outcome = c.in-Ok.outcome in
-    let said = c.as_slice.result.now in
-    let taken = taken_by state filestore holds c.args.message locks outcome c.tables.result.now c.replace-party.result (setting_of c.setting-setting.result)
-    c.tables.ensures c.replace-party.ensures.value c.setting-setting.ensures c.in-Ok.ensures in
-    let aborted = abort_told state filestore holds c.args.message locks outcome taken c.in_ok-append_replies.field-0 said c.as_slice.ensures.value c.in_ok-append_replies.ensures.abort in
-    let told = replies_told state filestore holds c.args.message locks outcome taken c.args.replies.now.lines.items c.append_replies.new.replies.lines.items said
-    c.as_slice.ensures.value c.in_ok-append_replies.ensures.lines in
-    record { said = told; comes = aborted ∙ c.if-branch.true }
-
-pub returns-in_default-next : goal.returns-in_default-next
-returns-in_default-next c = λ state holds.
-    let filestore = c.args.filestore.now in
-    let locks = c.take-taken.new.locks in
-    let outcome = c.in-Ok.outcome in
-    let said = c.as_slice.result.now in
-    let taken = taken_by state filestore holds c.args.message locks outcome c.tables.result.now c.replace-party.result (setting_of c.setting-setting.result)
-    c.tables.ensures c.replace-party.ensures.value c.setting-setting.ensures c.in-Ok.ensures in
-    let aborted = abort_told state filestore holds c.args.message locks outcome taken c.in_ok-append_replies.field-0 said c.as_slice.ensures.value c.in_ok-append_replies.ensures.abort in
-    let told = replies_told state filestore holds c.args.message locks outcome taken c.args.replies.now.lines.items c.append_replies.new.replies.lines.items said
-    c.as_slice.ensures.value c.in_ok-append_replies.ensures.lines in
-    record { said = told; comes = (party_gone state filestore holds c.args.message locks outcome taken c.in_default-next.is, aborted ∙ c.if-branch.false) }
+    let filestore = c.answer.new.filestore in
+    let answered = c.in_ok-goes.field-0 in
+    makes_abort state c.args.filestore.now holds c.args.message filestore answered.goes answered.said.items c.as_slice.result.now answered.changes
+    (c.in_ok-goes.ensures.answers state holds) c.as_slice.ensures.value c.args.replies.now.lines.items c.append_replies.new.replies.lines.items c.in_ok-append_replies.ensures.lines
+    (record { party = filestore.party; tables = c.make_changes.new.tables; locks = filestore.locks })
+    c.in_ok-append_replies.field-0 c.in_ok-append_replies.ensures.abort c.if-branch.true
 
 pub returns : goal.returns
 returns c = λ state holds.
-    let filestore = c.args.filestore.now in
-    let locks = c.take-taken.new.locks in
-    let outcome = c.in-Ok.outcome in
-    let said = c.as_slice.result.now in
-    let taken = taken_by state filestore holds c.args.message locks outcome c.tables.result.now c.replace-party.result (setting_of c.setting-setting.result)
-    c.tables.ensures c.replace-party.ensures.value c.setting-setting.ensures c.in-Ok.ensures in
-    let aborted = abort_told state filestore holds c.args.message locks outcome taken c.in_ok-append_replies.field-0 said c.as_slice.ensures.value c.in_ok-append_replies.ensures.abort in
-    let told = replies_told state filestore holds c.args.message locks outcome taken c.args.replies.now.lines.items c.append_replies.new.replies.lines.items said
-    c.as_slice.ensures.value c.in_ok-append_replies.ensures.lines in
-    let goes = party_goes state filestore holds c.args.message locks outcome taken c.in-Some.party c.make_changes.new.tables c.in-Some.is c.in_ok-make_changes.ensures in
-    record { said = told; comes = (goes, aborted ∙ c.if-branch.false) }
+    let filestore = c.answer.new.filestore in
+    let answered = c.in_ok-goes.field-0 in
+    let old = c.args.replies.now.lines.items in
+    let new = c.append_replies.new.replies.lines.items in
+    let made = c.in_ok-make_changes.ensures ∙ ap (λ (tables : Tables). after_all tables answered.changes) c.in_ok-goes.ensures.tables in
+    subst (λ (rest : After). Makes (transition state link setting c.args.message) old new (record { party = filestore.party; tables = c.make_changes.new.tables; locks = filestore.locks }) rest)
+    (sym c.after_replies.ensures)
+    (makes_rest state c.args.filestore.now holds c.args.message filestore answered.goes answered.said.items c.as_slice.result.now answered.changes
+    (c.in_ok-goes.ensures.answers state holds) c.as_slice.ensures.value old new c.in_ok-append_replies.ensures.lines
+    c.make_changes.new.tables c.in_ok-append_replies.field-0 c.in_ok-append_replies.ensures.abort c.if-branch.false made)
