@@ -9,13 +9,21 @@ use Rattle.vf_filestore.specs.Aborts.{Setting}
 use Rattle.vf_filestore.specs.Conclusion.{Answered, concluded, concluding_entry, grants, has_abort, taken_up}
 use Rattle.vf_filestore.specs.Decision.{Decision, Aborts, Refuses, Grants, Waits, Groups, Ends, Leaves, decision, trial_decision}
 use Rattle.vf_filestore.specs.Dockets.{broken}
-use Rattle.vf_filestore.specs.Groups.{between, groups, is_good, said_in_vain, said_of, trial, trial_by, trial_step}
+use Rattle.vf_filestore.specs.Groups.{between, is_good, said_in_vain, said_of, trial, trial_by, trial_step}
 use Rattle.vf_filestore.specs.History.{Given}
 use Rattle.vf_filestore.specs.Replies.{refusal}
-use Rattle.vf_filestore.specs.Stage.{Group}
-use Rattle.vf_filestore.specs.State.{State, StandingParty, is_of_link, party_of, with_party, without_party}
-use Rattle.vf_filestore.specs.Transition.{answered, associates, leaves, met, with_message}
+use Rattle.vf_filestore.specs.State.{State, StandingParty, party_of, with_party, without_party}
+use Rattle.vf_filestore.specs.Transition.{answered, associates, leaves, met, superseded_by, with_message}
+use Rattle.vf_filestore.proofs.Decisions.{answered_sound}
 use Rattle.vf_filestore.proofs.Parties.{located}
+use Rattle.vf_party.specs.GoingOn.{StandsAs}
+use Rattle.vf_party.specs.Steps.{HoldersOfFiles, StandsIn}
+use Rattle.vf_party.specs.Turns.{IsTaken}
+use Rattle.vf_party.specs.declared.party.Outcome.{Outcome}
+use Rattle.vf_party.specs.declared.party.Party.{Party}
+use Rattle.vf_party.proofs.GoingOn.{tables_go_on}
+use Rattle.vf_tables.specs.Changes.{after_all}
+use Rattle.vf_tables.specs.declared.tables.Tables.{Tables}
 
 -- the party of a link is not the one in the place of which another is put
 put_other : (link : ℕ) (next : StandingParty) (parties : List StandingParty) → nat_eq next.link link ≡ false → party_of link (with_party next parties) ≡ party_of link parties
@@ -110,3 +118,23 @@ module _ (link : ℕ) (setting : Setting) where
       let heard = with_message message party in
       met_other (record state { parties = with_party heard state.parties }) heard message other (decision state party setting message)
       ∙ put_other link heard state.parties other
+
+-- and code's party of another link stands as before in the state after it
+module _ (tables : Tables) (old new : HoldersOfFiles) (state : State) (party : StandingParty) (setting : Setting) (message : Message) (outcome : Outcome)
+    (stands : StandsIn tables old state party) (nobody : superseded_by state party message ≡ None)
+    (taken : IsTaken tables new state party setting message outcome) where
+  pub others_stand : (link : ℕ) (other : Party) → nat_eq party.link link ≡ false → StandsAs tables old state link other
+      → StandsAs (after_all tables outcome.changes) new (answered state party setting message).state link other
+  others_stand link other differs there =
+      let off : nat_eq party.link there.standing.link ≡ false = ap (nat_eq party.link) there.linked ∙ differs in
+      record {
+        standing = there.standing;
+        linked = there.linked;
+        represented = there.represented;
+        stands = record {
+          sound = answered_sound state party.link party setting message stands.sound stands.stands;
+          kept = tables_go_on tables old new state party setting message outcome stands nobody taken;
+          held = taken.held;
+          stands = others_go_on there.standing.link setting state party message off ∙ there.stands.stands;
+        };
+      }
