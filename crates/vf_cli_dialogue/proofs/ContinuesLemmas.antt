@@ -1,5 +1,5 @@
 -- How what is still printed goes on, message by message.
-use Rattle.std.proofs.Common.{◌≡◌, ℕ, Bool, true, false, ◌||◌, List, [], ◌∷◌, ◌++◌, Option, None, Some, refl, ap, sym, ◌∙◌, append_assoc, append-nil, drop, nat_eq, option_to_list, Ok}
+use Rattle.std.proofs.Common.{◌≡◌, ℕ, Bool, true, false, ◌||◌, List, [], ◌∷◌, ◌++◌, Option, None, Some, refl, ap, sym, ◌∙◌, append_assoc, append-nil, drop, Ok}
 use Rattle.std.specs.Prelude.{if◌then◌else◌}
 use Rattle.std.specs.List.{flat_map, list_any}
 use Rattle.std.proofs.lemmas.List.Folds.{list_any-append}
@@ -11,35 +11,37 @@ use Rattle.vf_elements.specs.Messages.{message_in}
 use Rattle.vf_elements.specs.declared.message.Message.{Message}
 use Rattle.vf_elements.specs.declared.message.Said.{Said}
 use Rattle.vf_elements.specs.declared.message.Said.TheVariants as answers
-use Rattle.vf_regime.specs.State.{State, StandingParty, party_of, with_party}
-use Rattle.vf_regime.specs.Transition.{Consequence, after_transition, transition}
+use Rattle.vf_filestore.specs.State.{State, StandingParty, party_of}
+use Rattle.vf_filestore.specs.Transition.{Turn, fault, fault_of, transition, transition_of}
 use Rattle.vf_cli_dialogue.specs.Conversation.{Aborts, Continues, IsQuiet, printed_after}
-use Rattle.vf_cli_dialogue.specs.Dialogue.{Faulty, Heard, Received, answer, answer_by, dialogue_from, received, received_first, is_abort, joined, link, after_replies, heard, outside, prints_after, reply, said_to, consequence_to}
+use Rattle.vf_cli_dialogue.specs.Dialogue.{Faulty, Heard, Received, after_replies, dialogue_from, heard, is_abort, joined, link, outside, prints_after, received, received_first, reply, said_in, said_to, setting, turn}
 use Rattle.vf_cli_printing.specs.Printed.{Printed}
 use Rattle.vf_cli_dialogue.proofs.ReceivedLemmas.{received-read, received_prefix}
 
+-- where no party stands nothing comes of what is received
+turn-gone : (state : State) (thing : Received) → party_of link state.parties ≡ None → turn state thing ≡ record { sent = []; state = state }
+turn-gone state (Heard message) gone = ap (transition_of state setting message) gone
+turn-gone state (Faulty place) gone = ap (fault_of state outside place) gone
+
 -- a link where no party stands is told nothing
-pub said_to-gone : (state : State) (things : List Received) → state.parties ≡ [] → said_to state things ≡ []
+pub said_to-gone : (state : State) (things : List Received) → party_of link state.parties ≡ None → said_to state things ≡ []
 said_to-gone state [] gone = refl
 said_to-gone state (thing ∷ things) gone =
-    let nobody : party_of link state.parties ≡ None = ap (party_of link) gone in
-    let answered : answer state thing ≡ record { said = []; state = state } = ap (answer_by state thing) nobody in
-    (λ i. (answered i).said ++ said_to (answered i).state things) ∙ said_to-gone state things gone
+    ap (λ (now : Turn). said_in now ++ (if list_any is_abort (said_in now) then [] else said_to now.state things)) (turn-gone state thing gone)
+    ∙ said_to-gone state things gone
 
--- a party that stands is told its consequence, and what is said in the state after it
-pub said_to-one : (state : State) (party : StandingParty) (thing : Received) (things : List Received) → state.parties ≡ party ∷ [] → party.link ≡ link
-    → said_to state (thing ∷ things) ≡ (consequence_to state party thing).said ++ said_to (after_transition state link (consequence_to state party thing)) things
-said_to-one state party thing things one here =
-    let found : party_of link state.parties ≡ Some party =
-    ap (party_of link) one ∙ ap (λ (n : ℕ). if nat_eq n link then Some party else None) here in
-    ap (λ (o : Option StandingParty). (answer_by state thing o).said ++ said_to (answer_by state thing o).state things) found
+-- after what is said without an abort follows what is said in the state after it
+pub said_to-goes : (state : State) (thing : Received) (things : List Received) → list_any is_abort (said_in (turn state thing)) ≡ false
+    → said_to state (thing ∷ things) ≡ said_in (turn state thing) ++ said_to (turn state thing).state things
+said_to-goes state thing things none =
+    ap (λ (b : Bool). said_in (turn state thing) ++ (if b then [] else said_to (turn state thing).state things)) none
 
--- the parties after the consequence of the one party
-pub after_one : (state : State) (party : StandingParty) (consequence : Consequence) → state.parties ≡ party ∷ [] → party.link ≡ link
-    → (after_transition state link consequence).parties ≡ option_to_list consequence.party ++ []
-after_one state party consequence one here =
-    ap (with_party link consequence.party) one
-    ∙ ap (λ (n : ℕ). if nat_eq n link then option_to_list consequence.party ++ [] else party ∷ []) here
+-- and after an abort nothing
+pub said_to-abort : (state : State) (thing : Received) (things : List Received) → list_any is_abort (said_in (turn state thing)) ≡ true
+    → said_to state (thing ∷ things) ≡ said_in (turn state thing)
+said_to-abort state thing things abort =
+    ap (λ (b : Bool). said_in (turn state thing) ++ (if b then [] else said_to (turn state thing).state things)) abort
+    ∙ append-nil (said_in (turn state thing))
 
 abbrev pub last : Bool → Option ℕ → Printed
 last aborted bad = if aborted then record { octets = []; status = 7 } else after_replies bad
@@ -66,46 +68,43 @@ prints_after-abort said bad abort =
     ap (λ b. with_last (flat_map reply said) (last b bad)) abort
     ∙ (λ i. record { octets = append-nil (flat_map reply said) i; status = 7 })
 
-module _ (old new : State) (octets rest : List ℕ) where
-  -- what is said to octets first, whatever follows, and then what is said to the rest in the next state
-  abbrev pub Says : List Said → Type 0
-  Says said = (more : List ℕ) → said_to old (received (octets ++ more)) ≡ said ++ said_to new (received (rest ++ more))
+-- What a first message of octets comes to, whatever follows.
+module _ (state : State) (octets : List ℕ) (tree : Tree) (n : ℕ) (message : Message) (read : reading octets ≡ Read tree n) (means : message_in tree ≡ Ok message) where
+  abbrev now : Turn
+  now = transition state link setting message
 
-  pub continues : (said : List Said) → list_any is_abort said ≡ false → Says said → Continues old octets (flat_map reply said) new rest
-  continues said none says = record {
-    prints = λ input. ap (λ l. prints_after l input.bad) (says (joined input.pieces))
-        ∙ prints_after-append said (said_to new (received (rest ++ joined input.pieces))) input.bad none;
-  }
+  received_message : (more : List ℕ) → received (octets ++ more) ≡ Heard message ∷ received (drop n octets ++ more)
+  received_message more = received-read octets more tree n read ∙ ap (λ o. heard o ∷ received (drop n octets ++ more)) means
 
-  pub aborts : (said : List Said) → list_any is_abort said ≡ true → new.parties ≡ [] → Says said → Aborts old octets (flat_map reply said)
-  aborts said abort gone says = record {
+  pub continues_message : list_any is_abort (said_in (transition state link setting message)) ≡ false
+      → Continues state octets (flat_map reply (said_in (transition state link setting message))) (transition state link setting message).state (drop n octets)
+  continues_message none = record {
     prints = λ input.
-        ap (λ l. prints_after l input.bad) (says (joined input.pieces)
-        ∙ ap (λ l. said ++ l) (said_to-gone new (received (rest ++ joined input.pieces)) gone) ∙ append-nil said)
-        ∙ prints_after-abort said input.bad abort;
+        let later = received (drop n octets ++ joined input.pieces) in
+        ap (λ l. prints_after l input.bad) (ap (said_to state) (received_message (joined input.pieces)) ∙ said_to-goes state (Heard message) later none)
+        ∙ prints_after-append (said_in now) (said_to now.state later) input.bad none;
   }
 
--- a first message is taken by the one party
-pub says_message : (state : State) (party : StandingParty) (octets : List ℕ) (tree : Tree) (n : ℕ) (message : Message)
-    → state.parties ≡ party ∷ [] → party.link ≡ link → reading octets ≡ Read tree n → message_in tree ≡ Ok message
-    → Says state (after_transition state link (transition state party 0 message)) octets (drop n octets) (transition state party 0 message).said
-says_message state party octets tree n message one here read means = λ more.
-    ap (said_to state) (received-read octets more tree n read ∙ ap (λ o. heard o ∷ received (drop n octets ++ more)) means)
-    ∙ said_to-one state party (Heard message) (received (drop n octets ++ more)) one here
+  pub aborts_message : list_any is_abort (said_in (transition state link setting message)) ≡ true
+      → Aborts state octets (flat_map reply (said_in (transition state link setting message)))
+  aborts_message abort = record {
+    prints = λ input.
+        let later = received (drop n octets ++ joined input.pieces) in
+        ap (λ l. prints_after l input.bad) (ap (said_to state) (received_message (joined input.pieces)) ∙ said_to-abort state (Heard message) later abort)
+        ∙ prints_after-abort (said_in now) input.bad abort;
+  }
 
--- octets that are no message end the one party
-pub aborts_fault : (state : State) (party : StandingParty) (octets : List ℕ) (place : ℕ) → state.parties ≡ party ∷ [] → party.link ≡ link
+-- octets that are no message end the party
+pub aborts_fault : (state : State) (party : StandingParty) (octets : List ℕ) (place : ℕ) → party_of link state.parties ≡ Some party
     → ((more : List ℕ) → (later : List Received) × (received (octets ++ more) ≡ Faulty place ∷ later))
     → Aborts state octets (reply (answers.Abort outside place))
-aborts_fault state party octets place one here faulty = record {
+aborts_fault state party octets place found faulty = record {
   prints = λ input.
-      let fault = faulty (joined input.pieces) in
-      let consequence = consequence_to state party (Faulty place) in
+      let there = faulty (joined input.pieces) in
       let said : List Said = answers.Abort outside place ∷ [] in
-      let after = after_transition state link consequence in
+      let told : said_in (fault state link outside place) ≡ said = ap (λ (one : Option StandingParty). said_in (fault_of state outside place one)) found in
       ap (λ l. prints_after l input.bad)
-      (ap (said_to state) fault.1 ∙ said_to-one state party (Faulty place) fault.0 one here
-      ∙ ap (λ l. said ++ l) (said_to-gone after fault.0 (after_one state party consequence one here)))
+      (ap (said_to state) there.1 ∙ said_to-abort state (Faulty place) there.0 (ap (list_any is_abort) told) ∙ told)
       ∙ prints_after-abort said input.bad refl
       ∙ (λ i. record { octets = append-nil (reply (answers.Abort outside place)) i; status = 7 });
 }
@@ -126,14 +125,14 @@ pub continues_none : (state : State) (octets : List ℕ) → Continues state oct
 continues_none state octets = record { prints = λ input. refl }
 
 -- a party that is gone is told nothing, whatever is left of the octets
-pub continues_gone : (state : State) (octets rest : List ℕ) → state.parties ≡ [] → Continues state octets [] state rest
+pub continues_gone : (state : State) (octets rest : List ℕ) → party_of link state.parties ≡ None → Continues state octets [] state rest
 continues_gone state octets rest gone = record {
   prints = λ input.
       ap (λ l. prints_after l input.bad) (said_to-gone state (received (octets ++ joined input.pieces)) gone)
       ∙ sym (ap (λ l. printed_after [] (prints_after l input.bad)) (said_to-gone state (received (rest ++ joined input.pieces)) gone));
 }
 
-pub quiet_gone : (state : State) (pending : List ℕ) → state.parties ≡ [] → IsQuiet state pending
+pub quiet_gone : (state : State) (pending : List ℕ) → party_of link state.parties ≡ None → IsQuiet state pending
 quiet_gone state pending gone = said_to-gone state (received pending) gone
 
 pub quiet_short : (state : State) (pending : List ℕ) → reading pending ≡ Short → IsQuiet state pending

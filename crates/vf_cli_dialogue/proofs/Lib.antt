@@ -7,7 +7,7 @@ mod TakenLemmas
 mod ContinuesLemmas
 mod ReceivedLemmas
 mod ReadingLemmas
-mod ConsequenceLemmas
+mod TurnLemmas
 pub mod HexLemmas
 pub mod HexLineLemmas
 pub mod HexTable

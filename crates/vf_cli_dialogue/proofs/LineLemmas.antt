@@ -1,7 +1,7 @@
 -- What comes of one line, by what the reader answered and what the party made of it.
 use Rattle.std.specs.Prelude.{if◌then◌else◌}
 use Rattle.std.proofs.Common.{◌≡◌, ℕ, refl, inl, inr, Bool, true, false, List, [], Option, None, Some, Result, Ok, Err, OnErr, ap, sym, subst, ◌∙◌}
-use Rattle.vf_regime.specs.State.{State}
+use Rattle.vf_filestore.specs.State.{State}
 use Rattle.vf_cli_dialogue.specs.declared.conversation.Conversation.{Conversation}
 use Rattle.vf_cli_dialogue.specs.declared.conversation.Stream.{Stream}
 use Rattle.vf_cli_dialogue.specs.declared.conversation.Stream.TheVariants as streams
@@ -28,7 +28,7 @@ pub quiet_stands : (conversation : Conversation) (state : State) → is_ready co
     → IsQuiet state (octets_in conversation.stream)
 quiet_stands conversation state ready stands = by conversation.stream ready stands
   where
-    by : (stream : Stream) → is_ready stream ≡ false → StandsBy conversation.party conversation.tables conversation.scan state stream → IsQuiet state (octets_in stream)
+    by : (stream : Stream) → is_ready stream ≡ false → StandsBy conversation.filestore conversation.scan state stream → IsQuiet state (octets_in stream)
     by streams.Gone ready stands = quiet_gone state [] stands
     by (streams.Waiting pending) ready stands = quiet_short state pending.items stands.1.short
     by (streams.Ready octets) ready stands = absurd cc

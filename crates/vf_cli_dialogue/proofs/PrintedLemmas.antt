@@ -1,6 +1,6 @@
 -- What was written, one part after another.
 use Rattle.std.proofs.Common.{◌≡◌, ℕ, List, [], ◌++◌, Option, None, Some, refl, ap, sym, subst, ◌∙◌, append_assoc, append-nil}
-use Rattle.vf_regime.specs.State.{State}
+use Rattle.vf_filestore.specs.State.{State}
 use Rattle.vf_cli_dialogue.specs.Conversation.{IsQuiet}
 use Rattle.vf_cli_dialogue.specs.Dialogue.{dialogue_from, received, joined, prints_after, said_to}
 use Rattle.vf_cli_dialogue.specs.Lines.{Input, bad_at, bad_line, ended, piece_before}

@@ -4,14 +4,14 @@ use Rattle.vf_ber.specs.Reader.{reading}
 use Rattle.vf_ber.specs.Reading.{Short}
 use Rattle.vf_ber_scan.specs.Scanned.{HasTaken}
 use Rattle.vf_ber_scan.specs.declared.scan.Scan.{Scan}
-use Rattle.vf_files.specs.declared.tables.Tables.{Tables}
-use Rattle.vf_regime.specs.State.{State}
-use Rattle.vf_regime.specs.declared.party.Party.{Party}
+use Rattle.vf_filestore.specs.State.{State, party_of}
 use Rattle.vf_cli_dialogue.specs.declared.conversation.After.{After}
 use Rattle.vf_cli_dialogue.specs.declared.conversation.After.TheVariants as after
+use Rattle.vf_cli_dialogue.specs.declared.conversation.Filestore.{Filestore}
 use Rattle.vf_cli_dialogue.specs.declared.conversation.Stream.{Stream}
 use Rattle.vf_cli_dialogue.specs.declared.conversation.Stream.TheVariants as streams
 use Rattle.vf_cli_dialogue.specs.Conversation.{Aborts, Appends, Continues, Goes, Holds, IsRest, IsTaking, StandsBy, is_ready, octets_in}
+use Rattle.vf_cli_dialogue.specs.Dialogue.{link}
 use Rattle.vf_cli_dialogue.proofs.ContinuesLemmas.{continues-continues, continues_gone, continues_none}
 
 pub not_ready : (stream : Stream) (is_so says : Bool) → is_ready stream ≡ is_so → is_ready stream ≡ says → is_so ≡ true → says ≡ false → ⊥
@@ -24,32 +24,32 @@ continues_as state next octets pending replies rest left same tail continues =
     subst (λ (l : List ℕ). Continues state pending replies next l) tail (subst (λ (l : List ℕ). Continues state l replies next rest) same continues)
 
 -- a party that holds takes the octets of its stream
-taking_stands : (party : Party) (tables : Tables) (scan : Scan) (state : State) (stream : Stream) → Holds party tables state → IsTaking stream scan
-    → StandsBy party tables scan state stream
-taking_stands party tables scan state streams.Gone holds taking = absurd taking
-taking_stands party tables scan state (streams.Waiting pending) holds taking = (holds, taking)
-taking_stands party tables scan state (streams.Ready octets) holds taking = holds
+taking_stands : (filestore : Filestore) (scan : Scan) (state : State) (stream : Stream) → Holds filestore state → IsTaking stream scan
+    → StandsBy filestore scan state stream
+taking_stands filestore scan state streams.Gone holds taking = absurd taking
+taking_stands filestore scan state (streams.Waiting pending) holds taking = (holds, taking)
+taking_stands filestore scan state (streams.Ready octets) holds taking = holds
 
 -- a piece joins the octets that wait
-pub piece_added : (state : State) (party : Party) (tables : Tables) (old_scan scan : Scan) (before stream : Stream) (octets piece : List ℕ)
-    → octets_in before ≡ octets → (StandsBy party tables old_scan state before → Holds party tables state × HasTaken old_scan octets)
+pub piece_added : (state : State) (filestore : Filestore) (old_scan scan : Scan) (before stream : Stream) (octets piece : List ℕ)
+    → octets_in before ≡ octets → (StandsBy filestore old_scan state before → Holds filestore state × HasTaken old_scan octets)
     → octets_in stream ≡ octets ++ piece → (HasTaken old_scan octets → IsTaking stream scan)
-    → StandsBy party tables old_scan state before
-    → StandsBy party tables scan state stream × Continues state (octets_in before ++ piece) [] state (octets_in stream)
-piece_added state party tables old_scan scan before stream octets piece waits held joined takes standing =
+    → StandsBy filestore old_scan state before
+    → StandsBy filestore scan state stream × Continues state (octets_in before ++ piece) [] state (octets_in stream)
+piece_added state filestore old_scan scan before stream octets piece waits held joined takes standing =
     let there = held standing in (
-      taking_stands party tables scan state stream there.0 (takes there.1),
+      taking_stands filestore scan state stream there.0 (takes there.1),
       continues_as state state (octets ++ piece) (octets_in before ++ piece) [] (octets ++ piece) (octets_in stream)
           (ap (λ l. l ++ piece) (sym waits)) (sym joined) (continues_none state (octets ++ piece)),
     )
 
 -- a party that is gone takes no piece
-pub piece_gone : (state : State) (party : Party) (tables : Tables) (scan : Scan) (before stream : Stream) (piece : List ℕ)
-    → before ≡ streams.Gone → stream ≡ streams.Gone → StandsBy party tables scan state before
-    → StandsBy party tables scan state stream × Continues state (octets_in before ++ piece) [] state (octets_in stream)
-piece_gone state party tables scan before stream piece gone still standing =
-    let nobody : state.parties ≡ [] = subst (StandsBy party tables scan state) gone standing in (
-      subst (StandsBy party tables scan state) (sym still) nobody,
+pub piece_gone : (state : State) (filestore : Filestore) (scan : Scan) (before stream : Stream) (piece : List ℕ)
+    → before ≡ streams.Gone → stream ≡ streams.Gone → StandsBy filestore scan state before
+    → StandsBy filestore scan state stream × Continues state (octets_in before ++ piece) [] state (octets_in stream)
+piece_gone state filestore scan before stream piece gone still standing =
+    let nobody : party_of link state.parties ≡ None = subst (StandsBy filestore scan state) gone standing in (
+      subst (StandsBy filestore scan state) (sym still) nobody,
       continues_gone state (octets_in before ++ piece) (octets_in stream) nobody,
     )
 
@@ -59,22 +59,22 @@ rest_short is more rest goes left none =
     subst (λ (b : Bool). IsRest after.Goes b rest) none (subst (λ (a : After). IsRest a more rest) goes left)
 
 -- What was made of the octets of a stream.
-module _ (state : State) (before : Stream) (octets : List ℕ) (same : octets_in before ≡ octets) (old new : List ℕ) (party : Party) (made : Tables) (is : After) (rest : List ℕ)
-    (appended : Appends state octets old new party made is rest) where
+module _ (state : State) (before : Stream) (octets : List ℕ) (same : octets_in before ≡ octets) (old new : List ℕ) (filestore : Filestore) (is : After) (rest : List ℕ)
+    (appended : Appends state octets old new filestore is rest) where
   pub taken_goes : (scan : Scan) (stream : Stream) → is ≡ after.Goes → octets_in stream ≡ rest → IsTaking stream scan
       → (replies : List ℕ) × (new ≡ old ++ replies)
-      × ((next : State) × StandsBy party made scan next stream × Continues state (octets_in before) replies next (octets_in stream))
+      × ((next : State) × StandsBy filestore scan next stream × Continues state (octets_in before) replies next (octets_in stream))
   taken_goes scan stream goes left taking =
-      let took = subst (λ (a : After). Appends state octets old new party made a rest) goes appended in
-      (took.0, took.1, ((took.2).0, taking_stands party made scan (took.2).0 stream (took.2).1 taking, continues_as state (took.2).0 octets (octets_in before) took.0 rest (octets_in stream) (sym same) (sym left) (took.2).2))
+      let took = subst (λ (a : After). Appends state octets old new filestore a rest) goes appended in
+      (took.0, took.1, ((took.2).0, taking_stands filestore scan (took.2).0 stream (took.2).1 taking, continues_as state (took.2).0 octets (octets_in before) took.0 rest (octets_in stream) (sym same) (sym left) (took.2).2))
 
   pub taken_gone : (scan : Scan) (stream : Stream) → is ≡ after.Gone → stream ≡ streams.Gone
       → (replies : List ℕ) × (new ≡ old ++ replies)
-      × ((next : State) × StandsBy party made scan next stream × Continues state (octets_in before) replies next (octets_in stream))
+      × ((next : State) × StandsBy filestore scan next stream × Continues state (octets_in before) replies next (octets_in stream))
   taken_gone scan stream gone still =
-      let took = subst (λ (a : After). Appends state octets old new party made a rest) gone appended in
+      let took = subst (λ (a : After). Appends state octets old new filestore a rest) gone appended in
       let next = (took.2).0 in
-      let nobody = subst (StandsBy party made scan next) (sym still) (took.2).1 in
+      let nobody = subst (StandsBy filestore scan next) (sym still) (took.2).1 in
       let later : Continues next rest [] next (octets_in stream) = continues_gone next rest (octets_in stream) (took.2).1 in
       let whole = continues-continues state next next octets rest (octets_in stream) took.0 [] (took.2).2 later in (
         took.0,
@@ -89,7 +89,7 @@ module _ (state : State) (before : Stream) (octets : List ℕ) (same : octets_in
 
   pub taken_aborted : is ≡ after.Aborted → (replies : List ℕ) × (new ≡ old ++ replies) × Aborts state (octets_in before) replies
   taken_aborted aborted =
-      let took = subst (λ (a : After). Appends state octets old new party made a rest) aborted appended in
+      let took = subst (λ (a : After). Appends state octets old new filestore a rest) aborted appended in
       (took.0, took.1, subst (λ (l : List ℕ). Aborts state l took.0) (sym same) took.2)
 
 pub goes_on : (old new : ℕ) (step : Option ℕ) → new < old → Goes old new step

@@ -1,6 +1,6 @@
 -- How the lines of a dialogue make the whole of it.
 use Rattle.std.proofs.Common.{◌≡◌, ℕ, List, [], ◌++◌, Option, None, Some, refl, ap, sym, subst, ◌∙◌, append_assoc}
-use Rattle.vf_regime.specs.State.{State}
+use Rattle.vf_filestore.specs.State.{State}
 use Rattle.vf_cli_dialogue.specs.declared.conversation.Conversation.{Conversation}
 use Rattle.vf_cli_dialogue.specs.Conversation.{IsInterrupted, PrintsAll, PrintsPrefix, Stands, Steps, Told, printed_after, octets_in}
 use Rattle.vf_cli_dialogue.specs.Dialogue.{dialogue, dialogue_from, opened}

@@ -1,27 +1,29 @@
 -- What the parts of `dialogue` answer, by what it prints.
-use Rattle.std.specs.Prelude.{◌≡◌, ◌<◌, ◌≤◌, ◌+◌, ◌-◌, ◌*◌, drop, length as length_of, ℕ, Bool, true, false, List, [], ◌∷◌, ◌++◌, Option, None, Some, Result, Ok, Err}
+use Rattle.std.specs.Prelude.{◌≡◌, ◌<◌, ◌≤◌, ◌+◌, ◌-◌, ◌*◌, drop, length as length_of, ℕ, Bool, true, false, List, [], ◌++◌, Option, None, Some, Result, Ok, Err}
 use Rattle.std.specs.List.{flat_map, list_any}
 use Rattle.vf_ber.specs.Reader.{reading}
 use Rattle.vf_ber.specs.Reading.{Reading, Short, Bad, Deep, Long, Read}
 use Rattle.vf_elements.specs.Messages.{message_in, place_of}
 use Rattle.vf_elements.specs.declared.message.Message.{Message}
 use Rattle.vf_pdu_fields.specs.Fault.{Fault}
-use Rattle.vf_regime.specs.declared.party.Party.{Party}
-use Rattle.vf_files.specs.declared.tables.Tables.{Tables}
-use Rattle.vf_regime.specs.Files.{after_changes}
-use Rattle.vf_regime.specs.Represents.{Represents}
-use Rattle.vf_regime.specs.Sayable.{CanServe}
-use Rattle.vf_regime.specs.State.{State, StandingParty}
-use Rattle.vf_regime.specs.Transition.{Consequence}
+use Rattle.vf_filestore.specs.State.{State, party_of}
+use Rattle.vf_filestore.specs.Transition.{Turn}
+use Rattle.vf_elements.specs.declared.message.Said.{Said}
+use Rattle.vf_party.specs.GoingOn.{StandsAs}
+use Rattle.vf_party.specs.Turns.{IsTaken}
+use Rattle.vf_party.specs.declared.party.Outcome.{Outcome}
+use Rattle.vf_party.specs.declared.party.Party.{Party}
+use Rattle.vf_tables.specs.declared.change.Change.{Change}
 use Rattle.vf_ber_scan.specs.Scanned.{HasTaken}
 use Rattle.vf_ber_scan.specs.declared.scan.Scan.{Scan}
 use Rattle.vf_cli_dialogue.specs.declared.conversation.After.{After}
 use Rattle.vf_cli_dialogue.specs.declared.conversation.After.TheVariants as after
 use Rattle.vf_cli_dialogue.specs.declared.conversation.Conversation.{Conversation}
+use Rattle.vf_cli_dialogue.specs.declared.conversation.Filestore.{Filestore}
 use Rattle.vf_cli_dialogue.specs.declared.conversation.Stream.{Stream}
 use Rattle.vf_cli_dialogue.specs.declared.conversation.Stream.TheVariants as stream
 use Rattle.vf_cli_dialogue.specs.declared.conversation.First.{First}
-use Rattle.vf_cli_dialogue.specs.Dialogue.{dialogue, dialogue_from, received, is_abort, link, reply, said_to}
+use Rattle.vf_cli_dialogue.specs.Dialogue.{dialogue, dialogue_from, received, is_abort, link, reply, said_in, said_to, setting}
 use Rattle.vf_cli_dialogue.specs.declared.lines.NextLine.{NextLine}
 use Rattle.vf_cli_dialogue.specs.Lines.{Input, input_limit}
 use Rattle.vf_cli_dialogue.specs.Reader.{Answers, Place}
@@ -46,11 +48,10 @@ abbrev pub IsUnread : Reading → Option ℕ → Type 0
 IsUnread reading None = reading ≡ Short
 IsUnread reading (Some place) = IsFault reading place
 
--- A party that goes on, with these tables, stands for the one party of the state.
-abbrev pub Holds : Party → Tables → State → Type 0
-Holds party tables state =
-    (standing : StandingParty) × (state.parties ≡ standing ∷ []) × (standing.link ≡ link) × Represents party standing
-    × (state.files ≡ tables.files) × CanServe state standing
+-- The party that goes on stands alone in the state, of which the filestore has the tables and the locks.
+pub record Holds (filestore : Filestore) (state : State) : Type 0 where
+  pub goes : StandsAs filestore.tables filestore.locks state link filestore.party
+  pub alone : length_of state.parties ≤ 1
 
 -- the octets that a party hasn't taken; one that is gone takes none
 abbrev pub octets_in : Stream → List ℕ
@@ -80,14 +81,14 @@ IsTaking stream.Gone scan = ⊥
 IsTaking (stream.Waiting pending) scan = HasTaken scan pending.items
 IsTaking (stream.Ready octets) scan = Unit {0}
 
--- A party with these tables and octets stands in this state of the filestore. One that is gone stands nowhere.
-abbrev pub StandsBy : Party → Tables → Scan → State → Stream → Type 0
-StandsBy party tables scan state stream.Gone = state.parties ≡ []
-StandsBy party tables scan state (stream.Waiting pending) = Holds party tables state × HasTaken scan pending.items
-StandsBy party tables scan state (stream.Ready octets) = Holds party tables state
+-- A filestore and the octets of a stream stand in this state. A party that is gone stands nowhere.
+abbrev pub StandsBy : Filestore → Scan → State → Stream → Type 0
+StandsBy filestore scan state stream.Gone = party_of link state.parties ≡ None
+StandsBy filestore scan state (stream.Waiting pending) = Holds filestore state × HasTaken scan pending.items
+StandsBy filestore scan state (stream.Ready octets) = Holds filestore state
 
 abbrev pub Stands : Conversation → State → Type 0
-Stands conversation state = StandsBy conversation.party conversation.tables conversation.scan state conversation.stream
+Stands conversation state = StandsBy conversation.filestore conversation.scan state conversation.stream
 
 -- octets that are no message yet: nothing is said to them
 abbrev pub IsQuiet : State → List ℕ → Type 0
@@ -112,38 +113,50 @@ pub record Continues (old : State) (pending : List ℕ) (replies : List ℕ) (ne
 pub record Aborts (old : State) (pending : List ℕ) (replies : List ℕ) : Type 0 where
   pub prints : (input : Input) → dialogue_from old pending input ≡ record { octets = replies; status = 7 }
 
--- the party after a transition: it goes on, it is gone, or it was told an abort
-abbrev pub IsAfter : Consequence → Party → After → Type 0
-IsAfter consequence party after.Goes =
-    (next : StandingParty) × (consequence.party ≡ Some next) × Represents party next × (list_any is_abort consequence.said ≡ false)
-IsAfter consequence party after.Gone = (consequence.party ≡ None) × (list_any is_abort consequence.said ≡ false)
-IsAfter consequence party after.Aborted = (consequence.party ≡ None) × (list_any is_abort consequence.said ≡ true)
+-- what became of the party with a turn: it goes on in the state after it, it is gone, or it was told an abort
+abbrev pub Comes : Filestore → Turn → After → Type 0
+Comes filestore turn after.Goes = Holds filestore turn.state × (list_any is_abort (said_in turn) ≡ false)
+Comes filestore turn after.Gone = (party_of link turn.state.parties ≡ None) × (list_any is_abort (said_in turn) ≡ false)
+Comes filestore turn after.Aborted = list_any is_abort (said_in turn) ≡ true
 
--- the replies of a transition were appended and its changes made
-pub record Makes (consequence : Consequence) (old_replies new_replies : List ℕ) (old_tables new_tables : Tables) (party : Party) (rest : After) : Type 0 where
-  pub said : new_replies ≡ old_replies ++ flat_map reply consequence.said
-  pub changed : new_tables.files ≡ after_changes consequence.changes old_tables.files
-  pub goes : IsAfter consequence party rest
+-- the replies of a turn were appended and its changes made
+pub record Makes (turn : Turn) (old_replies new_replies : List ℕ) (filestore : Filestore) (rest : After) : Type 0 where
+  pub said : new_replies ≡ old_replies ++ flat_map reply (said_in turn)
+  pub comes : Comes filestore turn rest
+
+-- there is a next party, and this is it
+abbrev pub IsPut : Option Party → Party → Bool → Type 0
+IsPut None party goes = goes ≡ false
+IsPut (Some next) party goes = (party ≡ next) × (goes ≡ true)
+
+-- What the party that holds answered, whose changes are still to be made: where it goes on, the next one is in its place.
+pub record IsAnsweredBy (state : State) (before : Filestore) (holds : Holds before state) (message : Message) (filestore : Filestore)
+    (goes : Bool) (said : List Said) (changes : List Change) : Type 0 where
+  pub outcome : Outcome
+  pub taken : IsTaken before.tables filestore.locks state holds.goes.standing setting message outcome
+  pub says : said ≡ outcome.said.items
+  pub differs : changes ≡ outcome.changes
+  pub put : IsPut outcome.party filestore.party goes
 
 -- what was made of octets in this state: the replies, and the state in which the rest will be received
-abbrev pub Took : State → List ℕ → List ℕ → Party → Tables → After → List ℕ → Type 0
-Took state octets replies party tables after.Goes rest =
-    (next : State) × Holds party tables next × Continues state octets replies next rest
-Took state octets replies party tables after.Gone rest =
-    (next : State) × (next.parties ≡ []) × Continues state octets replies next rest
-Took state octets replies party tables after.Aborted rest = Aborts state octets replies
+abbrev pub Took : State → List ℕ → List ℕ → Filestore → After → List ℕ → Type 0
+Took state octets replies filestore after.Goes rest =
+    (next : State) × Holds filestore next × Continues state octets replies next rest
+Took state octets replies filestore after.Gone rest =
+    (next : State) × (party_of link next.parties ≡ None) × Continues state octets replies next rest
+Took state octets replies filestore after.Aborted rest = Aborts state octets replies
 
 -- the same, where the replies were appended to others
-abbrev pub Appends : State → List ℕ → List ℕ → List ℕ → Party → Tables → After → List ℕ → Type 0
-Appends state octets old new party tables ended rest =
-    (replies : List ℕ) × (new ≡ old ++ replies) × Took state octets replies party tables ended rest
+abbrev pub Appends : State → List ℕ → List ℕ → List ℕ → Filestore → After → List ℕ → Type 0
+Appends state octets old new filestore ended rest =
+    (replies : List ℕ) × (new ≡ old ++ replies) × Took state octets replies filestore ended rest
 
 -- The first octets were taken, or are the begin of a message, and all is as it was.
-abbrev pub TakesFirst : State → List ℕ → List ℕ → List ℕ → Party → Tables → Party → Tables → Option First → Type 0
-TakesFirst state octets old new old_party old_tables party tables None =
-    (reading octets ≡ Short) × (new ≡ old) × (party ≡ old_party) × (tables ≡ old_tables)
-TakesFirst state octets old new old_party old_tables party tables (Some first) =
-    Appends state octets old new party tables first.after (drop first.length octets)
+abbrev pub TakesFirst : State → List ℕ → List ℕ → List ℕ → Filestore → Filestore → Option First → Type 0
+TakesFirst state octets old new old_filestore filestore None =
+    (reading octets ≡ Short) × (new ≡ old) × (filestore ≡ old_filestore)
+TakesFirst state octets old new old_filestore filestore (Some first) =
+    Appends state octets old new filestore first.after (drop first.length octets)
 
 -- these octets are there, and more than none where the party goes on
 abbrev pub Advances : List ℕ → First → Type 0

@@ -1,6 +1,6 @@
 -- What `dialogue` prints (profile): one party's messages over a filestore that starts empty. It has no layers
 -- below, so a piece of the stream of messages is a line, and every message comes at moment 0.
-use Rattle.std.specs.Prelude.{◌≡◌, ◌⊎◌, ℕ, zero, suc, Bool, true, false, List, [], ◌∷◌, ◌++◌, length, drop, Option, None, Some, Result, Ok, Err, if◌then◌else◌}
+use Rattle.std.specs.Prelude.{◌≡◌, ◌⊎◌, ℕ, zero, suc, Bool, true, false, List, [], ◌∷◌, ◌++◌, length, drop, map, Option, None, Some, Result, Ok, Err, if◌then◌else◌}
 use Rattle.std.specs.List.{flat_map, list_any}
 use Rattle.vf_ber.specs.Reader.{reading}
 use Rattle.vf_ber.specs.Spelling.{spell}
@@ -13,8 +13,10 @@ use Rattle.vf_elements.specs.declared.message.Said.TheVariants as answers
 use Rattle.vf_pdu_fields.specs.Fault.{Fault}
 use Rattle.vf_pdu.specs.PduValue.{value}
 use Rattle.vf_pdu.specs.declared.pdu.Pdu.TheVariants.{ProviderAbort}
-use Rattle.vf_regime.specs.State.{State, StandingParty, arrived, party_of}
-use Rattle.vf_regime.specs.Transition.{Consequence, after_transition, leaves, transition}
+use Rattle.vf_filestore.specs.Aborts.{Setting}
+use Rattle.vf_filestore.specs.Runs.{arrives, beginning}
+use Rattle.vf_filestore.specs.State.{State}
+use Rattle.vf_filestore.specs.Transition.{Sent, Turn, fault, transition}
 use Rattle.vf_cli_dialogue.specs.Lines.{Input, says, hex_line, bad_line}
 use Rattle.vf_cli_printing.specs.Printed.{IsOneOf, Printed, Prints}
 
@@ -54,31 +56,34 @@ link = 1
 
 -- the filestore at its start: no user, no file, and the one party
 abbrev pub opened : State
-opened = record { users = []; files = []; parties = arrived link ∷ []; transitions = 0 }
+opened = arrives link (beginning [] [])
 
--- what comes of what the party receives
-abbrev pub consequence_to : State → StandingParty → Received → Consequence
-consequence_to state party (Heard message) = transition state party 0 message
-consequence_to state party (Faulty place) = leaves (answers.Abort outside place ∷ [])
+-- No session stands below (ISO 8327), so that none agreed to synchronize, and no end has a token.
+abbrev pub setting : Setting
+setting = record { moment = 0; serial = 1; token = false; sync = false }
 
--- what is said to one message or fault, and the state after it; a party that is gone receives nothing
-pub record Answer : Type 0 where
-  pub said : List Said
-  pub state : State
+-- What comes of what the party receives. Where it is gone, nothing does.
+abbrev pub turn : State → Received → Turn
+turn state (Heard message) = transition state link setting message
+turn state (Faulty place) = fault state link outside place
 
-abbrev pub answer_by : State → Received → Option StandingParty → Answer
-answer_by state thing None = record { said = []; state = state }
-answer_by state thing (Some party) =
-    let consequence = consequence_to state party thing in
-    record { said = consequence.said; state = after_transition state link consequence }
+abbrev pub said_of : Sent → Said
+said_of sent = sent.said
 
-abbrev pub answer : State → Received → Answer
-answer state thing = answer_by state thing (party_of link state.parties)
+-- what is said, all of it on the one link
+abbrev pub said_in : Turn → List Said
+said_in turn = map said_of turn.sent
 
--- all that is said to what is received from this state on
+abbrev pub is_abort : Said → Bool
+is_abort (answers.Abort number place) = true
+is_abort _ = false
+
+-- all that is said to what is received from this state on; after an abort nothing is received
 abbrev pub said_to : State → List Received → List Said
 said_to state [] = []
-said_to state (thing ∷ things) = (answer state thing).said ++ said_to (answer state thing).state things
+said_to state (thing ∷ things) =
+    let now = turn state thing in
+    said_in now ++ (if list_any is_abort (said_in now) then [] else said_to now.state things)
 
 -- A reply is a line. Checkpoints are the session's (ISO 8327), of which there is none: they have no line.
 abbrev pub reply : Said → List ℕ
@@ -87,10 +92,6 @@ reply (answers.Element element) = hex_line (spell (element_value element))
 reply (answers.Check point) = []
 reply (answers.Acknowledge point) = []
 reply (answers.Abort number place) = hex_line (spell (value (ProviderAbort number place)))
-
-abbrev pub is_abort : Said → Bool
-is_abort (answers.Abort number place) = true
-is_abort _ = false
 
 abbrev pub after_replies : Option ℕ → Printed
 after_replies None = record { octets = []; status = 0 }

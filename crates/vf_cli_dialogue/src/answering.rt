@@ -1,10 +1,10 @@
 //! One party's messages over an empty filestore, from lines to lines.
 ghost use Rattle.std.specs.Prelude.{◌≡◌, ◌<◌, [], ◌∷◌, true, false, IsErrOf, IfErr, OnErr, OnOk, IfOk, List, Option, Some, ℕ};
 ghost use Rattle.vf_base.specs.Faults.{HasRisen, NeverFalls};
-ghost use Rattle.vf_regime.specs.State.{State};
+ghost use Rattle.vf_filestore.specs.State.{State};
 ghost use Rattle.vf_cli_dialogue.specs.Conversation.{Goes, IsInterrupted, PrintsAll, PrintsPrefix, ReadsLine, Stands, Steps, is_ready, left_of, octets_in, size_of};
 ghost use Rattle.vf_cli_dialogue.specs.Lines.{Input, bad_line};
-ghost use Rattle.vf_cli_dialogue.specs.Dialogue.{EndsDialogue, MeetsDialogue};
+ghost use Rattle.vf_cli_dialogue.specs.Dialogue.{EndsDialogue, MeetsDialogue, opened};
 ghost use Rattle.vf_cli_printing.specs.Printed.{HasCauses, IsOneOf, Wrote, WrotePrefix};
 ghost use Rattle.vf_cli_dialogue.specs.Reader.{Progresses, will_say};
 
@@ -99,15 +99,35 @@ fn converse<I: Source, O: Sink>(
         piece: Vec::new(alloc),
         replies: Replies::new(alloc),
     };
+    converse_with(
+        alloc,
+        &mut reader,
+        &mut conversation,
+        &mut buffers,
+        input,
+        out,
+    )
+}
+
+/// The same, by a reader and in a conversation that have just begun.
+fn converse_with<I: Source, O: Sink>(
+    alloc: Global,
+    reader: &mut LineReader,
+    conversation: &mut Conversation,
+    buffers: &mut Buffers,
+    input: &mut I,
+    out: &mut O,
+) -> Result<u8, Interruption>
+    requires reader { reader.old ≡ record { count = 0; number = 1; ahead = [] } }
+    requires stands { Stands conversation.old opened }
+    requires none { octets_in conversation.old.stream ≡ [] }
+    ensures ends { IfOk result (λ status. EndsDialogue status × PrintsAll (I.left input.old) status (O.taken out.old) (O.taken out.new)) }
+    ensures interrupted { OnErr result (PrintsPrefix (I.left input.old) (O.taken out.old) (O.taken out.new)) }
+    ensures input { IsErrOf result Interruption.Input → HasRisen (I.fault_count input.old) (I.fault_count input.new) }
+    ensures output { IsErrOf result Interruption.Output → HasRisen (O.fault_count out.old) (O.fault_count out.new) }
+{
     'steps: loop {
-        let step = take_step(
-            alloc,
-            &mut reader,
-            &mut conversation,
-            &mut buffers,
-            input,
-            out,
-        )?;
+        let step = take_step(alloc, reader, conversation, buffers, input, out)?;
         if let Some(status) = step {
             return Ok(status);
         }

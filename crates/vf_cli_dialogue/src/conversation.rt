@@ -1,19 +1,17 @@
 //! A conversation with one party.
-ghost use Rattle.std.specs.Prelude.{◌≡◌, ◌++◌, ◌+◌, ◌<◌, ◌≤◌, [], drop, false, true, if◌then◌else◌, IfOk, IfSome, OnOk, Some, length, List, ℕ};
-ghost use Rattle.std.specs.List.{AllByRecursion, flat_map, list_any};
+ghost use Rattle.std.specs.Prelude.{◌≡◌, ◌++◌, ◌+◌, ◌<◌, ◌≤◌, [], drop, false, true, if◌then◌else◌, IfOk, IfSome, Ok, OnOk, Some, length, List, ℕ};
+ghost use Rattle.std.specs.List.{flat_map, list_any};
 ghost use Rattle.vf_ber.specs.Reader.{reading};
 ghost use Rattle.vf_ber.specs.Reading.{Read, Short};
 ghost use Rattle.vf_ber.specs.Views.{tree_of};
-ghost use Rattle.vf_regime.specs.Represents.{Represents, with_tables};
-ghost use Rattle.vf_regime.specs.Sayable.{CanServe, IsSayable};
-ghost use Rattle.vf_regime.specs.State.{State, StandingParty};
-ghost use Rattle.vf_regime.specs.Transition.{transition};
 ghost use Rattle.vf_ber_scan.specs.Scanned.{HasTaken};
-ghost use Rattle.vf_files.specs.Files.{after_changes};
-ghost use Rattle.vf_files.specs.declared.tables.Tables.{Tables};
 ghost use Rattle.vf_cli_dialogue.specs.declared.conversation.After.TheVariants as ends;
-ghost use Rattle.vf_cli_dialogue.specs.Conversation.{Adds, Advances, Appends, Holds, IsRest, IsTaking, Makes, Stands, TakesFirst, TakesReady, is_ready as ready_test, left_in, octets_in, size_of};
-ghost use Rattle.vf_cli_dialogue.specs.Dialogue.{is_abort as abort_test, opened, outside, reply};
+ghost use Rattle.vf_cli_dialogue.specs.Conversation.{Adds, Advances, Appends, Holds, IsAnsweredBy, IsPut, IsRest, IsTaking, Makes, Stands, TakesFirst, TakesReady, is_ready as ready_test, left_in, octets_in, size_of};
+ghost use Rattle.vf_cli_dialogue.specs.Dialogue.{is_abort as abort_test, link, opened, outside, reply, setting as setting_meant};
+ghost use Rattle.vf_filestore.specs.State.{State};
+ghost use Rattle.vf_filestore.specs.Transition.{transition};
+ghost use Rattle.vf_party.specs.Settings.{setting_of};
+ghost use Rattle.vf_tables.specs.Changes.{after_all};
 
 use crate::message::{append_reply, fault_in_octets, fault_in_value};
 use crate::printed::Replies;
@@ -22,8 +20,32 @@ use std::mem;
 use vf_base::{Moment, NoMemory, Octets};
 use vf_ber::Value;
 use vf_ber_scan::Scan;
-use vf_elements::{Message, Said, Stage};
-use vf_regime::{Changes, Outcome, Party, Tables};
+use vf_elements::{Message, Said};
+use vf_locks::Locks;
+use vf_party::{Outcome, Party, Setting};
+use vf_tables::{Changes, Doubled};
+
+/// A filestore with one party.
+#[derive(Drop)]
+pub(crate) struct Filestore {
+    /// One that has just arrived where the party is gone.
+    pub(crate) party: Party,
+    pub(crate) tables: Doubled,
+    pub(crate) locks: Locks,
+}
+
+impl Filestore {
+    /// It has no user and no file, and its party has just arrived.
+    fn new(alloc: Global) -> Filestore
+        ensures { Holds result opened }
+    {
+        Filestore {
+            party: Party::arrived(LINK),
+            tables: Doubled::new(alloc),
+            locks: Locks::new(alloc),
+        }
+    }
+}
 
 /// The octets of a stream that its party hasn't taken.
 #[derive(Drop)]
@@ -39,12 +61,10 @@ pub(crate) enum Stream {
 /// A conversation with one party over a filestore that starts empty. What is large stays where it is.
 #[derive(Drop)]
 pub(crate) struct Conversation {
-    /// An idle one where the party is gone.
-    party: Party,
+    filestore: Filestore,
     stream: Stream,
     /// Of the octets that wait.
     scan: Scan,
-    tables: Tables,
 }
 
 impl Conversation {
@@ -53,12 +73,11 @@ impl Conversation {
         ensures none { octets_in result.stream ≡ [] }
     {
         Conversation {
-            party: Party::idle(LINK),
+            filestore: Filestore::new(alloc),
             stream: Stream::Waiting {
                 pending: Vec::new(alloc),
             },
             scan: Scan::new(),
-            tables: Tables::new(alloc),
         }
     }
 
@@ -103,8 +122,7 @@ impl Conversation {
             Stream::Ready { octets } => {
                 let Taken { after, rest, more } = take_messages(
                     alloc,
-                    &mut self.party,
-                    &mut self.tables,
+                    &mut self.filestore,
                     octets,
                     replies,
                 )?;
@@ -237,20 +255,19 @@ const MOST_REPLIES: usize = 65_536;
 /// Where memory is wanting, the party is gone.
 pub(crate) fn take_messages(
     alloc: Global,
-    party: &mut Party,
-    tables: &mut Tables,
+    filestore: &mut Filestore,
     octets: Octets,
     replies: &mut Replies,
 ) -> Result<Taken, NoMemory>
-    requires { (state : State) × Holds party.old tables.old state }
+    requires { (state : State) × Holds filestore.old state }
     ensures less { IfOk result (λ taken. (length (left_in taken.rest) ≤ length octets) × (taken.more ≡ true → length (left_in taken.rest) < length octets)) }
     ensures rest { IfOk result (λ taken. IsRest taken.after taken.more (left_in taken.rest)) }
-    ensures took { IfOk result (λ taken. (state : State) → Holds party.old tables.old state
-        → Appends state octets replies.old.lines.items replies.new.lines.items party.new tables.new taken.after (left_in taken.rest)) }
+    ensures took { IfOk result (λ taken. (state : State) → Holds filestore.old state
+        → Appends state octets replies.old.lines.items replies.new.lines.items filestore.new taken.after (left_in taken.rest)) }
 {
     let mut rest = octets;
     loop {
-        let Some(First { after, length }) = take_first(alloc, party, tables, &rest, replies)? else {
+        let Some(First { after, length }) = take_first(alloc, filestore, &rest, replies)? else {
             return Ok(Taken {
                 after: After::Goes,
                 rest: Some(rest),
@@ -291,15 +308,14 @@ pub(crate) fn take_messages(
 /// of a message, and nothing changes.
 fn take_first(
     alloc: Global,
-    party: &mut Party,
-    tables: &mut Tables,
+    filestore: &mut Filestore,
     octets: &Octets,
     replies: &mut Replies,
 ) -> Result<Option<First>, NoMemory>
-    requires { (state : State) × Holds party.old tables.old state }
+    requires { (state : State) × Holds filestore.old state }
     ensures advances { IfOk result (λ first. IfSome first (Advances octets.now)) }
-    ensures took { IfOk result (λ first. (state : State) → Holds party.old tables.old state
-        → TakesFirst state octets.now replies.old.lines.items replies.new.lines.items party.old tables.old party.new tables.new first) }
+    ensures took { IfOk result (λ first. (state : State) → Holds filestore.old state
+        → TakesFirst state octets.now replies.old.lines.items replies.new.lines.items filestore.old filestore.new first) }
 {
     let (value, length) = match vf_ber::read_shared(alloc, octets) {
         Ok(read) => read,
@@ -311,27 +327,26 @@ fn take_first(
             return Ok(Some(first));
         }
     };
-    let first = take_value(alloc, party, tables, &value, length, replies)?;
+    let first = take_value(alloc, filestore, &value, length, replies)?;
     Ok(Some(first))
 }
 
 /// What the party makes of a value of so many octets.
 fn take_value(
     alloc: Global,
-    party: &mut Party,
-    tables: &mut Tables,
+    filestore: &mut Filestore,
     value: &Value,
     length: usize,
     replies: &mut Replies,
 ) -> Result<First, NoMemory>
-    requires { (state : State) × Holds party.old tables.old state }
+    requires { (state : State) × Holds filestore.old state }
     ensures advances { IfOk result (λ first. (octets : List ℕ) → reading octets ≡ Read (tree_of value.now) length → Advances octets first) }
-    ensures took { IfOk result (λ first. (octets : List ℕ) (state : State) → reading octets ≡ Read (tree_of value.now) length → Holds party.old tables.old state
-        → Appends state octets replies.old.lines.items replies.new.lines.items party.new tables.new first.after (drop first.length octets)) }
+    ensures took { IfOk result (λ first. (octets : List ℕ) (state : State) → reading octets ≡ Read (tree_of value.now) length → Holds filestore.old state
+        → Appends state octets replies.old.lines.items replies.new.lines.items filestore.new first.after (drop first.length octets)) }
 {
     match vf_elements::message_of(alloc, value) {
         Ok(message) => {
-            let after = take_message(alloc, party, tables, message, replies)?;
+            let after = take_message(alloc, filestore, message, replies)?;
             Ok(First { after, length })
         }
         Err(error) => {
@@ -344,52 +359,117 @@ fn take_value(
 
 fn take_message(
     alloc: Global,
-    party: &mut Party,
-    tables: &mut Tables,
+    filestore: &mut Filestore,
     message: Message,
     replies: &mut Replies,
 ) -> Result<After, NoMemory>
-    requires { (state : State) × (standing : StandingParty) × Represents party.old standing × CanServe (with_tables tables.old state) standing }
-    ensures { IfOk result (λ rest. (state : State) (standing : StandingParty) → Represents party.old standing
-        → Makes (transition (with_tables tables.old state) standing 0 message) replies.old.lines.items replies.new.lines.items tables.old tables.new party.new rest) }
+    ensures { IfOk result (λ rest. (state : State) → Holds filestore.old state
+        → Makes (transition state link setting_meant message) replies.old.lines.items replies.new.lines.items filestore.new rest) }
 {
-    let Ok(moment) = Moment::of(0) else {
-        unreachable!()
-    };
-    let one = mem::replace(party, Party::idle(LINK));
-    let Ok(outcome) = one.take(alloc, message, moment, 1, false, false, tables) else {
-        return Err(NoMemory);
-    };
+    let Answered {
+        goes,
+        said,
+        changes,
+    } = answer(alloc, filestore, message)?;
+    make_changes(alloc, &mut filestore.tables, changes)?;
+    if append_replies(alloc, said.as_slice(), replies)? {
+        return Ok(After::Aborted);
+    }
+    Ok(after_replies(goes))
+}
+
+/// What became of a party that was told no abort.
+fn after_replies(goes: bool) -> After
+    ensures { result ≡ (if goes then ends.Goes else ends.Gone) }
+{
+    if goes { After::Goes } else { After::Gone }
+}
+
+/// What the party answers to a message, and its changes, which are still to be made.
+#[derive(Drop)]
+struct Answered {
+    /// The party goes on.
+    goes: bool,
+    said: Vec<Said>,
+    changes: Changes,
+}
+
+/// The party takes a message, and the next one stands in its place. Where memory is wanting, the party is gone.
+fn answer(alloc: Global, filestore: &mut Filestore, message: Message) -> Result<Answered, NoMemory>
+    ensures tables { filestore.new.tables ≡ filestore.old.tables }
+    ensures answers { IfOk result (λ answered. (state : State) → (holds : Holds filestore.old state)
+        → IsAnsweredBy state filestore.old holds message filestore.new answered.goes answered.said.items answered.changes) }
+{
+    let party = mem::replace(&mut filestore.party, Party::arrived(LINK));
+    let taken = party.take(
+        alloc,
+        message,
+        setting(),
+        filestore.tables.tables(),
+        &mut filestore.locks,
+    );
     let Outcome {
         party: next,
         said,
         changes,
-    } = outcome;
-    *party = next;
-    make_changes(alloc, tables, changes)?;
-    if append_replies(alloc, said.as_slice(), replies)? {
-        return Ok(After::Aborted);
+    } = outcome_in(taken)?;
+    let goes = put_next(&mut filestore.party, next);
+    Ok(Answered {
+        goes,
+        said,
+        changes,
+    })
+}
+
+/// What came of a message; the party is dropped that is given back for want of memory.
+fn outcome_in(taken: Result<Outcome, (Party, NoMemory)>) -> Result<Outcome, NoMemory>
+    ensures { IfOk result (λ outcome. taken ≡ Ok outcome) }
+{
+    match taken {
+        Ok(outcome) => Ok(outcome),
+        Err(_) => Err(NoMemory),
     }
-    match party.stage() {
-        Stage::Idle => Ok(After::Gone),
-        _ => Ok(After::Goes),
+}
+
+/// Puts the next party in the place of another, if there is one, and says whether there is.
+fn put_next(party: &mut Party, next: Option<Party>) -> bool
+    ensures { IsPut next party.new result }
+{
+    let Some(next) = next else {
+        return false;
+    };
+    *party = next;
+    true
+}
+
+/// The setting of every message: it comes at moment 0, and no session stands below.
+fn setting() -> Setting
+    ensures { setting_of result ≡ setting_meant }
+{
+    let Ok(moment) = Moment::of(0) else {
+        unreachable!()
+    };
+    Setting {
+        moment,
+        serial: 1,
+        token: false,
+        sync: false,
     }
 }
 
 /// Makes all of the changes or none. Most messages have none, for which the tables need no look.
-fn make_changes(alloc: Global, tables: &mut Tables, changes: Changes) -> Result<(), NoMemory>
-    ensures { OnOk result (tables.new.files ≡ after_changes changes tables.old.files) }
+fn make_changes(alloc: Global, tables: &mut Doubled, changes: Changes) -> Result<(), NoMemory>
+    ensures { OnOk result (tables.new ≡ after_all tables.old changes) }
 {
     if changes.as_slice().is_empty() {
         return Ok(());
     }
-    tables.apply(alloc, changes)?;
+    tables.apply(alloc, changes.as_slice())?;
     Ok(())
 }
 
 /// Appends the replies as lines, and says whether an abort is among them.
 fn append_replies(alloc: Global, said: &[Said], replies: &mut Replies) -> Result<bool, NoMemory>
-    requires { AllByRecursion IsSayable said.now }
     ensures lines { IfOk result (λ _. replies.new.lines.items ≡ replies.old.lines.items ++ flat_map reply said.now) }
     ensures abort { IfOk result (λ aborted. aborted ≡ list_any abort_test said.now) }
 {

@@ -12,6 +12,7 @@ pub mod Dues
 pub mod Erasures
 pub mod FileChanges
 pub mod FoundDockets
+pub mod GoingOn
 pub mod GroupEnds
 pub mod GroupTurns
 pub mod Heard
@@ -21,6 +22,7 @@ pub mod Locations
 pub mod NoChanges
 pub mod OpenRows
 pub mod Opens
+pub mod Others
 pub mod OwnDockets
 pub mod ReadsOn
 pub mod Recovers

@@ -5,6 +5,7 @@ pub mod Dockets
 pub mod Dues
 pub mod Erasures
 pub mod Files
+pub mod GoingOn
 pub mod GroupEnds
 pub mod GroupTurns
 pub mod Items

@@ -1,5 +1,5 @@
 //! The top call over objects in memory, from its words, its disk and its input to what it prints, its status and what the
-//! disk then holds: worked dialogues, and commands over a store; and the calls of one party, message by message.
+//! disk then holds: worked dialogues, and commands over a store.
 #![tactic(auto)]
 
 #[cfg(test)]
@@ -13,7 +13,7 @@ mod dialogues;
 #[cfg(test)]
 mod faults;
 #[cfg(test)]
-mod regime;
+mod management;
 #[cfg(test)]
 mod rows;
 #[cfg(test)]

@@ -1,12 +1,12 @@
 use Rattle.std.proofs.Common.{◌≡◌, arith, true, List, [], ◌∷◌, length, refl, ap, sym, ◌∙◌}
 use Rattle.std.proofs.lemmas.Bool.{eqb-true}
 use Rattle.std.specs.Prelude.{nat_eq}
-use Rattle.vf_files.specs.Files.{after_changes}
-use Rattle.vf_files.specs.declared.changes.Change.{Change}
-use Rattle.vf_files.specs.declared.tables.Tables.{Tables}
+use Rattle.vf_tables.specs.Changes.{after_all}
+use Rattle.vf_tables.specs.declared.change.Change.{Change}
+use Rattle.vf_tables.specs.declared.tables.Tables.{Tables}
 use Rattle.vf_cli_dialogue.proofs.conversation.make_changes.Goals as goal
 
-unchanged : (changes : List Change) (tables : Tables) → nat_eq (length changes) 0 ≡ true → tables.files ≡ after_changes changes tables.files
+unchanged : (changes : List Change) (tables : Tables) → nat_eq (length changes) 0 ≡ true → tables ≡ after_all tables changes
 unchanged [] tables none = refl
 unchanged (change ∷ later) tables none = absurd (omega (arith, eqb-true (length (change ∷ later)) 0 none))
 

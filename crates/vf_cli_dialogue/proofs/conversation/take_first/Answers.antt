@@ -16,8 +16,8 @@ returns-in-Err-clause-took c = λ state holds.
     let new = c.append_abort.new.replies.lines.items in
     let rest = drop c.in_ok-first-in-Err.first.length octets in
     let found = subst (λ (p : Option ℕ). IsUnread (reading octets) p) c.in-Some.is (c.in_ok-place-in-Err.ensures octets c.in-Err.ensures) in
-    subst (λ (a : After). Appends state octets old new c.args.party.now c.args.tables.now a rest) (sym told.0)
-    (takes_fault state c.args.party.now c.args.tables.now octets old new holds c.in-Some.place rest found told.2)
+    subst (λ (a : After). Appends state octets old new c.args.filestore.now a rest) (sym told.0)
+    (takes_fault state c.args.filestore.now octets old new holds c.in-Some.place rest found told.2)
 
 pub returns-clause-advances : goal.returns-clause-advances
 returns-clause-advances c =

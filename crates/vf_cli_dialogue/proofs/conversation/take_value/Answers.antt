@@ -16,9 +16,8 @@ returns-in_ok-after-in-Ok-clause-advances c = λ octets read.
 
 pub returns-in_ok-after-in-Ok-clause-took : goal.returns-in_ok-after-in-Ok-clause-took
 returns-in_ok-after-in-Ok-clause-took c = λ octets state read holds.
-    takes_message state c.args.party.now c.args.tables.now octets c.args.replies.now.lines.items c.take_message.new.replies.lines.items holds
-    c.in-Ok.message (tree_of c.args.value.now) c.args.length c.take_message.new.party c.take_message.new.tables c.in_ok-after-in-Ok.after
-    read c.in-Ok.ensures (c.in_ok-after-in-Ok.ensures state holds.0 holds.3)
+    takes_message state octets c.in-Ok.message (tree_of c.args.value.now) c.args.length read c.in-Ok.ensures c.take_message.new.filestore
+    c.args.replies.now.lines.items c.take_message.new.replies.lines.items c.in_ok-after-in-Ok.after (c.in_ok-after-in-Ok.ensures state holds)
 
 pub returns-in_ok-first-in-Err-clause-took : goal.returns-in_ok-first-in-Err-clause-took
 returns-in_ok-first-in-Err-clause-took c = λ octets state read holds.
@@ -28,5 +27,5 @@ returns-in_ok-first-in-Err-clause-took c = λ octets state read holds.
     let new = c.append_abort.new.replies.lines.items in
     let rest = drop c.in_ok-first-in-Err.first.length octets in
     let found = subst (λ (r : Reading). IsFault r place) (sym read) (c.in_ok-place-in-Err.ensures (message_in (tree_of c.args.value.now)) c.in-Err.ensures) in
-    subst (λ (a : After). Appends state octets old new c.args.party.now c.args.tables.now a rest) (sym told.0)
-    (takes_fault state c.args.party.now c.args.tables.now octets old new holds place rest found told.2)
+    subst (λ (a : After). Appends state octets old new c.args.filestore.now a rest) (sym told.0)
+    (takes_fault state c.args.filestore.now octets old new holds place rest found told.2)

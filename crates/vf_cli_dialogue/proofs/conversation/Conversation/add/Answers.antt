@@ -10,8 +10,8 @@ pub returns-in_ok-self-in-Waiting-clause-adds : goal.returns-in_ok-self-in-Waiti
 returns-in_ok-self-in-Waiting-clause-adds c = λ state stands.
     let is = sym c.replace.ensures.value ∙ c.in-Waiting.is in
     let self = c.args.self.now in
-    piece_added state self.party self.tables self.scan c.added.new.scan self.stream _ c.in-Waiting.pending.items c.args.piece.now.items
-    (ap octets_in is) (λ standing. subst (StandsBy self.party self.tables self.scan state) is standing)
+    piece_added state self.filestore self.scan c.added.new.scan self.stream _ c.in-Waiting.pending.items c.args.piece.now.items
+    (ap octets_in is) (λ standing. subst (StandsBy self.filestore self.scan state) is standing)
     c.in_ok-self-in-Waiting.ensures.octets c.in_ok-self-in-Waiting.ensures.takes stands
 
 pub returns-in_ok-self-in-Waiting-clause-size : goal.returns-in_ok-self-in-Waiting-clause-size
@@ -22,7 +22,7 @@ returns-in_ok-self-in-Waiting-clause-size c =
 pub returns-in-Gone-clause-adds : goal.returns-in-Gone-clause-adds
 returns-in-Gone-clause-adds c = λ state stands.
     let self = c.args.self.now in
-    piece_gone state self.party self.tables self.scan self.stream c.replace.new.dest c.args.piece.now.items
+    piece_gone state self.filestore self.scan self.stream c.replace.new.dest c.args.piece.now.items
     (sym c.replace.ensures.value ∙ c.in-Gone.is) c.replace.ensures.after stands
 
 pub returns-in-Gone-clause-size : goal.returns-in-Gone-clause-size

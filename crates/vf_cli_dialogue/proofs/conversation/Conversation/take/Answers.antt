@@ -6,7 +6,7 @@ use Rattle.vf_cli_dialogue.proofs.conversation.Conversation.take.Goals as goal
 pub take_messages-requires : goal.take_messages-requires
 take_messages-requires c =
     let stands = c.requires.stands in
-    (stands.0, subst (StandsBy c.args.self.now.party c.args.self.now.tables c.args.self.now.scan stands.0) (sym c.replace.ensures.value ∙ c.in-Ready.is) stands.1)
+    (stands.0, subst (StandsBy c.args.self.now.filestore c.args.self.now.scan stands.0) (sym c.replace.ensures.value ∙ c.in-Ready.is) stands.1)
 
 pub rest_after-requires : goal.rest_after-requires
 rest_after-requires c =
@@ -16,17 +16,17 @@ rest_after-requires c =
 pub returns-in_ok-self-in-Goes-clause-takes : goal.returns-in_ok-self-in-Goes-clause-takes
 returns-in_ok-self-in-Goes-clause-takes c = λ state stands.
     let is = sym c.replace.ensures.value ∙ c.in-Ready.is in
-    taken_goes state c.args.self.now.stream c.in-Ready.octets (ap octets_in is) c.args.replies.now.lines.items c.take_messages.new.replies.lines.items c.take_messages.new.party c.take_messages.new.tables
+    taken_goes state c.args.self.now.stream c.in-Ready.octets (ap octets_in is) c.args.replies.now.lines.items c.take_messages.new.replies.lines.items c.take_messages.new.filestore
     c.in_ok-after-in-Ready.field-0.after (left_in c.in_ok-after-in-Ready.field-0.rest)
-    (c.in_ok-after-in-Ready.ensures.took state (subst (StandsBy c.args.self.now.party c.args.self.now.tables c.args.self.now.scan state) is stands))
+    (c.in_ok-after-in-Ready.ensures.took state (subst (StandsBy c.args.self.now.filestore c.args.self.now.scan state) is stands))
     c.rest_after.new.scan _ c.in-Goes.is c.in_ok-self-in-Goes.ensures.octets c.in_ok-self-in-Goes.ensures.takes
 
 pub returns-in-Gone-after-clause-takes : goal.returns-in-Gone-after-clause-takes
 returns-in-Gone-after-clause-takes c = λ state stands.
     let is = sym c.replace.ensures.value ∙ c.in-Ready.is in
-    taken_gone state c.args.self.now.stream c.in-Ready.octets (ap octets_in is) c.args.replies.now.lines.items c.take_messages.new.replies.lines.items c.take_messages.new.party c.take_messages.new.tables
+    taken_gone state c.args.self.now.stream c.in-Ready.octets (ap octets_in is) c.args.replies.now.lines.items c.take_messages.new.replies.lines.items c.take_messages.new.filestore
     c.in_ok-after-in-Ready.field-0.after (left_in c.in_ok-after-in-Ready.field-0.rest)
-    (c.in_ok-after-in-Ready.ensures.took state (subst (StandsBy c.args.self.now.party c.args.self.now.tables c.args.self.now.scan state) is stands))
+    (c.in_ok-after-in-Ready.ensures.took state (subst (StandsBy c.args.self.now.filestore c.args.self.now.scan state) is stands))
     c.args.self.now.scan c.replace.new.dest c.in-Gone-after.is c.replace.ensures.after
 
 pub returns-in-Gone-after-clause-size : goal.returns-in-Gone-after-clause-size
@@ -37,9 +37,9 @@ returns-in-Gone-after-clause-size c =
 pub returns-in-Aborted-clause-takes : goal.returns-in-Aborted-clause-takes
 returns-in-Aborted-clause-takes c = λ state stands.
     let is = sym c.replace.ensures.value ∙ c.in-Ready.is in
-    taken_aborted state c.args.self.now.stream c.in-Ready.octets (ap octets_in is) c.args.replies.now.lines.items c.take_messages.new.replies.lines.items c.take_messages.new.party c.take_messages.new.tables
+    taken_aborted state c.args.self.now.stream c.in-Ready.octets (ap octets_in is) c.args.replies.now.lines.items c.take_messages.new.replies.lines.items c.take_messages.new.filestore
     c.in_ok-after-in-Ready.field-0.after (left_in c.in_ok-after-in-Ready.field-0.rest)
-    (c.in_ok-after-in-Ready.ensures.took state (subst (StandsBy c.args.self.now.party c.args.self.now.tables c.args.self.now.scan state) is stands))
+    (c.in_ok-after-in-Ready.ensures.took state (subst (StandsBy c.args.self.now.filestore c.args.self.now.scan state) is stands))
     c.in-Aborted.is
 
 pub returns-in-Aborted-clause-size : goal.returns-in-Aborted-clause-size

@@ -1,16 +1,16 @@
 use Rattle.std.proofs.Common.{ℕ, Option, subst, arith}
-use Rattle.vf_regime.specs.State.{State}
+use Rattle.vf_filestore.specs.State.{State}
 use Rattle.vf_cli_dialogue.specs.Conversation.{Goes, Stands, Steps, left_of, octets_in}
 use Rattle.vf_cli_dialogue.specs.Reader.{will_say}
 use Rattle.vf_cli_dialogue.proofs.LineLemmas.{on_err}
 use Rattle.vf_cli_dialogue.proofs.TopLemmas.{prints_all, prints_prefix, so_far_begins, so_far_ends, so_far_goes, so_far_stops}
-use Rattle.vf_cli_dialogue.proofs.answering.converse.Goals as goal
+use Rattle.vf_cli_dialogue.proofs.answering.converse_with.Goals as goal
 
 pub steps-init : goal.steps-init
 steps-init g c = record {
   input_falls = omega arith;
   out_falls = omega arith;
-  goes = so_far_begins c.new-conversation.result _ _ c.new-conversation.ensures.stands;
+  goes = so_far_begins c.args.conversation.now _ _ c.requires.stands;
 }
 
 pub steps-preserved : goal.steps-preserved
@@ -36,12 +36,12 @@ returns-in-Some-clause-ends g c =
     let takes = subst (λ (step : Option ℕ). (state : State) → Stands c.steps.conversation state
     → Steps state (octets_in c.steps.conversation.stream) now later between new c.take_step.new.conversation step) c.in-Some.is c.in_ok-step.ensures.takes in
     let ends = so_far_ends _ _ now _ between new c.steps.conversation c.steps.invariant.goes later c.take_step.new.conversation c.in-Some.status takes in
-    (ends.3, prints_all _ _ c.in_ok-reader.ensures c.new-conversation.ensures.none _ new (g.I.Source.left c.args.input.now) ends.0 c.in-Some.status ends.1 ends.2)
+    (ends.3, prints_all _ _ c.requires.reader c.requires.none _ new (g.I.Source.left c.args.input.now) ends.0 c.in-Some.status ends.1 ends.2)
 
 pub returns-in_err-step-clause-interrupted : goal.returns-in_err-step-clause-interrupted
 returns-in_err-step-clause-interrupted g c =
-    on_err c.from_residual-in_err-step.result _
-    (prints_prefix _ _ c.in_ok-reader.ensures c.new-conversation.ensures.none _ _ (g.I.Source.left c.args.input.now)
+    on_err c.from_residual.result _
+    (prints_prefix _ _ c.requires.reader c.requires.none _ _ (g.I.Source.left c.args.input.now)
     (so_far_stops _ _ _ _ _ _ c.steps.conversation c.steps.invariant.goes c.in_err-step.ensures.interrupted))
 
 pub steps-smaller : goal.steps-smaller

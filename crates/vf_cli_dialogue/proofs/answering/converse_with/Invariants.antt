@@ -2,7 +2,7 @@ use Rattle.vf_base.specs.Faults.{NeverFalls}
 use Rattle.vf_cli_dialogue.specs.Conversation.{left_of, octets_in}
 use Rattle.vf_cli_dialogue.specs.Reader.{will_say}
 use Rattle.vf_cli_dialogue.proofs.TopLemmas.{SoFar}
-use Rattle.vf_cli_dialogue.proofs.answering.converse.Given as goal
+use Rattle.vf_cli_dialogue.proofs.answering.converse_with.Given as goal
 
 abbrev pub invariant-steps : goal.invariant-steps
 invariant-steps g l = record {
