@@ -232,7 +232,7 @@ module _ (state : State) (filestore : Filestore) (holds : Holds filestore state)
   pub party_goes : (next : Party) (tables : Tables) → outcome.party ≡ Some next → tables ≡ after_all filestore.tables outcome.changes
       → Holds (record { party = next; tables = tables; locks = locks }) (transition state link setting message).state
   party_goes next tables is made =
-      let goes = turns_go_on filestore.tables filestore.locks locks state one setting message outcome holds.goes.stands holds.goes.histories (gives_none state filestore holds message) taken next is in
+      let goes = turns_go_on filestore.tables filestore.locks locks state one setting message outcome holds.goes.stands (gives_none state filestore holds message) taken next holds.goes.histories is in
       let here = subst (λ (n : ℕ). StandsAs (after_all filestore.tables outcome.changes) locks (answered state one setting message).state n next) holds.goes.linked goes in
       let kept = subst (λ (t : Tables). StandsAs t locks (answered state one setting message).state link next) (sym made) here in
       subst (λ (s : State). Holds (record { party = next; tables = tables; locks = locks }) s) state_is

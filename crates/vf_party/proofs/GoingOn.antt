@@ -50,7 +50,7 @@ pub has_link : (state : State) (link : ℕ) (party : StandingParty) → party_of
 has_link state link party found = (located link state.parties party found).same
 
 module _ (tables : Tables) (old new : HoldersOfFiles) (state : State) (party : StandingParty) (setting : Setting) (message : Message) (outcome : Outcome)
-    (stands : StandsIn tables old state party) (histories : AreHistoriesKept state) (nobody : superseded_by state party message ≡ None)
+    (stands : StandsIn tables old state party) (nobody : superseded_by state party message ≡ None)
     (taken : IsTaken tables new state party setting message outcome) where
   -- once its changes are made the tables are those of the next state
   pub tables_go_on : tables_of (answered state party setting message).state ≡ after_all tables outcome.changes
@@ -59,9 +59,9 @@ module _ (tables : Tables) (old new : HoldersOfFiles) (state : State) (party : S
       ∙ ap (λ (changes : List Change). after_all (tables_of state) changes) (sym taken.differs)
       ∙ ap (λ (kept : Tables). after_all kept outcome.changes) stands.kept
 
-  turn_goes_on : (next : Party) → IsNext (Some next) (party_of party.link (answered state party setting message).state.parties)
+  turn_goes_on : (next : Party) → AreHistoriesKept state → IsNext (Some next) (party_of party.link (answered state party setting message).state.parties)
       → StandsAs (after_all tables outcome.changes) new (answered state party setting message).state party.link next
-  turn_goes_on next (standing, found, represented) =
+  turn_goes_on next histories (standing, found, represented) =
       let linked = has_link (answered state party setting message).state party.link standing found in
       record {
         standing = standing;
@@ -76,7 +76,7 @@ module _ (tables : Tables) (old new : HoldersOfFiles) (state : State) (party : S
         histories = answered_stays IsAny AreHistoriesKept histories_stay state party.link party setting message tt stands.sound histories stands.stands;
       }
 
-  pub turns_go_on : (next : Party) → outcome.party ≡ Some next
+  pub turns_go_on : (next : Party) → AreHistoriesKept state → outcome.party ≡ Some next
       → StandsAs (after_all tables outcome.changes) new (answered state party setting message).state party.link next
-  turns_go_on next is =
-      turn_goes_on next (subst (λ (one : Option Party). IsNext one (party_of party.link (answered state party setting message).state.parties)) is taken.next)
+  turns_go_on next histories is =
+      turn_goes_on next histories (subst (λ (one : Option Party). IsNext one (party_of party.link (answered state party setting message).state.parties)) is taken.next)

@@ -11,11 +11,14 @@ use Rattle.vf_filestore.specs.Decision.{Decision, Aborts, Refuses, Grants, Waits
 use Rattle.vf_filestore.specs.Dockets.{broken}
 use Rattle.vf_filestore.specs.Groups.{between, is_good, said_in_vain, said_of, trial, trial_by, trial_step}
 use Rattle.vf_filestore.specs.History.{Given}
+use Rattle.vf_filestore.specs.Keeping.{AreHistoriesKept}
 use Rattle.vf_filestore.specs.Replies.{refusal}
 use Rattle.vf_filestore.specs.State.{State, StandingParty, party_of, with_party, without_party}
 use Rattle.vf_filestore.specs.Transition.{answered, associates, leaves, met, superseded_by, with_message}
 use Rattle.vf_filestore.proofs.Decisions.{answered_sound}
 use Rattle.vf_filestore.proofs.Parties.{located}
+use Rattle.vf_filestore.proofs.Preserved.{IsAny, answered_stays}
+use Rattle.vf_filestore.proofs.StaysKept.{histories_stay}
 use Rattle.vf_party.specs.GoingOn.{StandsAs}
 use Rattle.vf_party.specs.Steps.{HoldersOfFiles, StandsIn}
 use Rattle.vf_party.specs.Turns.{IsTaken}
@@ -137,4 +140,5 @@ module _ (tables : Tables) (old new : HoldersOfFiles) (state : State) (party : S
           held = taken.held;
           stands = others_go_on there.standing.link setting state party message off ∙ there.stands.stands;
         };
+        histories = answered_stays IsAny AreHistoriesKept histories_stay state party.link party setting message tt stands.sound there.histories stands.stands;
       }
