@@ -1,9 +1,0 @@
-pub mod After
-pub mod Limits
-pub mod Performed
-pub mod Stages
-pub mod Steps
-pub mod Stepped
-pub mod Values
-pub mod Served
-pub mod Strings

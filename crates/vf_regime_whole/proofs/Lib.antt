@@ -1,9 +1,0 @@
-pub mod Agreeing
-pub mod Comes
-pub mod Creating
-pub mod Ending
-pub mod Every
-pub mod Moving
-pub mod Opening
-pub mod Selecting
-pub mod Simple

@@ -1,5 +1,0 @@
-pub mod Filters
-pub mod Histories
-pub mod Messages
-pub mod States
-pub mod Transitions
