@@ -62,8 +62,8 @@ def content_of(form, value, name):
     if isinstance(form, pdus.Controls):
         return bytes(value)
     if isinstance(form, pdus.Date):
-        assert value == 0, value
-        return MOMENT
+        assert value == 0 or isinstance(value, bytes), value
+        return value or MOMENT
     if isinstance(form, pdus.Oid):
         return value if isinstance(value, tuple) else KIND + (value,)
     if isinstance(form, pdus.Seq):
