@@ -1,7 +1,7 @@
-"""The octets of messages, for bench/dialogues: between the messages of filestore_state.py and the values of bench/pdus.
+"""The octets of messages, for bench/dialogues: messages of filestore_state.py as values of bench/pdus, and back.
 
-A message has the fields of its PDU in the order of their tags, so that the table in bench/pdus tells the form of each.
-Data elements (ISO 8571-2) are written and read here. Names are texts, of which each character is an octet.
+A message has the fields of its PDU in the order of their tags, so that the table in bench/pdus tells their forms. Data
+elements (ISO 8571-2) are written and read here. Names are texts, of which each character is an octet.
 """
 
 import importlib.machinery
@@ -161,15 +161,13 @@ def loosely(value, random):
     elements in segments (ISO 8825)."""
     if value.parts is None and value.group == 0 and random.random() < 0.3:
         cut = random.randint(0, len(value.octets))
-        pieces = (value.octets[:cut], value.octets[cut:])
+        pieces = value.octets[:cut], value.octets[cut:]
         value = Value(value.tag, parts=tuple(Value(4, each, group=0) for each in pieces), group=0)
+    head = dataclasses.replace(value, octets=b"", parts=None if value.parts is None else ()).spelled()[:-1]
     inside = value.octets if value.parts is None else b"".join(loosely(part, random) for part in value.parts)
-    head = Value(value.tag, parts=value.parts and (), group=value.group).spelled()[:-1]
-    if value.parts is not None:
-        head = bytes([head[0] | 0x20]) + head[1:]
-        if random.random() < 0.3:
-            return head + b"\x80" + inside + b"\0\0"
+    if value.parts is not None and random.random() < 0.3:
+        return head + b"\x80" + inside + b"\0\0"
     least = 0 if len(inside) < 128 else (len(inside).bit_length() + 7) // 8
-    count = random.choice((least, least, least + 1, 2, 3)) if least < 3 else least
-    count = max(count, least)
-    return head + (bytes([0x80 | count]) + len(inside).to_bytes(count, "big") if count else bytes([len(inside)])) + inside
+    count = random.choice((least, least, least + 1, max(least, 3)))
+    length = bytes([0x80 | count]) + len(inside).to_bytes(count, "big") if count else bytes([len(inside)])
+    return head + length + inside
