@@ -31,7 +31,7 @@ use Rattle.vf_cli_dialogue.specs.declared.conversation.After.TheVariants as afte
 use Rattle.vf_cli_dialogue.specs.Conversation.{Holds, IsAnsweredBy, IsPut, Makes}
 use Rattle.vf_cli_dialogue.specs.Dialogue.{is_abort, link, opened, reply, said_in, said_of, setting}
 use Rattle.vf_party.specs.GoingOn.{StandsAs}
-use Rattle.vf_party.specs.Steps.{HoldersOfFiles, StandsIn}
+use Rattle.vf_party_steps.specs.Steps.{HoldersOfFiles, StandsIn}
 use Rattle.vf_party.specs.Turns.{IsNext, IsParty, IsTaken, IsTurnIn}
 use Rattle.vf_party.specs.declared.party.Outcome.{Outcome}
 use Rattle.vf_party.specs.declared.party.Party.{Party}

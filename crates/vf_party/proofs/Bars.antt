@@ -20,14 +20,14 @@ use Rattle.vf_filestore.specs.Units.{grouping_unit, has_checks}
 use Rattle.vf_party.specs.Aborting.{aborts_of_open, aborts_of_quiet, aborts_of_reading, aborts_of_restart, aborts_of_units, aborts_of_writing, spent_aborts}
 use Rattle.vf_party.specs.Items.{is_item}
 use Rattle.vf_party.specs.Quiets.{IsQuiet, stage_of}
-use Rattle.vf_party.specs.Moving.{stage_of_writing}
-use Rattle.vf_party.specs.Reads.{IsReading}
-use Rattle.vf_party.specs.Reads.{stage_of as reading_stage_of}
-use Rattle.vf_party.specs.Represents.{IsIdle}
-use Rattle.vf_party.specs.Writes.{IsWriting}
-use Rattle.vf_party.specs.declared.idle.Idle.{Idle}
-use Rattle.vf_party.specs.declared.reading.Reading.{Reading}
-use Rattle.vf_party.specs.declared.writing.Writing.{Writing}
+use Rattle.vf_party_steps.specs.Moving.{stage_of_writing}
+use Rattle.vf_party_steps.specs.Reads.{IsReading}
+use Rattle.vf_party_steps.specs.Reads.{stage_of as reading_stage_of}
+use Rattle.vf_party_steps.specs.Represents.{IsIdle}
+use Rattle.vf_party_steps.specs.Writes.{IsWriting}
+use Rattle.vf_party_steps.specs.declared.idle.Idle.{Idle}
+use Rattle.vf_party_steps.specs.declared.reading.Reading.{Reading}
+use Rattle.vf_party_steps.specs.declared.writing.Writing.{Writing}
 use Rattle.vf_party.specs.declared.quiet.Quiet.{Quiet}
 use Rattle.vf_party.specs.declared.quiet.Quiet.TheVariants as quiets
 use Rattle.vf_pdu.specs.PduNumbers.{number_of}

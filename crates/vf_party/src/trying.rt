@@ -7,12 +7,12 @@ ghost use Rattle.vf_tables.specs.Changes.{after_all};
 
 use crate::items::{is_item, take_item};
 use crate::refusals::refusal;
-use crate::step::followed_by;
 use crate::{Message, Quiet, Said, Setting, Step, StepError};
 use std::alloc::Global;
 use vf_base::{Diagnostic, NoMemory};
 use vf_files::plain;
 use vf_locks::Locks;
+use vf_party_steps::followed_by;
 use vf_pdu::Pdu;
 use vf_tables::{Changes, Tables};
 
