@@ -2,13 +2,12 @@
 ghost use Rattle.std.specs.Prelude.{◌≡◌, ◌++◌, ◌∷◌, [], List, IfErr, IfOk, OnOk, Some, take, true, option_copied};
 ghost use Rattle.vf_base.specs.declared.element.Element.{Element as Of};
 ghost use Rattle.vf_elements.specs.declared.message.Message.TheVariants as messages;
-ghost use Rattle.vf_files.specs.Diagnostics.{plain as plain_meant};
-ghost use Rattle.vf_files.specs.Rows.{includes};
-ghost use Rattle.vf_filestore.specs.Diagnostics.{first_row};
+ghost use Rattle.vf_filestore.specs.Diagnostics.{first_row, plain as plain_meant};
 ghost use Rattle.vf_filestore.specs.Units.{recovery_unit};
 ghost use Rattle.vf_locks.specs.Holders.{passed};
 ghost use Rattle.vf_locks.specs.Table.{IsWith, held};
 ghost use Rattle.vf_locks.specs.declared.holder.Holder.TheVariants as holders;
+ghost use Rattle.vf_tables.specs.Validity.{includes};
 ghost use Rattle.vf_party_steps.specs.Recoveries.{AbortsRead, IsFilled, IsKeptStep, IsRecovered, TakesUp, TakesUpKept, again as again_meant, attribute_part as attribute_meant, changed_row_in, content_part as content_meant, cut_to as cut_to_meant, docket_row, given_by as given_by_meant, is_idle as idle_meant, is_numbered_in, is_read_row as is_read_row_meant, may_pass as may_pass_meant, open_by, opened_in as opened_meant, put_at as put_at_meant, read_by as read_by_meant, refusal_in, rows_of, selection_in as selection_meant, shown_as, step_as, would_read as would_read_meant, write_by as write_by_meant};
 ghost use Rattle.vf_party_steps.specs.Reads.{IsReading};
 ghost use Rattle.vf_party_steps.specs.Represents.{IsAssociated, IsOpen};
@@ -31,7 +30,9 @@ use vf_attr::File;
 use vf_base::{
     Context, Controls, Diagnostic, Element, Elements, FaduId, Moment, Name, NoMemory, copy_option,
 };
-use vf_files::plain;
+use vf_filestore::diagnostics::{
+    DOCKET_UNKNOWN, FILE_CHANGED, UNIT_NOT_AGREED, WRONG_TRANSFER, plain,
+};
 use vf_locks::{Holder, Locks};
 use vf_pdu::Pdu;
 use vf_pdu_fields::{AttributeControls, ContentControls, WriteOperation};
@@ -42,14 +43,6 @@ use vf_tree::TreeError;
 
 /// The unit of recovery.
 const RECOVERY_UNIT: u16 = 128;
-
-const DOCKET_UNKNOWN: u16 = 27;
-
-const WRONG_TRANSFER: u16 = 29;
-
-const UNIT_NOT_AGREED: u16 = 33;
-
-const FILE_CHANGED: u16 = 34;
 
 /// What a party has recovered: an open file, in which a transfer goes on where one was under way.
 #[derive(Drop)]
