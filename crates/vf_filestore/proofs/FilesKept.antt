@@ -32,7 +32,7 @@ files_stay = record {
   traces = λ state link party kept found. traced_found HasFewTerms state.parties link party kept.traces found;
   grants = λ state party setting message given trace before after sound kept sound_after is allowed traces granting due. record {
     files = message_goes IsAnyStamp (ChangesTerms AreFew) (NewTerms AreFew) IsFilled (files_survive AreFew is_taken makes_taken) state party setting.moment given message tt
-    (brings_terms AreFew message allowed) kept.files;
+        (brings_terms AreFew message allowed) kept.files;
     traces =
         traced_next HasFewTerms state.parties before after party (record party { trace = trace; history = concluding_entry state party setting message given ∷ taken_up state party message }) is traces
         kept.traces;

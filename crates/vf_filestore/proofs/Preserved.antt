@@ -81,11 +81,11 @@ module _ (Allowed : Message → Type 0) where
 
 -- ---- every message
 
-no_item : (item : Pdu) → IsItem item → takes stages.Grouping (messages.Pdu item) ≡ false → ⊥
+pub no_item : (item : Pdu) → IsItem item → takes stages.Grouping (messages.Pdu item) ≡ false → ⊥
 no_item item is never = let wrong : true ≡ false = sym is ∙ never in cc
 
 module _ (During : Setting → Type 0) (Allowed : Message → Type 0) (P : State → Type 0) (stays : StaysIn During Allowed P) where
-  granted_in : (state : State) (link : ℕ) (party : StandingParty) (setting : Setting) (during : During setting) (message : Message) (given : Given) (parties : List StandingParty) (trace : List Message) → IsSound state → P state
+  pub granted_in : (state : State) (link : ℕ) (party : StandingParty) (setting : Setting) (during : During setting) (message : Message) (given : Given) (parties : List StandingParty) (trace : List Message) → IsSound state → P state
       → party_of link state.parties ≡ Some party → parties ≡ with_party (with_trace party trace) state.parties → IfSome (pending trace) HasItems → Allowed message → AllByRecursion Allowed trace
       → IsGranting state party setting message given → IsDue state party setting message given → P (grants (with_parties state parties) (with_trace party trace) setting message given).state
   granted_in state link party setting during message given parties trace sound holds found are grouped allowed traces granting due =
