@@ -32,6 +32,7 @@ pub mod RowsOfReads
 pub mod RowsOfRecovery
 pub mod RowsOfWrites
 pub mod Runs
+pub mod Sayable
 pub mod Samples
 pub mod Selecting
 pub mod Sound
