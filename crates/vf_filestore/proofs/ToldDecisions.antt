@@ -30,10 +30,6 @@ use Rattle.vf_doctype.specs.declared.errors.DocError.TheVariants as doc_errors
 use Rattle.vf_elements.specs.Stages.{takes}
 use Rattle.vf_elements.specs.declared.message.Message.{Message}
 use Rattle.vf_elements.specs.declared.message.Message.TheVariants as messages
-use Rattle.vf_files.specs.Effects.{element_diagnostic}
-use Rattle.vf_files.specs.Files.{file_named}
-use Rattle.vf_files.specs.Rows.{made, tree_diagnostic, unit_row}
-use Rattle.vf_files.specs.declared.creation.NewFile.{NewFile}
 use Rattle.vf_pdu.specs.PduMeaning.{IsInRange}
 use Rattle.vf_pdu.specs.declared.pdu.Pdu.{Pdu}
 use Rattle.vf_pdu.specs.declared.pdu.Pdu.TheVariants.{InitializeRequest, TerminateRequest, UserAbort, ProviderAbort, SelectRequest, DeselectRequest, CreateRequest, DeleteRequest, ReadAttribRequest, ChangeAttribRequest, OpenRequest, CloseRequest, BeginGroupRequest, EndGroupRequest, RecoverRequest, LocateRequest, EraseRequest, ReadRequest, WriteRequest, DataEnd, TransferEndRequest, CancelRequest, RestartRequest}
@@ -51,12 +47,13 @@ use Rattle.vf_filestore.specs.Aborts.{Setting, abort_where, aborts, first_abort,
 use Rattle.vf_filestore.specs.Controls.{joined, not_opened}
 use Rattle.vf_filestore.specs.Decision.{Decision, Aborts, Refuses, Grants, Waits, Groups, Ends, Leaves, decided, decision, decision_in, erase_decision, granted_unless, grouped_decision, grouped_request, item_decision, locate_decision, made_unless, message_decision, open_decision, opened_by, opening_rows, recover_decision, request_decision, trial_decision, unless_aborted, unless_without_token, units_for, wanted_by}
 use Rattle.vf_filestore.specs.Diagnostics.{Row, first_row, plain, cancelled, wrong_regime, wrong_state}
-use Rattle.vf_filestore.specs.Ending.{Ending, cancel_ending, cancel_in, cancel_of, element_row, ending_in, ending_of, ending_unless, file_after, in_silence, performed_by, room_rows, stamp_of, transfer_ending, unchanged, units_or_none, was_given_up, write_of, written_in}
+use Rattle.vf_filestore.specs.Ending.{Ending, cancel_ending, cancel_in, cancel_of, element_diagnostic, element_row, ending_in, ending_of, ending_unless, file_after, in_silence, performed_by, room_rows, stamp_of, transfer_ending, unchanged, units_or_none, was_given_up, write_of, written_in}
+use Rattle.vf_filestore.specs.Files.{file_named, made}
 use Rattle.vf_filestore.specs.History.{Given, Nothing, Made, Refused, Showed, Placed, Resumed, History, Selection, guest, position, regime, selection}
 use Rattle.vf_filestore.specs.Holders.{alone_row, clash_row, held_files, holders}
 use Rattle.vf_filestore.specs.Keeping.{EachAfter, IsFilled}
 use Rattle.vf_filestore.specs.Limits.{most_items, most_version}
-use Rattle.vf_filestore.specs.Opening.{Opened, act_of, act_row, activity_rows, erase_rows, given_unless, locate_rows, placed, read_given, read_rows, showing, version_row as full_row, write_given, write_rows}
+use Rattle.vf_filestore.specs.Opening.{Opened, act_of, act_row, activity_rows, erase_rows, given_unless, locate_rows, placed, read_given, read_rows, showing, tree_diagnostic, version_row as full_row, write_given, write_rows}
 use Rattle.vf_filestore.specs.Ranges.{IsRangedFile, IsReadEntry}
 use Rattle.vf_filestore.specs.Recovering.{changed_row, is_read_in, read_row, recover_rows, resumed, version_in, version_of}
 use Rattle.vf_filestore.specs.Replies.{located_at}
@@ -66,7 +63,8 @@ use Rattle.vf_filestore.specs.Sound.{IsLimited, IsNested}
 use Rattle.vf_filestore.specs.Stage.{Group, pending, regime_stage, stage}
 use Rattle.vf_filestore.specs.State.{Docket, State, StandingParty, docket_of, file_in, identity_of, is_docket_of, mode_in, name_in, selected_file, units_of}
 use Rattle.vf_filestore.specs.Transfers.{Movement, Reads, Writes, Transfer, data_end, front, point, refusal_of, survivors, transferring, under_way}
-use Rattle.vf_filestore.specs.Units.{enhanced_management, file_access, limited_management, read_unit, recovery_unit, write_unit}
+use Rattle.vf_filestore.specs.Units.{enhanced_management, file_access, limited_management, read_unit, recovery_unit, unit_row, write_unit}
+use Rattle.vf_filestore.specs.declared.creation.NewFile.{NewFile}
 use Rattle.vf_filestore.proofs.ReadMessages.{recover_read}
 use Rattle.vf_filestore.proofs.ToldElements.{ShowsTold, file_units_told, shown_told}
 use Rattle.vf_filestore.proofs.ToldRows.{AreRows, IsRow, IsToldBy, access_told, act_told, alone_told, clash_told, first_told, holders_numbered, number_told, plain_told, row_told, told_of, tree_told, unit_told}

@@ -17,7 +17,6 @@ use Rattle.vf_elements.specs.declared.message.Message.{Message}
 use Rattle.vf_elements.specs.declared.message.Message.TheVariants as messages
 use Rattle.vf_elements.specs.declared.message.Said.{Said}
 use Rattle.vf_elements.specs.declared.message.Said.TheVariants as answers
-use Rattle.vf_files.specs.declared.creation.NewFile.{NewFile}
 use Rattle.vf_pdu.specs.PduMeaning.{IsInRange}
 use Rattle.vf_pdu.specs.declared.pdu.Pdu.{Pdu}
 use Rattle.vf_pdu.specs.declared.pdu.Pdu.TheVariants.{InitializeRequest, InitializeResponse, CreateRequest, ChangeAttribRequest}
@@ -32,6 +31,7 @@ use Rattle.vf_filestore.specs.Opening.{act_of}
 use Rattle.vf_filestore.specs.Ranges.{IsRead, IsReadEntry}
 use Rattle.vf_filestore.specs.Sayable.{AreActions, IsReadWhole, IsToldFile, IsToldStamp, IsToldTerm}
 use Rattle.vf_filestore.specs.State.{StandingParty, identity_in, identity_of}
+use Rattle.vf_filestore.specs.declared.creation.NewFile.{NewFile}
 use Rattle.vf_filestore.proofs.FilesLater.{Brings, EndsIn, Survives, performed_goes}
 use Rattle.vf_filestore.proofs.ReadMessages.{AreTerms, change_read, create_read, initialize_read}
 

@@ -25,7 +25,6 @@ use Rattle.vf_elements.specs.declared.message.Message.{Message}
 use Rattle.vf_elements.specs.declared.message.Message.TheVariants as messages
 use Rattle.vf_elements.specs.declared.message.Said.{Said}
 use Rattle.vf_elements.specs.declared.message.Said.TheVariants as answers
-use Rattle.vf_files.specs.Files.{octets_of_file}
 use Rattle.vf_pdu.specs.PduMeaning.{IsInRange}
 use Rattle.vf_pdu.specs.PduRows.{row_of}
 use Rattle.vf_pdu.specs.declared.pdu.Pdu.{Pdu}
@@ -38,6 +37,7 @@ use Rattle.vf_pdu_fields.specs.declared.limits.TheConstants.{MOST_ITEMS, MOST_PO
 use Rattle.vf_pdu_parameters.proofs.Dates.{moment_date}
 use Rattle.vf_pdu_parameters.specs.Parameters.{attributes as attributes_form, contents as contents_form, diagnostic as diagnostic_form, grant, grants as grants_form, stamp as stamp_form}
 use Rattle.vf_pdu_parameters.specs.ParameterSlots.{attributes_content, contents_content, diagnostic_content, grant_slots, grants_content, maybe_contents, maybe_grants, maybe_stamp, stamp_content}
+use Rattle.vf_tables.specs.Sums.{octets_of_file}
 use Rattle.vf_tables.specs.declared.limits.TheConstants.{MOST_TERMS}
 use Rattle.vf_filestore.specs.Aborts.{Setting, passes_serials}
 use Rattle.vf_filestore.specs.Conclusion.{concluding_entry, entry_of, history_of, taken_up}

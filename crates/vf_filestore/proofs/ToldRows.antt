@@ -12,7 +12,6 @@ use Rattle.vf_base.specs.declared.action.Action.{Action}
 use Rattle.vf_base.specs.declared.action.Action.TheVariants as actions
 use Rattle.vf_base.specs.declared.action.Controls.{Controls}
 use Rattle.vf_base.specs.declared.diagnostic.Diagnostic.{Diagnostic}
-use Rattle.vf_files.specs.Rows.{access_row, includes, tree_diagnostic, unit_row}
 use Rattle.vf_locks.specs.Clash.{against, conflict, first_against, lowest_clash}
 use Rattle.vf_locks.specs.Holders.{first_other, is_same, others}
 use Rattle.vf_locks.specs.declared.conflict.Conflict.{Conflict}
@@ -23,16 +22,19 @@ use Rattle.vf_pdu_fields.specs.Meaning.{fits}
 use Rattle.vf_pdu_parameters.specs.Parameters.{diagnostic as diagnostic_form}
 use Rattle.vf_pdu_parameters.specs.ParameterSlots.{diagnostic_content}
 use Rattle.vf_tables.specs.Fitting.{is_activity}
+use Rattle.vf_tables.specs.Validity.{includes}
 use Rattle.vf_tables.specs.declared.limits.TheConstants.{MOST_ACTIVITY}
 use Rattle.vf_tree.specs.Actions.{Outcome}
 use Rattle.vf_tree.specs.TreeRefusal.{TreeRefusal, Outside, NotFound, BadContext}
 use Rattle.vf_filestore.specs.Diagnostics.{Row, first_row, plain, row}
 use Rattle.vf_filestore.specs.History.{Regime, Selection, regime, selection}
 use Rattle.vf_filestore.specs.Holders.{alone_row, clash_row, conflict_with, controls_by, held_by, held_by_docket, held_by_party, holders}
-use Rattle.vf_filestore.specs.Opening.{act_row}
+use Rattle.vf_filestore.specs.Opening.{act_row, tree_diagnostic}
 use Rattle.vf_filestore.specs.Sayable.{IsLink}
+use Rattle.vf_filestore.specs.Selecting.{access_row}
 use Rattle.vf_filestore.specs.State as states
 use Rattle.vf_filestore.specs.State.{State, StandingParty}
+use Rattle.vf_filestore.specs.Units.{unit_row}
 use Rattle.vf_filestore.proofs.HeldLists.{all_ordered}
 use Rattle.vf_filestore.proofs.Leading.{both}
 use Rattle.vf_filestore.proofs.Lists.{all-filter, all-flat_map, all_append, all_weaker}
