@@ -1,0 +1,3 @@
+pub mod FilesSerial
+pub mod Grouped
+pub mod Reordered

@@ -1,0 +1,2 @@
+pub mod FileModel
+pub mod Schedule

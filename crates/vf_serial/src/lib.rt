@@ -1,0 +1,7 @@
+//! Serial use of one file (ISO 8571-2, concurrency control; profile): what its open regimes perform leaves and shows
+//! what it would one regime after another. Definitions stand in `specs/`.
+#![tactic(auto)]
+
+mod laws;
+
+pub use laws::{Performing, files_are_serial, schedules_are_serial};
