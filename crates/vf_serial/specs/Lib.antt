@@ -1,2 +1,5 @@
 pub mod FileModel
+pub mod Isolating
+pub mod Moves
 pub mod Schedule
+pub mod Uses
