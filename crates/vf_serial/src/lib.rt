@@ -3,5 +3,7 @@
 #![tactic(auto)]
 
 mod laws;
+mod rows;
 
 pub use laws::{Performing, files_are_serial, schedules_are_serial};
+pub use rows::appends_compute;
