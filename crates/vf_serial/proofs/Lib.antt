@@ -1,3 +1,6 @@
+pub mod Among
+pub mod Exclusion
 pub mod FilesSerial
 pub mod Grouped
+pub mod Led
 pub mod Reordered
