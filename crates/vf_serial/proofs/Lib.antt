@@ -3,4 +3,5 @@ pub mod Exclusion
 pub mod FilesSerial
 pub mod Grouped
 pub mod Led
+pub mod Pairs
 pub mod Reordered
