@@ -4,4 +4,5 @@ pub mod FilesSerial
 pub mod Grouped
 pub mod Led
 pub mod Pairs
+pub mod Present
 pub mod Reordered

@@ -31,17 +31,19 @@ across e (x ∷ xs) ys distinct =
 
 swapped : {A B : Type 0} (P : A → B → Type 0) (xs : List A) (ys : List B) → AllByRecursion (λ a. AllByRecursion (P a) ys) xs → AllByRecursion (λ b. AllByRecursion (λ a. P a b) xs) ys
 swapped P xs [] all = tt
-swapped P xs (y ∷ ys) all =
-    (all_weaker (λ a. AllByRecursion (P a) (y ∷ ys)) (λ a. P a y) xs (λ a each. each.0) all,
-    swapped P xs ys (all_weaker (λ a. AllByRecursion (P a) (y ∷ ys)) (λ a. AllByRecursion (P a) ys) xs (λ a each. each.1) all))
+swapped P xs (y ∷ ys) all = (
+  all_weaker (λ a. AllByRecursion (P a) (y ∷ ys)) (λ a. P a y) xs (λ a each. each.0) all,
+  swapped P xs ys (all_weaker (λ a. AllByRecursion (P a) (y ∷ ys)) (λ a. AllByRecursion (P a) ys) xs (λ a each. each.1) all),
+)
 
 pub distinct_pairs : {X A : Type 0} (e : A → A → Bool) (f : X → List A) (xs : List X) → IsDistinct e (flat_map f xs) → ArePairs (AreApart e f) xs
 distinct_pairs e f [] distinct = tt
-distinct_pairs e f (x ∷ xs) distinct =
-    (swapped (λ a j. AllByRecursion (λ b. e a b ≡ false) (f j)) (f x) xs
-    (all_weaker (λ a. AllByRecursion (λ b. e a b ≡ false) (flat_map f xs)) (λ a. AllByRecursion (λ j. AllByRecursion (λ b. e a b ≡ false) (f j)) xs) (f x)
-    (λ a all. all-from_flat_map f (λ b. e a b ≡ false) xs all) (across e (f x) (flat_map f xs) distinct)),
-    distinct_pairs e f xs (distinct_less e (f x) (flat_map f xs) distinct))
+distinct_pairs e f (x ∷ xs) distinct = (
+  swapped (λ a j. AllByRecursion (λ b. e a b ≡ false) (f j)) (f x) xs
+      (all_weaker (λ a. AllByRecursion (λ b. e a b ≡ false) (flat_map f xs)) (λ a. AllByRecursion (λ j. AllByRecursion (λ b. e a b ≡ false) (f j)) xs) (f x)
+      (λ a all. all-from_flat_map f (λ b. e a b ≡ false) xs all) (across e (f x) (flat_map f xs) distinct)),
+  distinct_pairs e f xs (distinct_less e (f x) (flat_map f xs) distinct),
+)
 
 -- two of them: of one, or of two of which either is before the other
 pub two : {X A : Type 0} (R : X → X → Type 0) (f : X → List A) (Q : Type 0) (x y : A) (xs : List X) → ArePairs R xs → IsAmong x (flat_map f xs) → IsAmong y (flat_map f xs)
