@@ -127,7 +127,7 @@ agree_from selected other one two on apart =
     let erase = or_parts (clash one.controls.erase two.controls.erase) _ extend.1 in
     record { read = read.0; insert = insert.0; replace = replace.0; extend = extend.0; erase = erase.0 }
 
-numbers_apart : (i j : Item) (x y : Stand) → AreApart is_same_number numbers_of i j → IsAmong x (stands i) → IsAmong y (stands j) → nat_eq x.regime.number y.regime.number ≡ false
+pub numbers_apart : (i j : Item) (x y : Stand) → AreApart is_same_number numbers_of i j → IsAmong x (stands i) → IsAmong y (stands j) → nat_eq x.regime.number y.regime.number ≡ false
 numbers_apart i j x y apart there too =
     number_at j y too (λ m. nat_eq x.regime.number m ≡ false)
     (number_at i x there (λ n. AllByRecursion (λ (other : sounds.Standing). nat_eq n other.number ≡ false) (numbers_of j)) apart)
