@@ -133,7 +133,7 @@ mid_splits item before after = record {
 pub none_splits : (before after : List Item) → Splits (flat_map stands (before ++ after)) [] (flat_map stands (before ++ after))
 none_splits before after = record { parts = λ x there. inr there; own_in = λ x none. absurd none; rest_in = λ x there. there }
 
-found_in : (x : Stand) (xs : List Item) → IsAmong x (flat_map stands xs) → (j : Item) × IsAmong j xs × IsAmong x (stands j)
+pub found_in : (x : Stand) (xs : List Item) → IsAmong x (flat_map stands xs) → (j : Item) × IsAmong j xs × IsAmong x (stands j)
 found_in x [] there = absurd there
 found_in x (i ∷ xs) there =
     elim (in_either x (stands i) (flat_map stands xs) there) [ inl here ↦ (i, inl refl, here) | inr later ↦ let found = found_in x xs later in (found.0, inr found.1, found.2) ]
@@ -156,7 +156,7 @@ pub record IsReplaced (state later : State) (item next : Item) : Type 0 where
   pub was : items state.dockets state.parties ≡ before ++ item ∷ after
   pub is : items later.dockets later.parties ≡ before ++ next ∷ after
 
-split_was : (state : State) (item : Item) (before after : List Item) → items state.dockets state.parties ≡ before ++ item ∷ after → Splits (present state) (stands item) (flat_map stands (before ++ after))
+pub split_was : (state : State) (item : Item) (before after : List Item) → items state.dockets state.parties ≡ before ++ item ∷ after → Splits (present state) (stands item) (flat_map stands (before ++ after))
 split_was state item before after is =
     subst (λ (all : List Item). Splits (flat_map stands all) (stands item) (flat_map stands (before ++ after))) (sym is) (mid_splits item before after)
 

@@ -1,7 +1,9 @@
 pub mod Among
+pub mod Earned
 pub mod Ended
 pub mod Exclusion
 pub mod FilesSerial
+pub mod Granted
 pub mod Grouped
 pub mod Leading
 pub mod Led
