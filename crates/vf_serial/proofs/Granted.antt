@@ -54,7 +54,7 @@ use Rattle.vf_serial.proofs.Earned.{AllOfIts, its_mode}
 use Rattle.vf_serial.proofs.Ended.{items_at, none_stands, one_stands}
 use Rattle.vf_serial.proofs.Exclusion.{Allows}
 use Rattle.vf_serial.proofs.Leading.{IsElsewhere, IsReplaced, Leads, Splits, elsewhere_same, found_in, moves_on, replaced_ceased, replaced_opened, replaced_same, split_was, stays}
-use Rattle.vf_serial.proofs.Led.{AreSame, IsFree, Stand, at, differ}
+use Rattle.vf_serial.proofs.Led.{AreSame, Does, IsFree, Stand, at, differ}
 use Rattle.vf_serial.proofs.Pairs.{all_in}
 use Rattle.vf_serial.proofs.Present.{Item, IsStand, docked, history_of, items, present, stand_by, stand_is, stands, stands_in, standing}
 
@@ -132,7 +132,7 @@ file_there state x sound there =
     let is = stand_is (history_of found.0) x found.2 in
     subst (λ file. IsSome (file_named file state.files)) is.on (subst (λ (one : Option Selection). IfSome one (IsThere state.files)) is.chosen own.there)
 
-free_none : (state : State) (name : List ℕ) → IsSound state → file_named name state.files ≡ None → IsFree name (present state)
+pub free_none : (state : State) (name : List ℕ) → IsSound state → file_named name state.files ≡ None → IsFree name (present state)
 free_none state name sound none x there same =
     let some : is_some (file_named x.file state.files) ≡ true = file_there state x sound there in
     let gone : is_some (file_named x.file state.files) ≡ false = ap (λ file. is_some (file_named file state.files)) same ∙ ap is_some none in
@@ -143,7 +143,7 @@ not_on file history x off there same =
     let is = stand_is history x there in
     differ is.selected.file file (subst (λ (one : Option Selection). IfSome one (λ one. bytes_eq one.file file ≡ false)) is.chosen off) (is.on ∙ same)
 
-free_alone : (state : State) (party : StandingParty) (before after : List StandingParty) (file : List ℕ) → agreed.IsAmong state party before after → IsAlone state party.link file → stands (standing party) ≡ []
+pub free_alone : (state : State) (party : StandingParty) (before after : List StandingParty) (file : List ℕ) → agreed.IsAmong state party before after → IsAlone state party.link file → stands (standing party) ≡ []
     → IsFree file (present state)
 free_alone state party before after file among_is alone none x there =
     elim (was.parts x there) [
@@ -187,26 +187,44 @@ replaced_at state later party next before after was is same = record {
 }
 
 -- where nothing is open before and after it
-none_open : (history : History) (one other : Option Selection) → regime history ≡ None → stand_by (regime history) other ≡ stand_by (regime history) one
+pub none_open : (history : History) (one other : Option Selection) → regime history ≡ None → stand_by (regime history) other ≡ stand_by (regime history) one
 none_open history one other none =
     ap (λ (opened : Option Regime). stand_by opened other) none ∙ sym (ap (λ (opened : Option Regime). stand_by opened one) none)
 
-module _ (state : State) (party : StandingParty) (setting : Setting) (trace : List Message) (before after : List StandingParty) (sound : IsSound state) (among_is : agreed.IsAmong state party before after) (nested : IsNested party.history) where
-  next_of : Message → Given → StandingParty
-  next_of message given = record party { trace = trace; history = concluding_entry state party setting message given ∷ party.history }
+-- what a request is about that keeps no docket
+pub record Stage (state : State) (party : StandingParty) (before after : List StandingParty) : Type 0 where
+  pub sound : IsSound state
+  pub among_is : agreed.IsAmong state party before after
+  pub nested : IsNested party.history
 
-  own_in : (x : Stand) → IsAmong x (stands (standing party)) → IsAmong x (present state)
-  own_in x there =
-      (split_was state (standing party) (map docked state.dockets ++ map standing before) (map standing after) (ap (items state.dockets) among_is.is ∙ items_at state.dockets before after party)).own_in x there
+pub own_in : (state : State) (party : StandingParty) (before after : List StandingParty) → Stage state party before after → (x : Stand) → IsAmong x (stands (standing party)) → IsAmong x (present state)
+own_in state party before after stage x there =
+    (split_was state (standing party) (map docked state.dockets ++ map standing before) (map standing after) (ap (items state.dockets) stage.among_is.is ∙ items_at state.dockets before after party)).own_in x there
 
-  -- a request after which the same stands
-  same_leads : (message : Message) (given : Given) (doc : Option DocType) (later : State) → later.parties ≡ before ++ record party { trace = trace; history = concluding_entry state party setting message given ∷ party.history } ∷ after
-      → later.dockets ≡ state.dockets → later.concluded ≡ state.concluded + 1
-      → stands_in (concluding_entry state party setting message given ∷ party.history) ≡ stands_in party.history
-      → AllOfIts (mode_in (regime party.history)) (operation party.history message given)
-      → Leads state (acted doc (mode_in (regime party.history)) (performed party.history (concluding_entry state party setting message given))) later
-  same_leads message given doc later is same counted stands_same its =
-      acted_leads state later (standing party) doc (concluding_entry state party setting message given) sound (omega arith)
-      (replaced_same state later (standing party) (standing (record party { trace = trace; history = concluding_entry state party setting message given ∷ party.history }))
-      (replaced_at state later party (record party { trace = trace; history = concluding_entry state party setting message given ∷ party.history }) before after among_is.is is same) stands_same)
-      nested own_in its
+-- the state in which the party has this history
+pub record IsNext (state later : State) (party next : StandingParty) (before after : List StandingParty) : Type 0 where
+  pub is : later.parties ≡ before ++ next ∷ after
+  pub same : later.dockets ≡ state.dockets
+  pub less : state.concluded ≤ later.concluded
+
+pub replaced_next : (state later : State) (party next : StandingParty) (before after : List StandingParty) → Stage state party before after → IsNext state later party next before after → IsReplaced state later (standing party) (standing next)
+replaced_next state later party next before after stage is = replaced_at state later party next before after stage.among_is.is is.is is.same
+
+-- a request after which the same stands
+pub same_leads : (state later : State) (party next : StandingParty) (before after : List StandingParty) (entry : Entry) (doc : Option DocType) → Stage state party before after → IsNext state later party next before after
+    → stands_in next.history ≡ stands_in party.history → AllOfIts (mode_in (regime party.history)) (operation party.history entry.message entry.given)
+    → Leads state (acted doc (mode_in (regime party.history)) (performed party.history entry)) later
+same_leads state later party next before after entry doc stage is stands_same its =
+    acted_leads state later (standing party) doc entry stage.sound is.less
+    (replaced_same state later (standing party) (standing next) (replaced_next state later party next before after stage is) stands_same) stage.nested (own_in state party before after stage) its
+
+-- a request that does no more than to a name, where nothing is open
+pub named_leads : (state later : State) (party next : StandingParty) (before after : List StandingParty) (move : Move) → Stage state party before after → IsNext state later party next before after
+    → stands_in next.history ≡ stands_in party.history → (AreSame (present state) (present later) → Does (present state) state.concluded move (present later)) → Leads state (move ∷ []) later
+named_leads state later party next before after move stage is stands_same does =
+    moves_on state later move stage.sound is.less (does (replaced_same state later (standing party) (standing next) (replaced_next state later party next before after stage is) stands_same))
+
+pub still_leads : (state later : State) (party next : StandingParty) (before after : List StandingParty) → Stage state party before after → IsNext state later party next before after
+    → stands_in next.history ≡ stands_in party.history → Leads state [] later
+still_leads state later party next before after stage is stands_same =
+    stays state later stage.sound (replaced_same state later (standing party) (standing next) (replaced_next state later party next before after stage is) stands_same) is.less

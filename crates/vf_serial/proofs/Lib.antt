@@ -3,10 +3,13 @@ pub mod Earned
 pub mod Ended
 pub mod Exclusion
 pub mod FilesSerial
+pub mod Followed
 pub mod Granted
 pub mod Grouped
 pub mod Leading
 pub mod Led
 pub mod Pairs
 pub mod Present
+pub mod Recovered
 pub mod Reordered
+pub mod Requested
