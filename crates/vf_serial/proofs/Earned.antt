@@ -1,5 +1,5 @@
 -- Who changes the contents does so by a mode that lets it.
-use Rattle.std.proofs.Common.{◌≡◌, ℕ, Bool, true, false, cond, not, ◌&&◌, ◌||◌, List, [], ◌∷◌, nat_eq, is_some, option_map, Option, None, Some, refl, ap, sym, subst, ◌∙◌}
+use Rattle.std.proofs.Common.{◌≡◌, ℕ, Bool, true, false, not, ◌||◌, List, [], ◌∷◌, is_some, Option, None, Some, refl, ap, sym, subst, ◌∙◌}
 use Rattle.std.specs.Prelude.{IfSome, IsSome, flat_map}
 use Rattle.std.specs.List.{AllByRecursion}
 use Rattle.std.proofs.lemmas.Bool.{not-false}
@@ -17,19 +17,18 @@ use Rattle.vf_pdu.specs.declared.pdu.Pdu.{Pdu}
 use Rattle.vf_pdu.specs.declared.pdu.Pdu.TheVariants.{LocateRequest, EraseRequest, ReadRequest, TransferEndRequest, CancelRequest}
 use Rattle.vf_pdu_fields.specs.declared.operation.WriteOperation.{WriteOperation}
 use Rattle.vf_pdu_fields.specs.declared.operation.WriteOperation.TheVariants.{Insert, Replace, Extend}
-use Rattle.vf_pdu_fields.proofs.Plain.{some_is}
 use Rattle.vf_tree.specs.Acts.{does, Erases}
 use Rattle.vf_filestore.specs.Aborts.{Setting}
 use Rattle.vf_filestore.specs.Decision.{Grants, erase_decision, request_decision}
-use Rattle.vf_filestore.specs.Diagnostics.{not_permitted, row}
-use Rattle.vf_filestore.specs.Ending.{Ending, cancel_ending, cancel_in, ending_in, ending_unless, in_silence, stamp_of, transfer_ending}
-use Rattle.vf_filestore.specs.History.{Given, Nothing, Made, Refused, Showed, Placed, Resumed, History, Regime, Selection, position, regime, selection}
+use Rattle.vf_filestore.specs.Diagnostics.{not_permitted}
+use Rattle.vf_filestore.specs.Ending.{Ending, cancel_ending, cancel_in, ending_in, ending_unless, stamp_of, transfer_ending}
+use Rattle.vf_filestore.specs.History.{Given, Nothing, Made, Refused, Showed, Placed, Resumed, Selection, position, regime, selection}
 use Rattle.vf_filestore.specs.Keeping.{AreHistoriesKept, AreKept, EachAfter, IsEarned, IsKeptEntry}
-use Rattle.vf_filestore.specs.Opening.{act_row, action_of, action_row, erase_rows, placed, version_row}
+use Rattle.vf_filestore.specs.Opening.{act_row, action_of, action_row, placed, version_row}
 use Rattle.vf_filestore.specs.Performed as performances
 use Rattle.vf_filestore.specs.Performed.{operation, where_placed, read_by, wrote, wrote_by}
-use Rattle.vf_filestore.specs.Sound.{Holding, IsInMode, IsOfMode, IsSound, IsSoundParty, IsUsable, holding_by, holding_of_docket, holding_of_party}
-use Rattle.vf_filestore.specs.State.{Docket, State, StandingParty, is_of_link, mode_in, party_of, selected_file, units_of}
+use Rattle.vf_filestore.specs.Sound.{IsInMode, IsSound, IsSoundParty, IsUsable, holding_by, holding_of_docket, holding_of_party}
+use Rattle.vf_filestore.specs.State.{State, StandingParty, is_of_link, mode_in, party_of, selected_file, units_of}
 use Rattle.vf_filestore.specs.Transfers.{Movement, Reads, Writes, Transfer, front, refusal_of, survivors, under_way}
 use Rattle.vf_filestore.specs.Units.{file_access}
 use Rattle.vf_filestore.proofs.Decided.{first_passed, later_passed, row_passed, rows_passed}

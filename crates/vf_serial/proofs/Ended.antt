@@ -1,24 +1,23 @@
 -- What leads from a state where an association ends, all end, or a docket is dropped.
-use Rattle.std.proofs.Common.{◌≡◌, ℕ, ◌≤◌, Bool, true, false, cond, List, [], ◌∷◌, ◌++◌, map, is_some, Option, None, Some, refl, ap, sym, subst, ◌∙◌, arith}
+use Rattle.std.proofs.Common.{◌≡◌, ℕ, ◌≤◌, List, [], ◌∷◌, ◌++◌, map, is_some, Option, None, Some, refl, ap, sym, subst, ◌∙◌, arith}
 use Rattle.std.specs.Prelude.{IsSome, flat_map}
-use Rattle.std.specs.List.{IsDistinct}
 use Rattle.std.proofs.lemmas.List.{append_assoc, append-nil, map-append}
 use Rattle.vf_filestore.specs.Dockets.{broken, docket_by, docket_left_by, dockets_left, dropped, retained, stopped}
 use Rattle.vf_filestore.specs.History.{History, Regime, Selection, regime, selection}
 use Rattle.vf_filestore.specs.Sound.{IsNested, IsSound, IsSoundDocket, IsSoundParty}
-use Rattle.vf_filestore.specs.State.{Docket, State, StandingParty, activity_of, docket_of, file_in, identity_of, is_docket_of, name_in, party_of, without_docket, without_party}
+use Rattle.vf_filestore.specs.State.{Docket, State, StandingParty, activity_of, docket_of, file_in, identity_of, is_docket_of, name_in, party_of}
 use Rattle.vf_filestore.proofs.Broken.{broken_is, broken_sound, none_kept}
 use Rattle.vf_filestore.proofs.Decisions.{party_sound}
 use Rattle.vf_filestore.proofs.DocketsMoved.{all_stay, none_asked}
-use Rattle.vf_filestore.proofs.HeldParty.{DocketAt, docket_at}
+use Rattle.vf_filestore.proofs.HeldParty.{docket_at}
 use Rattle.vf_filestore.proofs.Nested.{nests}
 use Rattle.vf_filestore.proofs.Owned.{found_all}
 use Rattle.vf_filestore.proofs.Parties.{Located, found_at, located}
-use Rattle.vf_filestore.proofs.Soundness.{IsRetainedAs, retains}
-use Rattle.vf_serial.specs.Moves.{Move, by_break, broken_of, ceased, dropped_of, lost, lost_by}
-use Rattle.vf_serial.proofs.Leading.{IsElsewhere, IsReplaced, IsWithout, Leads, elsewhere_same, itself, moves_on, stays, then_leads, without_ceased, without_same}
-use Rattle.vf_serial.proofs.Led.{AreSame, Stand, at}
-use Rattle.vf_serial.proofs.Present.{Item, docked, history_of, items, present, stand_by, stands, stands_in, standing}
+use Rattle.vf_filestore.proofs.Soundness.{retains}
+use Rattle.vf_serial.specs.Moves.{by_break, broken_of, ceased, dropped_of, lost, lost_by}
+use Rattle.vf_serial.proofs.Leading.{IsWithout, Leads, elsewhere_same, itself, moves_on, stays, then_leads, without_ceased, without_same}
+use Rattle.vf_serial.proofs.Led.{at}
+use Rattle.vf_serial.proofs.Present.{Item, docked, history_of, items, present, stand_by, stands_in, standing}
 
 -- ---- what stands by a history
 

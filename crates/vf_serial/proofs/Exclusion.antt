@@ -1,5 +1,5 @@
 -- Two isolating regimes of one file whose controls don't clash perform operations that are apart.
-use Rattle.std.proofs.Common.{◌≡◌, ℕ, Bool, true, false, not, ◌&&◌, ◌||◌, refl, ap, sym, ◌∙◌}
+use Rattle.std.proofs.Common.{◌≡◌, Bool, true, false, not, ◌&&◌, ◌||◌, refl, ap, sym, ◌∙◌}
 use Rattle.std.proofs.lemmas.Bool.{and_parts, or_parts}
 use Rattle.vf_attr.specs.Access.{has}
 use Rattle.vf_base.specs.declared.action.Action.{Action}

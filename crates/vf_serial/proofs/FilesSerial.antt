@@ -1,6 +1,5 @@
 -- Readings change places, since each looks at the contents and at the position of its own regime alone.
 use Rattle.std.proofs.Common.{◌≡◌, ◌≢◌, ℕ, Bool, true, false, cond, nat_eq, Result, Ok, Err, refl, ap, sym, subst, ◌∙◌, ne_eqb, eqb-true}
-use Rattle.vf_base.specs.declared.element.Element.{Element}
 use Rattle.vf_tree.specs.Actions.{Outcome}
 use Rattle.vf_tree.specs.Acts.{Act, Locates, Reads, Inserts, Replaces, Extends, Erases, does, moves, shows as shows_of}
 use Rattle.vf_tree.specs.Contexts.{shown}
@@ -8,7 +7,7 @@ use Rattle.vf_tree.specs.FileTree.{FileTree}
 use Rattle.vf_tree.specs.Identities.{locate}
 use Rattle.vf_tree.specs.TreeRefusal.{TreeRefusal}
 use Rattle.vf_serial.specs.FileModel.{Apart, FilesAreSerial, IsShowing, Operation, Shows, World, is_reading, left_by, placed, step}
-use Rattle.vf_serial.specs.Schedule.{Commute, ShowAlike, performed, serial}
+use Rattle.vf_serial.specs.Schedule.{Commute, ShowAlike}
 use Rattle.vf_serial.proofs.Grouped.{leaves, shows}
 use mathlib.Core.Path.{fun_ext}
 

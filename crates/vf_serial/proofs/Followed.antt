@@ -1,37 +1,31 @@
 -- Every transition, every break and every run leads by its moves.
-use Rattle.std.proofs.Common.{◌≡◌, ℕ, ◌+◌, ◌≤◌, Bool, true, false, cond, List, [], ◌∷◌, ◌++◌, map, nat_eq, is_some, Option, None, Some, refl, ap, sym, subst, ◌∙◌, arith}
+use Rattle.std.proofs.Common.{◌≡◌, ℕ, Bool, true, false, cond, List, [], ◌∷◌, ◌++◌, map, Option, None, Some, refl, ap, sym, subst, ◌∙◌, arith}
 use Rattle.std.specs.Prelude.{IfSome, count_by, flat_map, nat_le}
-use Rattle.std.specs.List.{AllByRecursion, IsDistinct}
-use Rattle.std.proofs.lemmas.List.{append_assoc, append-nil, map-append}
-use Rattle.vf_attr.specs.declared.file.File.{File}
+use Rattle.std.specs.List.{AllByRecursion}
 use Rattle.vf_elements.specs.Stages.{takes}
 use Rattle.vf_elements.specs.declared.message.Message.{Message}
 use Rattle.vf_elements.specs.declared.message.Message.TheVariants as messages
 use Rattle.vf_elements.specs.declared.message.Said.{Said}
-use Rattle.vf_elements.specs.declared.stage.Stage.TheVariants as stages
 use Rattle.vf_pdu.specs.declared.pdu.Pdu.{Pdu}
 use Rattle.vf_pdu.specs.declared.pdu.Pdu.TheVariants.{LocateRequest, EraseRequest, ReadRequest, TransferEndRequest, CancelRequest}
 use Rattle.vf_filestore.specs.Aborts.{Setting}
 use Rattle.vf_filestore.specs.Conclusion.{Answered, concluded, concluding_entry, gone_where_aborted, grants, has_abort, taken_up}
-use Rattle.vf_filestore.specs.Decision as decisions
-use Rattle.vf_filestore.specs.Decision.{Decision, Aborts, Refuses, Grants, Waits, Groups, Ends, Leaves, decision, message_decision, request_decision, trial_decision}
+use Rattle.vf_filestore.specs.Decision.{Decision, Aborts, Refuses, Grants, Waits, Groups, Ends, Leaves, decision, message_decision, trial_decision}
 use Rattle.vf_filestore.specs.Dockets.{broken}
 use Rattle.vf_filestore.specs.Groups.{Trial, between, groups, is_good, said_in_vain, said_of, trial, trial_by, trial_step}
-use Rattle.vf_filestore.specs.History.{Entry, Given, History, regime}
-use Rattle.vf_filestore.specs.Keeping.{AreHistoriesKept, IsKeptEntry}
+use Rattle.vf_filestore.specs.History.{Entry, Given, regime}
+use Rattle.vf_filestore.specs.Keeping.{AreHistoriesKept}
 use Rattle.vf_filestore.specs.Performed.{operation}
-use Rattle.vf_filestore.specs.Sound.{IsItem, IsSound, IsSoundParty, HasItems, link_of}
+use Rattle.vf_filestore.specs.Sound.{IsItem, IsSound, IsSoundParty, HasItems}
 use Rattle.vf_filestore.specs.Stage.{Group, pending, regime_stage, stage}
 use Rattle.vf_filestore.specs.State.{State, StandingParty, mode_in, party_of, with_party}
-use Rattle.vf_filestore.specs.Transition.{answered, associates, met, refuses, with_message}
-use Rattle.vf_filestore.proofs.Agreed as agreed
-use Rattle.vf_filestore.proofs.Broken.{broken_sound}
+use Rattle.vf_filestore.specs.Transition.{answered, associates, met}
 use Rattle.vf_filestore.proofs.Concluded.{IsGranting, after_entry, concluded_is, concluded_sound, granting_request, grants_sound}
 use Rattle.vf_filestore.proofs.Decisions.{broken_same, decided_taken, granting, grouped_items, heard_sound, item_asks, party_sound, passed_alone, put_again, traced, trial_taken}
 use Rattle.vf_filestore.proofs.HeldParty.{is_among}
-use Rattle.vf_filestore.proofs.Parties.{IsOff, Located, found_at, located, off_after, with_at}
+use Rattle.vf_filestore.proofs.Parties.{IsOff, Located, found_at, located, with_at}
 use Rattle.vf_filestore.proofs.Same.{entry_same, with_parties, with_trace}
-use Rattle.vf_serial.specs.Moves.{Move, broken_of, by_abort, by_answer, by_break, by_decision, by_grant, by_group, by_item, by_item_of, by_items, lost_by, moves_by}
+use Rattle.vf_serial.specs.Moves.{Move, broken_of, by_abort, by_answer, by_break, by_decision, by_grant, by_group, by_item, by_item_of, by_items, moves_by}
 use Rattle.vf_serial.proofs.Earned.{AllOfIts, performs_its}
 use Rattle.vf_serial.proofs.Ended.{broken_leads, items_at}
 use Rattle.vf_serial.proofs.Granted.{Stage}
@@ -42,7 +36,7 @@ use Rattle.vf_serial.proofs.Requested.{LeadsBy}
 
 -- ---- what is granted
 
-same_link : (state : State) (link : ℕ) (party : StandingParty) → party_of link state.parties ≡ Some party → party_of party.link state.parties ≡ Some party
+pub same_link : (state : State) (link : ℕ) (party : StandingParty) → party_of link state.parties ≡ Some party → party_of party.link state.parties ≡ Some party
 same_link state link party found = subst (λ link. party_of link state.parties ≡ Some party) (sym (located link state.parties party found).same) found
 
 stage_of : (state : State) (party : StandingParty) → IsSound state → (found : party_of party.link state.parties ≡ Some party) → Stage state party (located party.link state.parties party found).before (located party.link state.parties party found).after
@@ -184,7 +178,7 @@ leaves_leads state link party trace sound found =
     (subst (λ (one : Option StandingParty). Leads state (broken_of one) (broken party.link state)) (sym there)
     (subst (λ (one : Option StandingParty). Leads state (broken_of one) (broken party.link state)) here (broken_leads party.link state sound)))
 
-answered_leads : (state : State) (link : ℕ) (party : StandingParty) (setting : Setting) (message : Message) → IsSound state → AreHistoriesKept state → party_of link state.parties ≡ Some party
+pub answered_leads : (state : State) (link : ℕ) (party : StandingParty) (setting : Setting) (message : Message) → IsSound state → AreHistoriesKept state → party_of link state.parties ≡ Some party
     → Leads state (by_answer state party setting message) (answered state party setting message).state
 answered_leads state link party setting message sound kept found = by (decision state party setting message) refl
   where

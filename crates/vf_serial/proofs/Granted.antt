@@ -1,62 +1,30 @@
 -- What leads from a state where a request is granted.
-use Rattle.std.proofs.Common.{◌≡◌, ◌≢◌, ℕ, ◌+◌, ◌<◌, ◌≤◌, Bool, true, false, cond, not, ◌||◌, List, [], ◌∷◌, ◌++◌, map, nat_eq, is_some, option_map, Option, None, Some, inl, inr, refl, ap, sym, subst, ◌∙◌, arith}
-use Rattle.std.specs.Prelude.{◌⊎◌, IfSome, IsSome, flat_map}
-use Rattle.std.specs.List.{AllByRecursion, IsDistinct}
+use Rattle.std.proofs.Common.{◌≡◌, ◌≢◌, ℕ, ◌≤◌, Bool, true, false, cond, List, [], ◌∷◌, ◌++◌, map, is_some, option_map, Option, None, Some, inl, inr, refl, ap, sym, subst, ◌∙◌}
+use Rattle.std.specs.Prelude.{IfSome, IsSome, flat_map}
+use Rattle.std.specs.List.{AllByRecursion}
 use Rattle.std.specs.Str.{bytes_eq}
-use Rattle.std.proofs.lemmas.List.{append_assoc, map-append}
-use Rattle.vf_attr.specs.Access.{has}
-use Rattle.vf_attr.specs.declared.file.File.{File}
-use Rattle.vf_base.specs.declared.action.Action.TheVariants as actions
-use Rattle.vf_base.specs.declared.action.Actions.{Actions}
 use Rattle.vf_doctype.specs.declared.doc_type.DocType.{DocType}
-use Rattle.vf_elements.specs.Stages.{takes}
-use Rattle.vf_elements.specs.declared.message.Message.{Message}
-use Rattle.vf_elements.specs.declared.message.Message.TheVariants as messages
 use Rattle.vf_files.specs.Files.{file_named}
-use Rattle.vf_files.specs.Rows.{unit_row}
-use Rattle.vf_files.specs.declared.creation.NewFile.{NewFile}
-use Rattle.vf_pdu.specs.declared.pdu.Pdu.{Pdu}
-use Rattle.vf_pdu.specs.declared.pdu.Pdu.TheVariants.{SelectRequest, CreateRequest, DeselectRequest, DeleteRequest, ChangeAttribRequest, OpenRequest, CloseRequest, RecoverRequest}
 use Rattle.vf_pdu_fields.proofs.Plain.{some_is}
-use Rattle.vf_filestore.specs.Aborts.{Setting}
-use Rattle.vf_filestore.specs.Conclusion.{concluding_entry, history_of as history_of_docket, taken_up}
-use Rattle.vf_filestore.specs.Controls.{content_controls}
-use Rattle.vf_filestore.specs.Decision.{Grants, made_unless, request_decision, wanted_by}
-use Rattle.vf_filestore.specs.Diagnostics.{Row, attribute_unsupported, name_exists, not_permitted, row}
-use Rattle.vf_filestore.specs.Ending.{stamp_of}
-use Rattle.vf_filestore.specs.History.{Entry, Given, Nothing, Made, Refused, Showed, Placed, Resumed, History, Regime, Selection, regime, renamed, selection}
-use Rattle.vf_filestore.specs.Holders.{alone_row, held_files, holders}
+use Rattle.vf_filestore.specs.History.{Entry, History, Regime, Selection, regime}
 use Rattle.vf_filestore.specs.Performed as performances
 use Rattle.vf_filestore.specs.Performed.{Performed, number_in, operation, performed, performed_in}
-use Rattle.vf_filestore.specs.Selecting.{create_rows, is_taken, rename_row}
-use Rattle.vf_filestore.specs.Sound.{IsNested, IsSound, IsSoundDocket, IsSoundIn, IsSoundParty, IsThere, link_of}
-use Rattle.vf_filestore.specs.Stage.{regime_stage}
-use Rattle.vf_filestore.specs.State.{Docket, State, StandingParty, docket_of, file_in, identity_of, is_docket_of, mode_in, name_in, requested_in, units_of, without_docket}
-use Rattle.vf_filestore.specs.Units.{enhanced_management, limited_management}
+use Rattle.vf_filestore.specs.Sound.{IsNested, IsSound, IsSoundDocket, IsSoundIn, IsSoundParty, IsThere}
+use Rattle.vf_filestore.specs.State.{Docket, State, StandingParty, mode_in, name_in}
 use Rattle.vf_filestore.proofs.Agreed as agreed
 use Rattle.vf_filestore.proofs.Alone.{IsAlone, IsNotOn, alone}
-use Rattle.vf_filestore.proofs.Concluded.{after_entry}
-use Rattle.vf_filestore.proofs.Decided.{first_passed, later_passed, row_passed, rows_passed}
-use Rattle.vf_filestore.proofs.Effected.{not_taken}
-use Rattle.vf_filestore.proofs.Filed.{names_flip}
-use Rattle.vf_filestore.proofs.HeldParty.{DocketAt, docket_at}
 use Rattle.vf_filestore.proofs.Lists.{all_append, all_both, all_left, all_map, all_right, all_weaker}
-use Rattle.vf_filestore.proofs.Nested.{placed}
-use Rattle.vf_filestore.proofs.Owned.{found_all, placed_request, recovers, within_stage}
 use Rattle.vf_filestore.proofs.Parties.{IsOff}
-use Rattle.vf_filestore.proofs.Soundness.{alike_resumed}
-use Rattle.vf_filestore.proofs.Views.{AtAssociation, AtSelection, AtRegime, NotMoving, in_association_only, in_regime_only, in_selection_only}
 use Rattle.vf_serial.specs.FileModel.{is_reading}
 use Rattle.vf_serial.specs.Isolating.{may_change}
-use Rattle.vf_serial.specs.Moves.{Move, Acted, Created, Deleted, Opened, Renamed, acted, ceased, created, moves_by, moves_by_request, opened as opens, operation_in, renamed as renames, works}
-use Rattle.vf_serial.proofs.Among.{IsAmong, in_either}
+use Rattle.vf_serial.specs.Moves.{Move, Acted, acted, operation_in, works}
+use Rattle.vf_serial.proofs.Among.{IsAmong}
 use Rattle.vf_serial.proofs.Earned.{AllOfIts, its_mode}
-use Rattle.vf_serial.proofs.Ended.{items_at, none_stands, one_stands}
-use Rattle.vf_serial.proofs.Exclusion.{Allows}
-use Rattle.vf_serial.proofs.Leading.{IsElsewhere, IsReplaced, Leads, Splits, elsewhere_same, found_in, moves_on, replaced_ceased, replaced_opened, replaced_same, split_was, stays}
+use Rattle.vf_serial.proofs.Ended.{items_at, one_stands}
+use Rattle.vf_serial.proofs.Leading.{IsReplaced, Leads, Splits, found_in, moves_on, replaced_same, split_was, stays}
 use Rattle.vf_serial.proofs.Led.{AreSame, Does, IsFree, Stand, at, differ}
 use Rattle.vf_serial.proofs.Pairs.{all_in}
-use Rattle.vf_serial.proofs.Present.{Item, IsStand, docked, history_of, items, present, stand_by, stand_is, stands, stands_in, standing}
+use Rattle.vf_serial.proofs.Present.{Item, docked, history_of, items, present, stand_by, stand_is, stands, stands_in, standing}
 
 -- ---- what performs
 

@@ -1,8 +1,8 @@
 -- A schedule reorders to the serial one: from its end on, each operation passes those of the regimes that cease before
 -- its own, or cease where its own holds on.
-use Rattle.std.proofs.Common.{◌≡◌, ◌≢◌, ℕ, zero, suc, ◌+◌, ◌≤◌, Bool, true, false, cond, ◌||◌, List, [], ◌∷◌, ◌++◌, nat_eq, refl, ap, sym, subst, ◌∙◌, arith, eq-eqb, eqb-true, ne_eqb}
+use Rattle.std.proofs.Common.{◌≡◌, ℕ, suc, ◌+◌, ◌≤◌, Bool, true, false, cond, ◌||◌, List, [], ◌∷◌, ◌++◌, nat_eq, refl, ap, sym, subst, ◌∙◌, arith, eq-eqb, eqb-true, ne_eqb}
 use Rattle.std.proofs.lemmas.Bool.{eqb-false}
-use Rattle.vf_serial.specs.Schedule.{AreApart, AreShown, CeasesOnce, Commute, IsApartWhileHeld, IsGone, LeavesTheSame, Place, Performs, Ceases, ShowAlike, ShowsTheSame, ceased, is_among, of_regime, one_after_another, others, performed, serial, serial_order}
+use Rattle.vf_serial.specs.Schedule.{AreApart, CeasesOnce, Commute, IsApartWhileHeld, IsGone, LeavesTheSame, Place, Performs, Ceases, ShowAlike, ShowsTheSame, ceased, is_among, of_regime, one_after_another, others, serial, serial_order}
 use Rattle.vf_serial.proofs.Reordered.{Reorders, same, skip, keep, swap, both, keep_all, leave_same, show_same}
 
 -- ---- numbers

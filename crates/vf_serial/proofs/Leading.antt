@@ -1,17 +1,17 @@
 -- How moves lead from one state to another, where one of those who have a history has another one, or is gone.
-use Rattle.std.proofs.Common.{◌≡◌, ◌≢◌, ℕ, ◌+◌, ◌<◌, ◌≤◌, Bool, true, false, cond, List, [], ◌∷◌, ◌++◌, map, nat_eq, Option, None, Some, inl, inr, refl, ap, sym, subst, ◌∙◌, arith}
+use Rattle.std.proofs.Common.{◌≡◌, ◌≢◌, ℕ, ◌≤◌, List, [], ◌∷◌, ◌++◌, inl, inr, refl, ap, sym, subst, arith}
 use Rattle.std.specs.Prelude.{◌⊎◌, flat_map}
 use Rattle.std.proofs.lemmas.Bool.{eqb-false}
-use Rattle.std.proofs.lemmas.List.{append_assoc, append-nil, map-append}
+use Rattle.std.proofs.lemmas.List.{append_assoc}
 use Rattle.vf_filestore.specs.History.{Regime}
 use Rattle.vf_filestore.specs.Sound.{IsSound, is_same_number}
-use Rattle.vf_filestore.specs.State.{Docket, State, StandingParty}
+use Rattle.vf_filestore.specs.State.{State}
 use Rattle.vf_filestore.proofs.Lists.{flat_map-append}
 use Rattle.vf_serial.specs.Moves.{Move, Opened, Acted, Ceased, Created, Renamed, Deleted}
 use Rattle.vf_serial.proofs.Among.{IsAmong, in_either, in_left, in_right}
-use Rattle.vf_serial.proofs.Led.{AreSame, AreThere, Does, IsActed, IsCeased, IsCoherent, IsCreated, IsFree, IsLed, IsOpened, IsRenamed, Stand, at, ends, goes}
+use Rattle.vf_serial.proofs.Led.{AreSame, AreThere, Does, IsCeased, IsCoherent, IsLed, IsOpened, Stand, at, ends, goes}
 use Rattle.vf_serial.proofs.Pairs.{AreApart, ArePairs, beside}
-use Rattle.vf_serial.proofs.Present.{Item, coherent, docked, items, number_at, number_pairs, numbers_apart, numbers_of, present, stands, standing}
+use Rattle.vf_serial.proofs.Present.{Item, coherent, items, number_pairs, numbers_apart, numbers_of, present, stands}
 
 -- ---- the same regimes
 

@@ -1,15 +1,14 @@
 -- What moves do to the regimes that stand, and that a schedule is orderly whose moves follow one another so.
-use Rattle.std.proofs.Common.{◌≡◌, ◌≢◌, ℕ, ◌+◌, ◌<◌, ◌≤◌, Bool, true, false, cond, not, ◌&&◌, ◌||◌, List, [], ◌∷◌, inl, inr, nat_eq, refl, ap, sym, subst, ◌∙◌, arith, eqb-true, ne_eqb}
+use Rattle.std.proofs.Common.{◌≡◌, ◌≢◌, ℕ, ◌<◌, ◌≤◌, Bool, true, false, cond, not, ◌||◌, List, [], ◌∷◌, inl, inr, refl, ap, sym, subst, ◌∙◌, arith}
 use Rattle.std.specs.Prelude.{◌⊎◌}
 use Rattle.std.specs.Str.{bytes_eq}
-use Rattle.std.proofs.lemmas.Bool.{and_parts, eqb-false}
-use Rattle.vf_tree.specs.FileTree.{FileTree}
+use Rattle.std.proofs.lemmas.Bool.{and_parts}
 use Rattle.vf_filestore.specs.History.{Regime}
 use Rattle.vf_filestore.proofs.Filed.{name_itself, same_name}
 use Rattle.vf_serial.specs.FileModel.{Apart, Operation}
 use Rattle.vf_serial.specs.Isolating.{isolates}
 use Rattle.vf_serial.specs.Moves.{Move, Opened, Acted, Ceased, Created, Renamed, Deleted}
-use Rattle.vf_serial.specs.Schedule.{AreApart, CeasesOnce, IsApartWhileHeld, IsGone, Place, Performs, Ceases}
+use Rattle.vf_serial.specs.Schedule.{AreApart, CeasesOnce, IsApartWhileHeld, IsGone, Performs, Ceases}
 use Rattle.vf_serial.specs.Uses.{all_isolate, schedule}
 use Rattle.vf_serial.proofs.Among.{IsAmong}
 use Rattle.vf_serial.proofs.Exclusion.{Agree, Allows, apart}

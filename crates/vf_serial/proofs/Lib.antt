@@ -8,6 +8,7 @@ pub mod Granted
 pub mod Grouped
 pub mod Leading
 pub mod Led
+pub mod Orderly
 pub mod Pairs
 pub mod Present
 pub mod Recovered

@@ -1,11 +1,10 @@
 -- Pairs in lists that are made of what each of some things has.
-use Rattle.std.proofs.Common.{◌≡◌, Bool, true, false, List, [], ◌∷◌, ◌++◌, map, inl, inr, refl, ap, sym, subst, ◌∙◌}
+use Rattle.std.proofs.Common.{◌≡◌, Bool, false, List, [], ◌∷◌, ◌++◌, map, inl, inr, refl, ap, sym, subst}
 use Rattle.std.specs.Prelude.{◌⊎◌, flat_map}
 use Rattle.std.specs.List.{AllByRecursion, IsDistinct}
 use Rattle.std.proofs.lemmas.Map.Keys.{IsDistinct-head, IsDistinct-tail}
-use Rattle.std.proofs.lemmas.List.{append_assoc}
 use Rattle.vf_filestore.proofs.Lists.{all-from_flat_map, all_right, all_weaker, distinct_less}
-use Rattle.vf_serial.proofs.Among.{IsAmong, in_either, in_left, in_right}
+use Rattle.vf_serial.proofs.Among.{IsAmong, in_either}
 
 pub all_in : {A : Type 0} (P : A → Type 0) (x : A) (xs : List A) → AllByRecursion P xs → IsAmong x xs → P x
 all_in P x [] all is = absurd is

@@ -1,12 +1,10 @@
 -- The regimes that stand in a sound state have numbers of their own, and those of one file agree.
-use Rattle.std.proofs.Common.{◌≡◌, ◌≢◌, ℕ, ◌+◌, ◌<◌, ◌≤◌, Bool, true, false, cond, ◌&&◌, ◌||◌, List, [], ◌∷◌, ◌++◌, map, nat_eq, Option, None, Some, inl, inr, refl, ap, sym, subst, ◌∙◌, arith, eq-eqb, eqb-true}
-use Rattle.std.specs.Prelude.{◌⊎◌, flat_map}
+use Rattle.std.proofs.Common.{◌≡◌, ℕ, ◌<◌, true, false, ◌&&◌, List, [], ◌∷◌, ◌++◌, map, nat_eq, Option, None, Some, inl, inr, refl, ap, sym, subst, ◌∙◌}
+use Rattle.std.specs.Prelude.{flat_map}
 use Rattle.std.specs.List.{AllByRecursion, IsDistinct}
 use Rattle.std.specs.Str.{bytes_eq}
 use Rattle.std.proofs.lemmas.Bool.{eqb-false, or_parts}
-use Rattle.std.proofs.lemmas.List.{append_assoc}
 use Rattle.vf_locks.specs.Clash.{clash}
-use Rattle.vf_pdu_fields.proofs.Plain.{some_is}
 use Rattle.vf_filestore.specs.History.{History, Regime, Selection, regime, selection}
 use Rattle.vf_filestore.specs.Holders.{controls_by}
 use Rattle.vf_filestore.specs.Sound as sounds
@@ -17,10 +15,10 @@ use Rattle.vf_filestore.proofs.Clashes.{held_uses}
 use Rattle.vf_filestore.proofs.Filed.{name_itself}
 use Rattle.vf_filestore.proofs.Lists.{all-from_flat_map, flat_map-append}
 use Rattle.vf_filestore.proofs.Moving.{Has, all_of}
-use Rattle.vf_serial.proofs.Among.{IsAmong, in_either, in_left, in_right}
+use Rattle.vf_serial.proofs.Among.{IsAmong, in_either}
 use Rattle.vf_serial.proofs.Exclusion.{Agree, agree_flips}
 use Rattle.vf_serial.proofs.Led.{IsCoherent, Stand, at}
-use Rattle.vf_serial.proofs.Pairs.{AreApart, ArePairs, all_in, distinct_pairs, flat_map-map, two}
+use Rattle.vf_serial.proofs.Pairs.{AreApart, ArePairs, distinct_pairs, flat_map-map, two}
 
 -- ---- who has a history
 

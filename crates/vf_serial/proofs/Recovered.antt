@@ -1,16 +1,15 @@
 -- A recovery takes up the regime of its docket, and each message that is granted leads by its moves.
-use Rattle.std.proofs.Common.{◌≡◌, ℕ, ◌+◌, ◌≤◌, Bool, true, false, cond, List, [], ◌∷◌, ◌++◌, map, Option, None, Some, inl, inr, refl, ap, sym, subst, ◌∙◌, arith}
-use Rattle.std.specs.Prelude.{◌⊎◌, flat_map}
+use Rattle.std.proofs.Common.{◌≡◌, ℕ, true, List, [], ◌∷◌, ◌++◌, map, Option, inl, inr, refl, ap, sym, subst, ◌∙◌, arith}
+use Rattle.std.specs.Prelude.{flat_map}
 use Rattle.std.proofs.lemmas.List.{append_assoc, map-append}
 use Rattle.vf_elements.specs.Stages.{takes}
 use Rattle.vf_elements.specs.declared.message.Message.{Message}
 use Rattle.vf_elements.specs.declared.message.Message.TheVariants as messages
-use Rattle.vf_pdu.specs.declared.pdu.Pdu.{Pdu}
 use Rattle.vf_pdu.specs.declared.pdu.Pdu.TheVariants.{RecoverRequest}
 use Rattle.vf_filestore.specs.Aborts.{Setting}
 use Rattle.vf_filestore.specs.Conclusion.{concluding_entry, history_of as history_of_docket, taken_up}
 use Rattle.vf_filestore.specs.Decision.{Grants, message_decision, request_decision}
-use Rattle.vf_filestore.specs.History.{Given, History, regime, selection}
+use Rattle.vf_filestore.specs.History.{Given, regime, selection}
 use Rattle.vf_filestore.specs.Performed.{operation}
 use Rattle.vf_filestore.specs.Stage.{regime_stage}
 use Rattle.vf_filestore.specs.State.{Docket, State, StandingParty, docket_of, identity_of, mode_in, without_docket}
@@ -23,8 +22,8 @@ use Rattle.vf_filestore.proofs.Views.{in_association_only}
 use Rattle.vf_serial.proofs.Among.{IsAmong}
 use Rattle.vf_serial.proofs.Earned.{AllOfIts}
 use Rattle.vf_serial.proofs.Ended.{items_at, none_stands}
-use Rattle.vf_serial.proofs.Granted.{IsNext, Stage, still_leads}
-use Rattle.vf_serial.proofs.Leading.{Leads, Splits, mid_splits, split_was, stays}
+use Rattle.vf_serial.proofs.Granted.{Stage, still_leads}
+use Rattle.vf_serial.proofs.Leading.{Splits, mid_splits, split_was, stays}
 use Rattle.vf_serial.proofs.Led.{AreSame, Stand}
 use Rattle.vf_serial.proofs.Present.{Item, docked, items, present, stand_by, stands, standing}
 use Rattle.vf_serial.proofs.Requested.{LeadsBy, request_leads}

@@ -1,5 +1,5 @@
 -- Schedules whose operations change places where they are apart leave and show the same.
-use Rattle.std.proofs.Common.{◌≡◌, ◌≢◌, ℕ, Bool, true, false, List, [], ◌∷◌, ◌++◌, refl, ap, sym, subst, ◌∙◌}
+use Rattle.std.proofs.Common.{◌≡◌, ◌≢◌, ℕ, List, [], ◌∷◌, ◌++◌, refl, ap, sym, subst, ◌∙◌}
 use Rattle.vf_serial.specs.Schedule.{AreShown, Commute, Place, Performs, Ceases, ShowAlike, performed}
 
 -- one schedule comes of another by neighbours that change places, and is without the places at which regimes cease

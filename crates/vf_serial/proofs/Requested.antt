@@ -1,11 +1,9 @@
 -- Each request that is granted leads by its moves.
-use Rattle.std.proofs.Common.{◌≡◌, ◌≢◌, ℕ, ◌+◌, ◌≤◌, Bool, true, false, cond, not, List, [], ◌∷◌, ◌++◌, map, nat_eq, is_some, option_map, Option, None, Some, refl, ap, sym, subst, ◌∙◌, arith}
-use Rattle.std.specs.Prelude.{IfSome, IsSome}
+use Rattle.std.proofs.Common.{◌≡◌, ℕ, true, false, cond, not, List, [], ◌∷◌, nat_eq, option_map, Option, None, Some, refl, ap, sym, subst, ◌∙◌, arith}
 use Rattle.std.specs.Str.{bytes_eq}
 use Rattle.vf_attr.specs.Access.{has}
 use Rattle.vf_attr.specs.declared.file.File.{File}
 use Rattle.vf_base.specs.declared.action.Action.TheVariants as actions
-use Rattle.vf_base.specs.declared.action.Actions.{Actions}
 use Rattle.vf_elements.specs.Stages.{takes}
 use Rattle.vf_elements.specs.declared.message.Message.{Message}
 use Rattle.vf_elements.specs.declared.message.Message.TheVariants as messages
@@ -16,34 +14,32 @@ use Rattle.vf_pdu.specs.declared.pdu.Pdu.{Pdu}
 use Rattle.vf_pdu.specs.declared.pdu.Pdu.TheVariants.{SelectRequest, CreateRequest, DeselectRequest, DeleteRequest, ChangeAttribRequest, OpenRequest, CloseRequest, RecoverRequest}
 use Rattle.vf_filestore.specs.Aborts.{Setting}
 use Rattle.vf_filestore.specs.Conclusion.{concluding_entry, taken_up}
-use Rattle.vf_filestore.specs.Controls.{attribute_controls, content_controls}
+use Rattle.vf_filestore.specs.Controls.{content_controls}
 use Rattle.vf_filestore.specs.Decision.{Grants, made_unless, request_decision, wanted_by}
-use Rattle.vf_filestore.specs.Diagnostics.{Row, attribute_unsupported, name_exists, not_permitted, row}
+use Rattle.vf_filestore.specs.Diagnostics.{attribute_unsupported, name_exists, not_permitted, row}
 use Rattle.vf_filestore.specs.Ending.{stamp_of}
-use Rattle.vf_filestore.specs.History.{Entry, Given, Nothing, Made, Refused, Showed, Placed, Resumed, History, Regime, Selection, regime, renamed, selection}
+use Rattle.vf_filestore.specs.History.{Given, Nothing, Made, Refused, Showed, Placed, Resumed, History, Regime, regime, renamed, selection}
 use Rattle.vf_filestore.specs.Holders.{alone_row, held_files, holders}
 use Rattle.vf_filestore.specs.Performed.{operation}
 use Rattle.vf_filestore.specs.Selecting.{create_rows, is_taken, rename_row}
-use Rattle.vf_filestore.specs.Sound.{IsSound}
 use Rattle.vf_filestore.specs.Stage.{regime_stage}
-use Rattle.vf_filestore.specs.State.{Docket, State, StandingParty, docket_of, file_in, identity_of, mode_in, name_in, requested_in, units_of, without_docket}
+use Rattle.vf_filestore.specs.State.{State, StandingParty, file_in, mode_in, name_in, requested_in, units_of}
 use Rattle.vf_filestore.specs.Units.{enhanced_management, limited_management}
-use Rattle.vf_filestore.proofs.Agreed as agreed
-use Rattle.vf_filestore.proofs.Alone.{IsAlone, alone}
+use Rattle.vf_filestore.proofs.Alone.{alone}
 use Rattle.vf_filestore.proofs.Concluded.{after_entry}
 use Rattle.vf_filestore.proofs.Decided.{first_passed, later_passed, row_passed, rows_passed}
 use Rattle.vf_filestore.proofs.Effected.{not_taken}
 use Rattle.vf_filestore.proofs.Filed.{names_flip}
 use Rattle.vf_filestore.proofs.Nested.{placed}
 use Rattle.vf_filestore.proofs.Owned.{placed_request}
-use Rattle.vf_filestore.proofs.Views.{AtAssociation, AtRegime, AtSelection, in_association_only, in_regime_only, in_selection_only}
-use Rattle.vf_serial.specs.Moves.{Move, Created, Deleted, Opened, Renamed, ceased, created, doc_of, moves_by, opened as opens, renamed as renames}
+use Rattle.vf_filestore.proofs.Views.{in_association_only, in_regime_only, in_selection_only}
+use Rattle.vf_serial.specs.Moves.{Created, Deleted, Opened, Renamed, ceased, created, doc_of, moves_by, renamed as renames}
 use Rattle.vf_serial.proofs.Earned.{AllOfIts}
 use Rattle.vf_serial.proofs.Ended.{none_stands, one_stands}
 use Rattle.vf_serial.proofs.Granted.{IsNext, Stage, free_alone, free_none, named_leads, none_open, replaced_next, same_leads, still_leads}
 use Rattle.vf_serial.proofs.Leading.{Leads, moves_on, replaced_ceased, replaced_opened}
-use Rattle.vf_serial.proofs.Led.{AreSame, IsFree, Stand, at}
-use Rattle.vf_serial.proofs.Present.{Item, present, stand_by, stands_in, standing}
+use Rattle.vf_serial.proofs.Led.{IsFree, at}
+use Rattle.vf_serial.proofs.Present.{present, stand_by, stands_in, standing}
 
 -- the party after it
 abbrev next_of : State → StandingParty → Setting → Message → Given → List Message → StandingParty

@@ -1,15 +1,15 @@
 -- Serial use of each file of a run (profile): where all its open regimes isolate, what was read and what is left are as
 -- if they had used it one after another, in the order in which they ceased to hold.
-use Rattle.std.specs.Prelude.{◌≡◌, ℕ, true, List, [], ◌∷◌, IfSome, Option, Some, option_map}
+use Rattle.std.specs.Prelude.{◌≡◌, true, List, [], ◌∷◌, IfSome, Some, option_map}
 use Rattle.std.specs.List.{AllByRecursion}
 use Rattle.vf_attr.specs.declared.file.File.{File}
 use Rattle.vf_files.specs.Files.{file_named}
 use Rattle.vf_tree.specs.FileTree.{FileTree}
-use Rattle.vf_filestore.specs.Keeping.{IsKept}
+use Rattle.vf_filestore.specs.Keeping.{AreHistoriesKept}
 use Rattle.vf_filestore.specs.Laws.{IsNew}
 use Rattle.vf_filestore.specs.Sound.{IsSound}
 use Rattle.vf_filestore.specs.State.{State}
-use Rattle.vf_serial.specs.FileModel.{Apart, Operation, ShowsAll, World, contents_after}
+use Rattle.vf_serial.specs.FileModel.{Apart, ShowsAll, contents_after}
 use Rattle.vf_serial.specs.Moves.{Happening, Happens, Drops, after, state_after}
 use Rattle.vf_serial.specs.Schedule.{AreApart, CeasesOnce, serial}
 use Rattle.vf_serial.specs.Uses.{Use, is_isolated, last_name, schedule_of, uses}
@@ -29,7 +29,8 @@ abbrev pub EachUse : (Use → Type 0) → List Happening → State → Type 0
 EachUse Is happenings state = AllByRecursion (λ (one : Use). is_isolated one ≡ true → Is one) (uses happenings state)
 
 abbrev pub RunsAreOrderly : Type 0
-RunsAreOrderly = (happenings : List Happening) (state : State) → AreNew happenings state → IsSound state → EachUse IsOrderly happenings state
+RunsAreOrderly =
+    (happenings : List Happening) (state : State) → AreNew happenings state → IsSound state → AreHistoriesKept state → EachUse IsOrderly happenings state
 
 -- The file that it is at the end, unless it is deleted, has these contents.
 abbrev pub Leaves : List File → FileTree → Use → Type 0
@@ -43,7 +44,7 @@ pub record IsPerformed (files : List File) (one : Use) : Type 0 where
 
 abbrev pub RunsPerform : Type 0
 RunsPerform =
-    (happenings : List Happening) (state : State) → AreNew happenings state → IsSound state → IsKept state
+    (happenings : List Happening) (state : State) → AreNew happenings state → IsSound state → AreHistoriesKept state
     → AllByRecursion (IsPerformed (state_after happenings state).files) (uses happenings state)
 
 -- BOTH HALVES. In the serial order they show what they showed, and leave what the file has.
@@ -53,5 +54,5 @@ pub record IsUsedSerially (files : List File) (one : Use) : Type 0 where
 
 abbrev pub RunsAreSerial : Type 0
 RunsAreSerial =
-    (happenings : List Happening) (state : State) → AreNew happenings state → IsSound state → IsKept state
+    (happenings : List Happening) (state : State) → AreNew happenings state → IsSound state → AreHistoriesKept state
     → EachUse (IsUsedSerially (state_after happenings state).files) happenings state

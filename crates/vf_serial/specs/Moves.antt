@@ -1,6 +1,6 @@
 -- What the messages of a run do to files and to the regimes in which they are open (ISO 8571-2; profile), in order. A
 -- recovered regime is the one that it was, and has the number of its open.
-use Rattle.std.specs.Prelude.{◌≡◌, ℕ, Bool, ◌||◌, List, [], ◌∷◌, ◌++◌, flat_map, count_by, Option, None, Some, if◌then◌else◌, nat_le}
+use Rattle.std.specs.Prelude.{ℕ, Bool, ◌||◌, List, [], ◌∷◌, ◌++◌, flat_map, count_by, Option, None, Some, if◌then◌else◌, nat_le}
 use Rattle.vf_attr.specs.declared.file.File.{File}
 use Rattle.vf_base.specs.declared.action.Actions.{Actions}
 use Rattle.vf_base.specs.declared.element.Element.{Element}
@@ -20,16 +20,16 @@ use Rattle.vf_filestore.specs.Conclusion.{concluded, concluding_entry, grants, h
 use Rattle.vf_filestore.specs.Decision as decisions
 use Rattle.vf_filestore.specs.Decision.{Decision, decision, trial_decision}
 use Rattle.vf_filestore.specs.Diagnostics.{superseded}
-use Rattle.vf_filestore.specs.Dockets.{broken, dropped}
+use Rattle.vf_filestore.specs.Dockets.{dropped}
 use Rattle.vf_filestore.specs.Ending.{units_or_none}
-use Rattle.vf_filestore.specs.Groups.{Trial, is_good, trial}
+use Rattle.vf_filestore.specs.Groups.{is_good, trial}
 use Rattle.vf_filestore.specs.History.{Entry, Given, Made, History, Regime, regime}
 use Rattle.vf_filestore.specs.Opening.{act_of}
 use Rattle.vf_filestore.specs.Performed as performances
 use Rattle.vf_filestore.specs.Performed.{Performed, performed}
 use Rattle.vf_filestore.specs.Runs.{Event, Arrives, Takes, Faults, Stops, after_event}
 use Rattle.vf_filestore.specs.Stage.{Group}
-use Rattle.vf_filestore.specs.State.{Docket, State, StandingParty, activity_of, docket_of, mode_in, name_in, party_of, selected_file, with_party}
+use Rattle.vf_filestore.specs.State.{Docket, State, StandingParty, activity_of, docket_of, mode_in, name_in, party_of, with_party}
 use Rattle.vf_filestore.specs.Transition.{aborts, associates, superseded_by, with_message}
 use Rattle.vf_serial.specs.FileModel.{Operation}
 use Rattle.vf_serial.specs.Isolating.{may_change, may_read}

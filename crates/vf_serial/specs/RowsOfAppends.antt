@@ -1,6 +1,6 @@
 -- Two systems append records to one file, each under exclusive control, and one of them breaks in the middle and comes
 -- back: their schedule, the serial order and what it leaves.
-use Rattle.std.specs.Prelude.{◌≡◌, ℕ, Bool, true, List, [], ◌∷◌, ◌++◌, Option, None, Some, map}
+use Rattle.std.specs.Prelude.{◌≡◌, ℕ, true, List, [], ◌∷◌, ◌++◌, None, Some, map}
 use Rattle.vf_base.specs.declared.access.FaduId.TheVariants.{End}
 use Rattle.vf_base.specs.declared.action.Control.TheVariants.{Exclusive, NoAccess}
 use Rattle.vf_base.specs.declared.element.Element.{Element}
@@ -15,9 +15,9 @@ use Rattle.vf_tree.specs.FileTree.{DataUnit}
 use Rattle.vf_filestore.specs.Runs.{Event, beginning}
 use Rattle.vf_filestore.specs.Samples.{a, initialize, on, recover, select, text_file, then_on}
 use Rattle.vf_filestore.specs.State.{State}
-use Rattle.vf_serial.specs.FileModel.{Operation, World, contents_after}
-use Rattle.vf_serial.specs.Moves.{Happening, Happens, moves, state_after}
-use Rattle.vf_serial.specs.Schedule.{Place, Performs, Ceases, serial, serial_order}
+use Rattle.vf_serial.specs.FileModel.{Operation}
+use Rattle.vf_serial.specs.Moves.{Happening, Happens}
+use Rattle.vf_serial.specs.Schedule.{Place, Performs, Ceases, serial_order}
 use Rattle.vf_serial.specs.Uses.{Use, is_isolated, schedule_of, uses}
 
 abbrev pub text : ℕ → Element

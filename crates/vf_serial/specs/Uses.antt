@@ -1,9 +1,8 @@
 -- The use of one file in a run (profile): from its creation on, or from where the run begins, under whatever name.
-use Rattle.std.specs.Prelude.{◌≡◌, ℕ, Bool, true, false, not, ◌&&◌, ◌||◌, List, [], ◌∷◌, ◌++◌, flat_map, find, map, Option, None, Some, if◌then◌else◌, nat_eq}
+use Rattle.std.specs.Prelude.{ℕ, Bool, true, not, ◌&&◌, ◌||◌, List, [], ◌∷◌, ◌++◌, flat_map, map, Option, None, Some, if◌then◌else◌, nat_eq}
 use Rattle.std.specs.List.{list_all}
 use Rattle.std.specs.Str.{bytes_eq}
 use Rattle.vf_attr.specs.declared.file.File.{File}
-use Rattle.vf_tree.specs.FileTree.{FileTree}
 use Rattle.vf_filestore.specs.History.{History, Regime, Selection, position, regime, selection}
 use Rattle.vf_filestore.specs.State.{Docket, State, StandingParty}
 use Rattle.vf_serial.specs.FileModel.{Operation, World}

@@ -1,6 +1,7 @@
 //! Laws of the definitions, each the contract of a function that does nothing.
 ghost use Rattle.std.specs.Prelude.{ℕ};
 ghost use Rattle.vf_serial.specs.FileModel.{FilesAreSerial};
+ghost use Rattle.vf_serial.specs.Laws.{RunsAreOrderly};
 ghost use Rattle.vf_serial.specs.Schedule.{Commute, LeavesTheSame, ShowAlike, ShowsTheSame};
 
 /// Operations of any kind on any world: what each leaves and shows, and which are apart.
@@ -36,4 +37,11 @@ pub fn schedules_are_serial<P: Performing>()
 /// the elements that each read showed are those of the serial order.
 pub fn files_are_serial()
     ensures { FilesAreSerial }
+{}
+
+/// In every run, with breaks, stops, recoveries and dropped dockets, the schedule of each file all of whose open regimes
+/// isolate is such a one: each regime ceases once, and each operation is apart from those of other regimes while its own
+/// holds.
+pub fn runs_are_orderly()
+    ensures { RunsAreOrderly }
 {}
