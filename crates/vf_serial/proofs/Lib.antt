@@ -1,3 +1,4 @@
+pub mod Acting
 pub mod Among
 pub mod Earned
 pub mod Ended
