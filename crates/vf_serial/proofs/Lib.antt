@@ -11,7 +11,9 @@ pub mod Leading
 pub mod Led
 pub mod Orderly
 pub mod Pairs
+pub mod Placed
 pub mod Present
 pub mod Recovered
 pub mod Reordered
 pub mod Requested
+pub mod Working
