@@ -12,12 +12,11 @@ use Rattle.vf_serial.proofs.Grouped.{leaves, shows}
 use mathlib.Core.Path.{fun_ext}
 
 -- a reading leaves the contents
-Stays : FileTree → Result Outcome TreeRefusal → Type 0
+abbrev pub Stays : FileTree → Result Outcome TreeRefusal → Type 0
 Stays tree (Ok outcome) = outcome.tree ≡ tree
 Stays tree (Err refusal) = Unit {0}
 
-reading_stays : (tree : FileTree) (position : ℕ) (act : Act) → is_reading act ≡ true → Stays tree (does tree position act)
-unfolding Stays
+pub reading_stays : (tree : FileTree) (position : ℕ) (act : Act) → is_reading act ≡ true → Stays tree (does tree position act)
 reading_stays tree position (Locates id) is = by (locate tree position id)
   where
     by : (found : Result ℕ TreeRefusal) → Stays tree (moves tree found)
@@ -43,7 +42,7 @@ moved : World → ℕ → Result Outcome TreeRefusal → World
 moved world a answer = record { tree = world.tree; position = positions a answer world.position }
 
 left_moved : (world : World) (a : ℕ) (answer : Result Outcome TreeRefusal) → Stays world.tree answer → left_by world a answer ≡ moved world a answer
-unfolding Stays positions moved
+unfolding positions moved
 left_moved world a (Ok outcome) stays = λ i. record { tree = stays i; position = placed a outcome.position world.position }
 left_moved world a (Err refusal) stays = refl
 
