@@ -155,7 +155,7 @@ refused_gives : (one : Option Diagnostic) (ending : Ending) → IsSome one → (
 refused_gives None ending some = absurd cc
 refused_gives (Some diagnostic) ending some = refl
 
-granted_is : (one given : Given) → Grants one ≡ Grants given → given ≡ one
+pub granted_is : (one given : Given) → Grants one ≡ Grants given → given ≡ one
 granted_is one given is = cc
 
 -- ---- what a request performs

@@ -58,11 +58,11 @@ IsEffect files after name place next doc (Some one) = IsEffectOf files after nam
 
 -- ---- what isn't a read shows nothing
 
-abbrev IsSilent : Result Outcome TreeRefusal → Type 0
+abbrev pub IsSilent : Result Outcome TreeRefusal → Type 0
 IsSilent (Ok outcome) = outcome.shown ≡ []
 IsSilent (Err refusal) = Unit {0}
 
-silent_locate : (tree : FileTree) (position : ℕ) (id : FaduId) → IsSilent (does tree position (Locates id))
+pub silent_locate : (tree : FileTree) (position : ℕ) (id : FaduId) → IsSilent (does tree position (Locates id))
 silent_locate tree position id = by (locate tree position id)
   where
     by : (found : Result ℕ TreeRefusal) → IsSilent (moves tree found)
@@ -86,7 +86,7 @@ silent_extend Unstructured was First unit = refl
 silent_extend Unstructured was id unit = tt
 silent_extend SequentialFlat was id unit = tt
 
-silent_erase : (constraint : Constraint) (was : List DataUnit) (id : FaduId) → IsSilent (erasure constraint was id)
+pub silent_erase : (constraint : Constraint) (was : List DataUnit) (id : FaduId) → IsSilent (erasure constraint was id)
 silent_erase Unstructured was Begin = refl
 silent_erase Unstructured was First = refl
 silent_erase Unstructured was id = tt
@@ -121,7 +121,7 @@ trees_kept name file after files found same tree other = by (bytes_eq other name
 
 -- ---- readings
 
-reading_effect : (files : List File) (name : List ℕ) (place : ℕ) (file : File) (doc : Option DocType) (one : performances.Operation) (outcome : Outcome) → file_named name files ≡ Some file
+pub reading_effect : (files : List File) (name : List ℕ) (place : ℕ) (file : File) (doc : Option DocType) (one : performances.Operation) (outcome : Outcome) → file_named name files ≡ Some file
     → is_reading (operation_in doc one).act ≡ true → does file.tree place (operation_in doc one).act ≡ Ok outcome → outcome.shown ≡ (operation_in doc one).shown
     → IsEffectOf files files name place outcome.position doc one
 reading_effect files name place file doc one outcome found reads done shown = record {
@@ -139,7 +139,7 @@ reading_effect files name place file doc one outcome found reads done shown = re
 
 -- ---- changes
 
-change_effect : (files : List File) (name : List ℕ) (place : ℕ) (file after : File) (doc : Option DocType) (one : performances.Operation) (outcome : Outcome) → file_named name files ≡ Some file
+pub change_effect : (files : List File) (name : List ℕ) (place : ℕ) (file after : File) (doc : Option DocType) (one : performances.Operation) (outcome : Outcome) → file_named name files ≡ Some file
     → does file.tree place (operation_in doc one).act ≡ Ok outcome → outcome.shown ≡ (operation_in doc one).shown → after.name ≡ file.name → after.tree ≡ outcome.tree
     → IsEffectOf files (in_place name after files) name place outcome.position doc one
 change_effect files name place file after doc one outcome found done shown same tree = record {

@@ -1,6 +1,7 @@
 pub mod Acting
 pub mod Among
 pub mod Earned
+pub mod Effected
 pub mod Effects
 pub mod Ended
 pub mod Exclusion
