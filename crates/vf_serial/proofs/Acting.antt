@@ -1,6 +1,6 @@
 -- What moves do to contents and positions, and that a schedule whose moves follow one another so shows in its own order
 -- what it showed, and leaves the contents that the file has.
-use Rattle.std.proofs.Common.{◌≡◌, ◌≢◌, ℕ, ◌<◌, ◌≤◌, Bool, true, false, cond, List, [], ◌∷◌, nat_eq, option_map, Option, None, Some, Result, Ok, Err, inl, inr, refl, ap, sym, subst, ◌∙◌, arith, eq-eqb, eqb-true, ne_eqb}
+use Rattle.std.proofs.Common.{◌≡◌, ◌≢◌, ℕ, ◌<◌, ◌≤◌, Bool, true, false, cond, List, [], ◌∷◌, nat_eq, option_map, Option, None, Some, Ok, inl, inr, refl, ap, sym, subst, ◌∙◌, arith, eq-eqb, ne_eqb}
 use Rattle.std.specs.Prelude.{◌⊎◌, IfSome}
 use Rattle.std.specs.Str.{bytes_eq}
 use Rattle.vf_attr.specs.declared.file.File.{File}
@@ -9,10 +9,9 @@ use Rattle.vf_pdu_fields.proofs.Plain.{some_is}
 use Rattle.vf_tree.specs.Actions.{Outcome}
 use Rattle.vf_tree.specs.Acts.{does}
 use Rattle.vf_tree.specs.FileTree.{FileTree}
-use Rattle.vf_tree.specs.TreeRefusal.{TreeRefusal}
 use Rattle.vf_filestore.specs.History.{Regime}
-use Rattle.vf_filestore.proofs.Filed.{name_itself, names_flip, same_name}
-use Rattle.vf_serial.specs.FileModel.{IsShowing, Operation, Shows, ShowsAll, World, contents_after, left_by, placed, step}
+use Rattle.vf_filestore.proofs.Filed.{names_flip, same_name}
+use Rattle.vf_serial.specs.FileModel.{IsShowing, Operation, ShowsAll, World, contents_after, left_by, step}
 use Rattle.vf_serial.specs.Moves.{Move, Opened, Acted, Ceased, Created, Renamed, Deleted}
 use Rattle.vf_serial.specs.Schedule.{Place, Performs, Ceases}
 use Rattle.vf_serial.specs.Uses.{Standing, last_name, schedule}
@@ -59,14 +58,16 @@ pub record IsCeasedAt (all : List Standing) (files : List File) (later : List St
   pub were : AreOf later all
   pub trees : AreAsBefore files after
 
-pub record IsCreatedAt (all : List Standing) (files : List File) (file : List ℕ) (later : List Standing) (after : List File) : Type 0 where
+pub record IsCreatedAt (all : List Standing) (files : List File) (file : List ℕ) (contents : FileTree) (later : List Standing) (after : List File) : Type 0 where
   pub were : AreOf later all
+  pub free : (x : Standing) → IsAmong x later → x.file ≢ file
   pub none : tree_at file files ≡ None
+  pub leaves : tree_at file after ≡ Some contents
   pub others : OthersAre file files after
 
 pub record IsRenamedAt (all : List Standing) (files : List File) (old new : List ℕ) (later : List Standing) (after : List File) : Type 0 where
   pub were : AreOf later all
-  pub free : bytes_eq old new ≡ false → ((x : Standing) → IsAmong x all → x.file ≢ new) × (tree_at new files ≡ None)
+  pub free : bytes_eq old new ≡ false → ((x : Standing) → IsAmong x later → x.file ≢ new) × (tree_at new files ≡ None)
   pub leaves : tree_at new after ≡ tree_at old files
   pub others : (name : List ℕ) → bytes_eq name old ≡ false → bytes_eq name new ≡ false → tree_at name after ≡ tree_at name files
 
@@ -78,7 +79,7 @@ abbrev pub DoesAt : List Standing → List File → (next : ℕ) → Move → Li
 DoesAt all files next (Opened file regime) later after = IsOpenedAt all files next file regime later after
 DoesAt all files next (Acted file number operation) later after = IsActedOn all files next file number operation later after
 DoesAt all files next (Ceased file number) later after = IsCeasedAt all files later after
-DoesAt all files next (Created file contents) later after = IsCreatedAt all files file later after
+DoesAt all files next (Created file contents) later after = IsCreatedAt all files file contents later after
 DoesAt all files next (Renamed old new) later after = IsRenamedAt all files old new later after
 DoesAt all files next (Deleted file) later after = IsDeletedAt all files file later after
 
@@ -196,13 +197,13 @@ acts last all files next moves (goes a later f after b n (Renamed old new) rest 
         let name = same_name old file same in
         one (record {
           tree = does_it.leaves ∙ ap (λ name. tree_at name f) name ∙ is.tree;
-          places = λ x there on. which x (does_it.were x there) on (bytes_eq old new) refl;
+          places = λ x there on. which x there on (bytes_eq old new) refl;
           fresh = λ number above. is.fresh number (omega arith);
         })
       where
-        which : (x : Standing) → IsAmong x a → x.file ≡ new → (u : Bool) → bytes_eq old new ≡ u → world.position x.regime.number ≡ x.position
-        which x was on true equal = is.places x was (on ∙ sym (same_name old new equal) ∙ same_name old file same)
-        which x was on false apart = absurd ((does_it.free apart).0 x was on)
+        which : (x : Standing) → IsAmong x later → x.file ≡ new → (u : Bool) → bytes_eq old new ≡ u → world.position x.regime.number ≡ x.position
+        which x there on true equal = is.places x (does_it.were x there) (on ∙ sym (same_name old new equal) ∙ same_name old file same)
+        which x there on false apart = absurd ((does_it.free apart).0 x there on)
     by false another one other =
         other (stays_of file world a later f after b n rises does_it.were (does_it.others file (names_flip file old ∙ another) (new_other (bytes_eq file new) refl (bytes_eq old new) refl)) is)
       where

@@ -1,6 +1,5 @@
 -- What each request that is granted does to the contents of its file and to its position is what it performs.
-use Rattle.std.proofs.Common.{◌≡◌, ℕ, Bool, true, false, cond, not, List, [], ◌∷◌, nat_eq, option_map, Option, None, Some, Result, Ok, Err, refl, ap, sym, subst, ◌∙◌}
-use Rattle.std.specs.Prelude.{IfSome, IsSome}
+use Rattle.std.proofs.Common.{◌≡◌, ℕ, Bool, true, false, cond, List, [], ◌∷◌, nat_eq, Option, None, Some, Result, Ok, Err, refl, sym, subst}
 use Rattle.vf_attr.specs.declared.file.File.{File}
 use Rattle.vf_attr.specs.declared.stamp.Stamp.{Stamp}
 use Rattle.vf_base.specs.declared.access.Context.{Context}
@@ -8,9 +7,7 @@ use Rattle.vf_base.specs.declared.access.FaduId.{FaduId}
 use Rattle.vf_base.specs.declared.action.Action.TheVariants as actions
 use Rattle.vf_base.specs.declared.diagnostic.Diagnostic.{Diagnostic}
 use Rattle.vf_base.specs.declared.element.Element.{Element}
-use Rattle.vf_doctype.specs.declared.doc_type.DocType.{DocType}
 use Rattle.vf_elements.specs.declared.message.Message.TheVariants as messages
-use Rattle.vf_files.specs.Files.{file_named}
 use Rattle.vf_files.specs.Rows.{unit_row}
 use Rattle.vf_pdu.specs.declared.pdu.Pdu.{Pdu}
 use Rattle.vf_pdu.specs.declared.pdu.Pdu.TheVariants.{CreateRequest, DeleteRequest, ChangeAttribRequest, OpenRequest, LocateRequest, EraseRequest, ReadRequest, WriteRequest, TransferEndRequest, CancelRequest}
@@ -22,7 +19,7 @@ use Rattle.vf_filestore.specs.Aborts.{Setting}
 use Rattle.vf_filestore.specs.Decision.{Grants, erase_decision, locate_decision, request_decision}
 use Rattle.vf_filestore.specs.Diagnostics.{Row, cancelled, first_row, plain}
 use Rattle.vf_filestore.specs.Effects.{erased, files_by, put_where}
-use Rattle.vf_filestore.specs.Ending.{Ending, after_act, after_read, cancel_ending, cancel_in, cancel_of, cancelled_write, ending_in, ending_of, ending_unless, file_after, in_silence, read_ending, stamp_of, transfer_ending, unchanged, was_given_up, write_ending, write_of}
+use Rattle.vf_filestore.specs.Ending.{Ending, after_act, after_read, cancel_ending, cancel_in, cancel_of, ending_in, ending_of, ending_unless, file_after, in_silence, read_ending, stamp_of, transfer_ending, unchanged, was_given_up, write_of}
 use Rattle.vf_filestore.specs.History.{Given, Nothing, Made, Refused, Showed, Placed, Resumed, placed_by, placing, position, regime}
 use Rattle.vf_filestore.specs.Keeping.{IsEarned, IsGivenTo}
 use Rattle.vf_filestore.specs.Opening.{act_row, action_row, given_unless, placed, read_given, read_rows, showing, version_row}

@@ -1,40 +1,32 @@
 -- What a request that is granted does to the contents of its file and to its position is what it performs.
-use Rattle.std.proofs.Common.{◌≡◌, ℕ, Bool, true, false, cond, not, List, [], ◌∷◌, ◌++◌, length, nat_eq, option_map, Option, None, Some, Result, Ok, Err, inl, inr, refl, ap, sym, subst, ◌∙◌}
-use Rattle.std.specs.Prelude.{IfSome, IsSome, nat_le}
+use Rattle.std.proofs.Common.{◌≡◌, ℕ, Bool, true, false, List, [], ◌∷◌, option_map, Option, None, Some, Result, Ok, Err, inl, refl, ap, sym, subst, ◌∙◌}
 use Rattle.std.specs.Str.{bytes_eq}
 use Rattle.vf_attr.specs.declared.file.File.{File}
 use Rattle.vf_attr.specs.declared.stamp.Stamp.{Stamp}
 use Rattle.vf_base.specs.declared.access.Constraint.{Constraint}
 use Rattle.vf_base.specs.declared.access.Constraint.TheVariants.{Unstructured, SequentialFlat}
-use Rattle.vf_base.specs.declared.access.Context.{Context}
 use Rattle.vf_base.specs.declared.access.FaduId.{FaduId}
-use Rattle.vf_base.specs.declared.access.FaduId.TheVariants.{Begin, End, First, Last, Current, Next, Previous, Number}
-use Rattle.vf_base.specs.declared.diagnostic.Diagnostic.{Diagnostic}
+use Rattle.vf_base.specs.declared.access.FaduId.TheVariants.{Begin, End, First}
 use Rattle.vf_base.specs.declared.element.Element.{Element}
 use Rattle.vf_doctype.specs.DocumentTypes.{doc_type}
 use Rattle.vf_doctype.specs.Units.{units}
 use Rattle.vf_doctype.specs.declared.doc_type.DocType.{DocType}
-use Rattle.vf_doctype.specs.declared.errors.DocError.{DocError}
-use Rattle.vf_elements.specs.declared.message.Message.TheVariants as messages
 use Rattle.vf_files.specs.Files.{file_named}
-use Rattle.vf_files.specs.Rows.{unit_row}
-use Rattle.vf_pdu.specs.declared.pdu.Pdu.{Pdu}
 use Rattle.vf_pdu_fields.specs.declared.operation.WriteOperation.{WriteOperation}
 use Rattle.vf_pdu_fields.specs.declared.operation.WriteOperation.TheVariants.{Insert, Replace, Extend}
 use Rattle.vf_tree.specs.Actions.{Outcome, erasure, extension, insertion, replacement}
-use Rattle.vf_tree.specs.Acts.{Act, Locates, Reads, Inserts, Replaces, Extends, Erases, does, moves}
+use Rattle.vf_tree.specs.Acts.{Locates, does, moves}
 use Rattle.vf_tree.specs.FileTree.{DataUnit, FileTree}
 use Rattle.vf_tree.specs.Identities.{locate}
 use Rattle.vf_tree.specs.TreeRefusal.{TreeRefusal}
 use Rattle.vf_filestore.specs.Effects.{in_place, put_where}
 use Rattle.vf_filestore.specs.Ending.{Ending, after_act, element_row, file_after, performed_by, room_rows, units_or_none, write_of, written, written_in}
 use Rattle.vf_filestore.specs.Diagnostics.{Row, first_row}
-use Rattle.vf_filestore.specs.History.{Given, Nothing, Made, Refused, Showed, Placed, Resumed, placed_by}
-use Rattle.vf_filestore.specs.Opening.{act_of, act_row, placed}
+use Rattle.vf_filestore.specs.History.{placed_by}
+use Rattle.vf_filestore.specs.Opening.{act_of, act_row}
 use Rattle.vf_filestore.specs.Performed as performances
 use Rattle.vf_filestore.specs.Performed.{where_placed}
-use Rattle.vf_filestore.proofs.Decided.{first_passed, later_passed}
-use Rattle.vf_filestore.proofs.Filed.{found_here, found_other, name_itself, same_name}
+use Rattle.vf_filestore.proofs.Filed.{found_here, found_other, same_name}
 use Rattle.vf_files.proofs.Deltas.{found_name}
 use Rattle.vf_serial.specs.FileModel.{is_reading}
 use Rattle.vf_serial.specs.Moves.{doc_of, operation_in}
@@ -55,6 +47,16 @@ pub record IsEffectOf (files after : List File) (name : List ℕ) (place next : 
 abbrev pub IsEffect : (files after : List File) → (name : List ℕ) → (place next : ℕ) → Option DocType → Option performances.Operation → Type 0
 IsEffect files after name place next doc None = AreAsBefore files after × (next ≡ place)
 IsEffect files after name place next doc (Some one) = IsEffectOf files after name place next doc one
+
+-- where it doesn't change the contents, they are as before
+pub effect_reads : (files after : List File) (name : List ℕ) (place next : ℕ) (doc : Option DocType) (one : performances.Operation) → IsEffectOf files after name place next doc one → is_reading (operation_in doc one).act ≡ true → AreAsBefore files after
+effect_reads files after name place next doc one effect reads other = by (bytes_eq other name) refl
+  where
+    by : (t : Bool) → bytes_eq other name ≡ t → tree_at other after ≡ tree_at other files
+    by true is =
+        subst (λ one. tree_at one after ≡ tree_at one files) (sym (same_name other name is))
+        (effect.leaves ∙ ap (λ one. Some one) (subst (Stays effect.tree) effect.done (reading_stays effect.tree place (operation_in doc one).act reads)) ∙ sym effect.there)
+    by false is = effect.others other is
 
 -- ---- what isn't a read shows nothing
 

@@ -1,17 +1,21 @@
 -- How moves lead from one state to another, where one of those who have a history has another one, or is gone.
-use Rattle.std.proofs.Common.{◌≡◌, ◌≢◌, ℕ, ◌≤◌, List, [], ◌∷◌, ◌++◌, inl, inr, refl, ap, sym, subst, arith}
+use Rattle.std.proofs.Common.{◌≡◌, ◌≢◌, ℕ, ◌<◌, ◌≤◌, List, [], ◌∷◌, ◌++◌, inl, inr, refl, ap, sym, subst, ◌∙◌, arith}
 use Rattle.std.specs.Prelude.{◌⊎◌, flat_map}
 use Rattle.std.proofs.lemmas.Bool.{eqb-false}
 use Rattle.std.proofs.lemmas.List.{append_assoc}
+use Rattle.vf_attr.specs.declared.file.File.{File}
 use Rattle.vf_filestore.specs.History.{Regime}
 use Rattle.vf_filestore.specs.Sound.{IsSound, is_same_number}
 use Rattle.vf_filestore.specs.State.{State}
 use Rattle.vf_filestore.proofs.Lists.{flat_map-append}
 use Rattle.vf_serial.specs.Moves.{Move, Opened, Acted, Ceased, Created, Renamed, Deleted}
+use Rattle.vf_serial.specs.Uses.{Standing}
+use Rattle.vf_serial.proofs.Acting.{AreAsBefore, AreOf, DoesAt, IsActing, ends, goes, placed_at}
 use Rattle.vf_serial.proofs.Among.{IsAmong, in_either, in_left, in_right}
 use Rattle.vf_serial.proofs.Led.{AreSame, AreThere, Does, IsCeased, IsCoherent, IsLed, IsOpened, Stand, at, ends, goes}
 use Rattle.vf_serial.proofs.Pairs.{AreApart, ArePairs, beside}
 use Rattle.vf_serial.proofs.Present.{Item, coherent, items, number_pairs, numbers_apart, numbers_of, present, stands}
+use Rattle.vf_serial.proofs.Working.{apart_of, own_of, rest_of, were_next, workers, working, working_stands}
 
 -- ---- the same regimes
 
@@ -55,20 +59,93 @@ led_same all same next n moves coherent_all are less (goes a later b m move rest
 pub itself : (all : List Stand) → AreSame all all
 itself all = record { stay = λ x there. there; were = λ x there. there }
 
+-- ---- the same regimes that work, or fewer, and the same contents
+
+does_less : (all same : List Standing) (files was : List File) (next n : ℕ) (move : Move) (later : List Standing) (after : List File) → ((x : Standing) → IsAmong x all → x.regime.number < next)
+    → AreOf same all → AreAsBefore files was → next ≤ n → DoesAt same was n move later after → DoesAt all files next move later after
+does_less all same files was next n (Opened file regime) later after bound are trees less does = record {
+  fresh = let fresh = does.fresh in omega arith;
+  were = λ x there. elim (does.were x there) [ inl one ↦ inl (are x one) | inr new ↦ inr new ];
+  trees = λ name. does.trees name ∙ trees name;
+}
+does_less all same files was next n (Acted file number operation) later after bound are trees less does = record {
+  regime = does.regime;
+  position = does.position;
+  tree = does.tree;
+  outcome = does.outcome;
+  is = does.is;
+  below = subst (λ number. number < next) does.is (bound (placed_at file does.regime does.position) (are (placed_at file does.regime does.position) does.stands));
+  stands = are (placed_at file does.regime does.position) does.stands;
+  there = sym (trees file) ∙ does.there;
+  done = does.done;
+  shown = does.shown;
+  leaves = does.leaves;
+  others = λ name off. does.others name off ∙ trees name;
+  were = λ x there. elim (does.were x there) [ inl one ↦ inl (are x one.0, one.1) | inr new ↦ inr new ];
+}
+does_less all same files was next n (Ceased file number) later after bound are trees less does =
+    record { were = λ x there. are x (does.were x there); trees = λ name. does.trees name ∙ trees name }
+does_less all same files was next n (Created file contents) later after bound are trees less does = record {
+  were = λ x there. are x (does.were x there);
+  free = does.free;
+  none = sym (trees file) ∙ does.none;
+  leaves = does.leaves;
+  others = λ name off. does.others name off ∙ trees name;
+}
+does_less all same files was next n (Renamed old new) later after bound are trees less does = record {
+  were = λ x there. are x (does.were x there);
+  free = λ differ. ((does.free differ).0, sym (trees new) ∙ (does.free differ).1);
+  leaves = does.leaves ∙ trees old;
+  others = λ name off other. does.others name off other ∙ trees name;
+}
+does_less all same files was next n (Deleted file) later after bound are trees less does =
+    record { were = λ x there. are x (does.were x there); others = λ name off. does.others name off ∙ trees name }
+
+acting_less : (last : List File) (all same : List Standing) (files was : List File) (next n : ℕ) (moves : List Move) → ((x : Standing) → IsAmong x all → x.regime.number < next) → AreOf same all → AreAsBefore files was → next ≤ n
+    → IsActing last same was n moves → IsActing last all files next moves
+acting_less last all same files was next n moves bound are trees less (ends a f m is) = ends all files next (λ name. is name ∙ trees name)
+acting_less last all same files was next n moves bound are trees less (goes a later f after b m move rest rises does acting) =
+    goes all later files after next m move rest (omega arith) (does_less all a files f next b move later after bound are trees less does) acting
+
 -- ---- what leads
 
-abbrev pub Leads : State → List Move → State → Type 0
-Leads state moves later = (rest : List Move) → IsLed (present later) later.concluded rest → IsLed (present state) state.concluded (moves ++ rest)
+-- as regimes that stand do, and as contents and positions do
+pub record Leads (state : State) (moves : List Move) (later : State) : Type 0 where
+  pub orders : (rest : List Move) → IsLed (present later) later.concluded rest → IsLed (present state) state.concluded (moves ++ rest)
+  pub follows : (last : List File) (rest : List Move) → IsActing last (working later) later.files later.concluded rest → IsActing last (working state) state.files state.concluded (moves ++ rest)
 
 pub then_leads : (state mid later : State) (moves more : List Move) → Leads state moves mid → Leads mid more later → Leads state (moves ++ more) later
-then_leads state mid later moves more first second rest led =
-    subst (λ (all : List Move). IsLed (present state) state.concluded all) (sym (append_assoc moves more rest)) (first (more ++ rest) (second rest led))
+then_leads state mid later moves more first second = record {
+  orders = λ rest led.
+      subst (λ (all : List Move). IsLed (present state) state.concluded all) (sym (append_assoc moves more rest)) (first.orders (more ++ rest) (second.orders rest led));
+  follows = λ last rest acting.
+      subst (λ (all : List Move). IsActing last (working state) state.files state.concluded all) (sym (append_assoc moves more rest)) (first.follows last (more ++ rest) (second.follows last rest acting));
+}
 
-pub stays : (state later : State) → IsSound state → AreSame (present state) (present later) → state.concluded ≤ later.concluded → Leads state [] later
-stays state later sound are less rest led = led_same (present state) (present later) state.concluded later.concluded rest (coherent state sound) are less led
+-- nothing is moved
+pub record IsStill (state later : State) : Type 0 where
+  pub same : AreSame (present state) (present later)
+  pub were : AreOf (working later) (working state)
+  pub trees : AreAsBefore state.files later.files
+  pub less : state.concluded ≤ later.concluded
 
-pub moves_on : (state later : State) (move : Move) → IsSound state → state.concluded ≤ later.concluded → Does (present state) state.concluded move (present later) → Leads state (move ∷ []) later
-moves_on state later move sound less does rest led = goes (present state) (present later) state.concluded later.concluded move rest (coherent state sound) less does led
+pub still_itself : (state : State) → IsStill state state
+still_itself state = record { same = itself (present state); were = λ x there. there; trees = λ name. refl; less = omega arith }
+
+pub stays : (state later : State) → IsSound state → IsStill state later → Leads state [] later
+stays state later sound still = record {
+  orders = λ rest led. led_same (present state) (present later) state.concluded later.concluded rest (coherent state sound) still.same still.less led;
+  follows = λ last rest acting.
+      acting_less last (working state) (working later) state.files later.files state.concluded later.concluded rest
+      (λ x there. (coherent state sound).below (at x.file x.regime) (working_stands (items state.dockets state.parties) x there)) still.were still.trees still.less acting;
+}
+
+pub moves_on : (state later : State) (move : Move) → IsSound state → state.concluded ≤ later.concluded → Does (present state) state.concluded move (present later)
+    → DoesAt (working state) state.files state.concluded move (working later) later.files → Leads state (move ∷ []) later
+moves_on state later move sound less does acts = record {
+  orders = λ rest led. goes (present state) (present later) state.concluded later.concluded move rest (coherent state sound) less does led;
+  follows = λ last rest acting. goes (working state) (working later) state.files later.files state.concluded later.concluded move rest less acts acting;
+}
 
 -- ---- one's own, and the rest
 
@@ -224,3 +301,23 @@ elsewhere_same state later item next moved same =
     same_split (present state) (present later) (stands item) (flat_map stands (moved.before ++ moved.after)) (split_was state item moved.before moved.after moved.was)
     (subst (λ (rest : List Item). Splits (present later) (stands item) (flat_map stands rest)) (sym moved.same)
     (subst (λ (own : List Stand). Splits (present later) own (flat_map stands (moved.first ++ moved.last))) same (split_was later next moved.first moved.last moved.is)))
+
+-- ---- the regimes that work
+
+pub replaced_were : (state later : State) (item next : Item) → IsReplaced state later item next → AreOf (workers next) (workers item) → AreOf (working later) (working state)
+replaced_were state later item next replaced own x there =
+    subst (λ (all : List Item). IsAmong x (flat_map workers all)) (sym replaced.was)
+    (were_next item next replaced.before replaced.after own x (subst (λ (all : List Item). IsAmong x (flat_map workers all)) replaced.is there))
+
+pub without_were : (state later : State) (item : Item) → IsWithout state later item → AreOf (working later) (working state)
+without_were state later item without x there =
+    subst (λ (all : List Item). IsAmong x (flat_map workers all)) (sym without.was)
+    (rest_of item without.before without.after x (subst (λ (all : List Item). IsAmong x (flat_map workers all)) without.is there))
+
+pub elsewhere_were : (state later : State) (item next : Item) → IsElsewhere state later item next → AreOf (workers next) (workers item) → AreOf (working later) (working state)
+elsewhere_were state later item next moved own x there =
+    subst (λ (all : List Item). IsAmong x (flat_map workers all)) (sym moved.was)
+    (elim (apart_of next moved.first moved.last x (subst (λ (all : List Item). IsAmong x (flat_map workers all)) moved.is there)) [
+      | inl mine ↦ own_of item moved.before moved.after x (own x mine)
+      | inr others ↦ rest_of item moved.before moved.after x (subst (λ (all : List Item). IsAmong x (flat_map workers all)) (sym moved.same) others)
+    ])

@@ -18,4 +18,5 @@ pub mod Present
 pub mod Recovered
 pub mod Reordered
 pub mod Requested
+pub mod Serial
 pub mod Working

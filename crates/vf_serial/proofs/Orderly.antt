@@ -1,5 +1,6 @@
 -- The schedule of each file of a run is orderly where all its open regimes isolate.
-use Rattle.std.proofs.Common.{◌≡◌, ℕ, Bool, true, not, ◌||◌, List, [], ◌∷◌, ◌++◌, map, Option, None, Some, refl, ap, sym, subst, ◌∙◌, arith}
+use Rattle.std.proofs.Common.{◌≡◌, ℕ, Bool, true, not, ◌||◌, List, [], ◌∷◌, ◌++◌, map, Option, None, Some, inl, inr, refl, ap, sym, subst, ◌∙◌, arith}
+use Rattle.std.specs.Prelude.{flat_map}
 use Rattle.std.specs.List.{AllByRecursion, list_all}
 use Rattle.std.specs.Str.{bytes_eq}
 use Rattle.std.proofs.lemmas.Bool.{and_parts}
@@ -25,13 +26,16 @@ use Rattle.vf_filestore.proofs.StaysKept.{histories_stay}
 use Rattle.vf_filestore.proofs.Transitions.{event_sound, still_there}
 use Rattle.vf_serial.specs.Isolating.{isolates}
 use Rattle.vf_serial.specs.Laws.{AreNew, IsOrderly, RunsAreOrderly}
-use Rattle.vf_serial.specs.Moves.{Move, Opened, Acted, Ceased, Created, Renamed, Deleted, Happening, Happens, Drops, after, broken_of, by_answer, by_break, by_event, by_taking_over, by_transition_of, moves}
+use Rattle.vf_serial.specs.Moves.{Move, Opened, Acted, Ceased, Created, Renamed, Deleted, Happening, Happens, Drops, after, broken_of, by_answer, by_break, by_event, by_taking_over, by_transition_of, moves, state_after}
 use Rattle.vf_serial.specs.Uses as uses_of_files
 use Rattle.vf_serial.specs.Uses.{Use, Standing, all_isolate, begun, is_isolated, isolate_on, made, nowhere, standing_by, standing_in, standing_of_docket, standing_of_party, uses}
 use Rattle.vf_serial.proofs.Among.{IsAmong}
 use Rattle.vf_serial.proofs.Ended.{broken_leads, dropped_leads, stopped_leads}
 use Rattle.vf_serial.proofs.Followed.{answered_leads, same_link}
-use Rattle.vf_serial.proofs.Leading.{IsWithout, Leads, found_in, itself, stays, then_leads, without_same}
+use Rattle.vf_serial.proofs.Leading.{IsWithout, Leads, found_in, stays, still_itself, then_leads, without_same}
+use Rattle.vf_serial.proofs.Acting as actings
+use Rattle.vf_serial.proofs.Acting.{AreOf, IsActing}
+use Rattle.vf_serial.proofs.Working.{apart_of, workers, working}
 use Rattle.vf_serial.proofs.Led.{AllIsolate, IsInOrder, IsLed, Stand, ends, goes, in_order}
 use Rattle.vf_serial.proofs.Pairs.{all_in}
 use Rattle.vf_serial.proofs.Present.{Item, all_items, docked, items, of_item, present, stand_is, stands, stands_in, standing}
@@ -43,7 +47,7 @@ taking_leads : (state : State) (link : ℕ) (party : StandingParty) (setting : S
 taking_leads state link party setting message None sound kept found is = answered_leads state link party setting message sound kept found
 taking_leads state link party setting message (Some other) sound kept found is =
     let mid = broken other.link state in
-    then_leads state mid (answered mid party setting message).state (by_break other.link state) (by_answer mid party setting message) (broken_leads other.link state sound)
+    then_leads state mid (answered mid party setting message).state (by_break other.link state) (by_answer mid party setting message) (broken_leads other.link state sound kept)
     (answered_leads mid link party setting message (broken_sound other.link state sound) (histories_stay.breaks other.link state sound kept) (still_there state link party other message sound found is))
 
 transition_leads : (state : State) (link : ℕ) (setting : Setting) (message : Message) → IsSound state → AreHistoriesKept state
@@ -51,17 +55,17 @@ transition_leads : (state : State) (link : ℕ) (setting : Setting) (message : M
 transition_leads state link setting message sound kept = by (party_of link state.parties) refl
   where
     by : (one : Option StandingParty) → party_of link state.parties ≡ one → Leads state (by_transition_of state setting message one) (transition_of state setting message one).state
-    by None is = stays state state sound (itself (present state)) (omega arith)
+    by None is = stays state state sound (still_itself state)
     by (Some party) is = taking_leads state link party setting message (superseded_by state party message) sound kept is refl
 
 -- an abort by a fault breaks the party of the link
-fault_leads : (state : State) (link number place : ℕ) → IsSound state → Leads state (by_break link state) (fault_of state number place (party_of link state.parties)).state
-fault_leads state link number place sound = by (party_of link state.parties) refl
+fault_leads : (state : State) (link number place : ℕ) → IsSound state → AreHistoriesKept state → Leads state (by_break link state) (fault_of state number place (party_of link state.parties)).state
+fault_leads state link number place sound kept = by (party_of link state.parties) refl
   where
     by : (one : Option StandingParty) → party_of link state.parties ≡ one → Leads state (broken_of one) (fault_of state number place one).state
-    by None is = stays state state sound (itself (present state)) (omega arith)
+    by None is = stays state state sound (still_itself state)
     by (Some party) is =
-        subst (λ (one : Option StandingParty). Leads state (broken_of one) (broken party.link state)) (same_link state link party is) (broken_leads party.link state sound)
+        subst (λ (one : Option StandingParty). Leads state (broken_of one) (broken party.link state)) (same_link state link party is) (broken_leads party.link state sound kept)
 
 arrives_leads : (state : State) (link : ℕ) → IsSound state → Leads state [] (arrives link state)
 arrives_leads state link sound =
@@ -75,13 +79,19 @@ arrives_leads state link sound =
       is = sym (append-nil (items state.dockets state.parties));
     } in
     let same = without_same later state (standing (arrived link)) without refl in
-    stays state later sound (record { stay = same.were; were = same.stay }) (omega arith)
+    let were : AreOf (working later) (working state)
+    = λ x there.
+    elim (apart_of (standing (arrived link)) without.before without.after x (subst (λ (all : List Item). IsAmong x (flat_map workers all)) without.was there)) [
+      | inl own ↦ absurd own
+      | inr rest ↦ subst (λ (all : List Item). IsAmong x (flat_map workers all)) (sym without.is) rest
+    ] in
+    stays state later sound (record { same = record { stay = same.were; were = same.stay }; were = were; trees = λ name. refl; less = omega arith })
 
 event_leads : (state : State) (event : Event) → IsSound state → AreHistoriesKept state → Leads state (by_event state event) (after_event state event).state
 event_leads state (Arrives link) sound kept = arrives_leads state link sound
 event_leads state (Takes link setting message) sound kept = transition_leads state link setting message sound kept
-event_leads state (Faults link number place) sound kept = fault_leads state link number place sound
-event_leads state Stops sound kept = stopped_leads state.parties state refl sound
+event_leads state (Faults link number place) sound kept = fault_leads state link number place sound kept
+event_leads state Stops sound kept = stopped_leads state.parties state refl sound kept
 
 -- ---- runs
 
@@ -95,11 +105,21 @@ event_keeps state Stops sound kept = stopped_each IsKeptEntry kept_lasts state s
 pub led : (happenings : List Happening) (state : State) → AreNew happenings state → IsSound state → AreHistoriesKept state → IsLed (present state) state.concluded (moves happenings state)
 led [] state new sound kept = ends (present state) state.concluded
 led (Happens event ∷ later) state new sound kept =
-    event_leads state event sound kept (moves later (after state (Happens event)))
+    (event_leads state event sound kept).orders (moves later (after state (Happens event)))
     (led later (after state (Happens event)) new.1 (event_sound state event new.0 sound) (event_keeps state event sound kept))
 led (Drops identity activity ∷ later) state new sound kept =
-    dropped_leads identity activity state sound (moves later (after state (Drops identity activity)))
+    (dropped_leads identity activity state sound).orders (moves later (after state (Drops identity activity)))
     (led later (after state (Drops identity activity)) new (dropped_sound identity activity state sound) (dropped_each IsKeptEntry state identity activity kept))
+
+pub acting : (happenings : List Happening) (state : State) → AreNew happenings state → IsSound state → AreHistoriesKept state
+    → IsActing (state_after happenings state).files (working state) state.files state.concluded (moves happenings state)
+acting [] state new sound kept = actings.IsActing.ends (working state) state.files state.concluded (λ name. refl)
+acting (Happens event ∷ later) state new sound kept =
+    (event_leads state event sound kept).follows (state_after later (after state (Happens event))).files (moves later (after state (Happens event)))
+    (acting later (after state (Happens event)) new.1 (event_sound state event new.0 sound) (event_keeps state event sound kept))
+acting (Drops identity activity ∷ later) state new sound kept =
+    (dropped_leads identity activity state sound).follows (state_after later (after state (Drops identity activity))).files (moves later (after state (Drops identity activity)))
+    (acting later (after state (Drops identity activity)) new (dropped_sound identity activity state sound) (dropped_each IsKeptEntry state identity activity kept))
 
 -- ---- files that are there at the begin
 
@@ -118,7 +138,7 @@ standing_isolates file history x all there on =
     let equal : bytes_eq is.selected.file file ≡ true = subst (λ name. bytes_eq is.selected.file name ≡ true) (is.on ∙ on) (name_itself is.selected.file) in
     sym (ap (λ b. not b || isolates x.regime) equal) ∙ each.0
 
-abbrev standings : Has Standing
+abbrev pub standings : Has Standing
 standings = record { of_party = standing_of_party; of_docket = standing_of_docket }
 
 item_isolates : (file : List ℕ) (item : Item) (x : Stand) → AllByRecursion (Isolates file) (of_item standings item) → IsAmong x (stands item) → x.file ≡ file → isolates x.regime ≡ true

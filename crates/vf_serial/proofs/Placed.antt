@@ -1,5 +1,5 @@
 -- What is retained of a history, and what a recovery takes up, leaves an open regime at its position.
-use Rattle.std.proofs.Common.{◌≡◌, ℕ, Bool, true, false, cond, List, [], ◌∷◌, ◌++◌, is_some, Option, None, Some, refl, ap, sym, subst, ◌∙◌}
+use Rattle.std.proofs.Common.{◌≡◌, ℕ, Bool, true, false, cond, [], ◌∷◌, ◌++◌, is_some, Option, None, refl, ap, sym, subst, ◌∙◌}
 use Rattle.std.specs.Prelude.{IsSome}
 use Rattle.vf_elements.specs.declared.message.Message.{Message}
 use Rattle.vf_elements.specs.declared.message.Message.TheVariants as messages
@@ -10,7 +10,7 @@ use Rattle.vf_filestore.specs.Dockets.{selects as is_selection}
 use Rattle.vf_filestore.specs.History.{Entry, Given, Nothing, Made, Refused, Showed, Placed, Resumed, History, Regime, opening, placed_by, placing, position, regime}
 use Rattle.vf_filestore.specs.Keeping.{AreKept, IsGiven, IsGivenTo, IsUnplaced}
 use Rattle.vf_filestore.specs.Sound.{IsNested, IsPlaced}
-use Rattle.vf_filestore.specs.Transfers.{Transfer, transferring, under_way}
+use Rattle.vf_filestore.specs.Transfers.{transferring, under_way}
 use Rattle.vf_filestore.proofs.Nested.{none_some, placed}
 use Rattle.vf_filestore.proofs.Retained.{secured_alike, selected_at}
 use Rattle.vf_filestore.proofs.Views.{in_regime_only, in_selection_only, view}

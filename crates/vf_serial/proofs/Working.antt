@@ -1,5 +1,5 @@
 -- The regimes that work on contents, with their positions.
-use Rattle.std.proofs.Common.{◌≡◌, ℕ, Bool, true, false, cond, List, [], ◌∷◌, ◌++◌, is_some, Option, None, Some, inl, inr, refl, ap, sym, subst, ◌∙◌}
+use Rattle.std.proofs.Common.{◌≡◌, ℕ, Bool, true, false, List, [], ◌∷◌, ◌++◌, is_some, Option, None, Some, inl, inr, refl, ap, sym, subst, ◌∙◌}
 use Rattle.std.specs.Prelude.{◌⊎◌, IsSome, flat_map}
 use Rattle.vf_filestore.specs.History.{History, Regime, Selection, position, regime, selection}
 use Rattle.vf_filestore.specs.State.{State, file_in, name_in}
@@ -10,7 +10,8 @@ use Rattle.vf_serial.specs.Moves.{works}
 use Rattle.vf_serial.specs.Uses.{Standing}
 use Rattle.vf_serial.proofs.Acting.{AreOf, placed_at}
 use Rattle.vf_serial.proofs.Among.{IsAmong, in_either, in_left, in_right}
-use Rattle.vf_serial.proofs.Present.{Item, history_of, items}
+use Rattle.vf_serial.proofs.Led.{at}
+use Rattle.vf_serial.proofs.Present.{Item, history_of, items, stand_by, stands, stands_in}
 
 abbrev pub working_at : Bool → (file : List ℕ) → Regime → (position : ℕ) → List Standing
 working_at true file regime position = placed_at file regime position ∷ []
@@ -32,12 +33,12 @@ working state = flat_map workers (items state.dockets state.parties)
 pub none_works : (history : History) → regime history ≡ None → workers_in history ≡ []
 none_works history none = ap (λ (one : Option Regime). worker_by (position history) one (selection history)) none
 
-pub one_works : (history : History) (opened : Regime) → IsNested history → regime history ≡ Some opened → workers_in history ≡ working_at (works opened.mode) (name_in history) opened (position history)
-one_works history opened nested is =
-    ap (λ (one : Option Regime). worker_by (position history) one (selection history)) is
+pub works_at : (history : History) (opened : Regime) (place : ℕ) → IsNested history → regime history ≡ Some opened → worker_by place (regime history) (selection history) ≡ working_at (works opened.mode) (name_in history) opened place
+works_at history opened place nested is =
+    ap (λ (one : Option Regime). worker_by place one (selection history)) is
     ∙ by (selection history) ((nests history nested).regimes (ap is_some is))
   where
-    by : (one : Option Selection) → IsSome one → worker_by (position history) (Some opened) one ≡ working_at (works opened.mode) (file_in one) opened (position history)
+    by : (one : Option Selection) → IsSome one → worker_by place (Some opened) one ≡ working_at (works opened.mode) (file_in one) opened place
     by None some = absurd cc
     by (Some selection) some = refl
 
@@ -86,3 +87,26 @@ of_equal later all same x there = subst (IsAmong x) same there
 
 pub of_none : (later all : List Standing) → later ≡ [] → AreOf later all
 of_none later all none x there = absurd (subst (IsAmong x) none there)
+
+-- ---- a regime that works stands
+
+worker_stands : (history : History) (x : Standing) → IsAmong x (workers_in history) → IsAmong (at x.file x.regime) (stands_in history)
+worker_stands history x there = by (regime history) (selection history) there
+  where
+    by : (r : Option Regime) (s : Option Selection) → IsAmong x (worker_by (position history) r s) → IsAmong (at x.file x.regime) (stand_by r s)
+    by None s there = absurd there
+    by (Some r) None there = absurd there
+    by (Some r) (Some s) there = which (works r.mode) there
+      where
+        which : (b : Bool) → IsAmong x (working_at b s.file r (position history)) → IsAmong (at x.file x.regime) (at s.file r ∷ [])
+        which false there = absurd there
+        which true (inl same) = inl (λ i. at (same i).file (same i).regime)
+        which true (inr none) = absurd none
+
+pub working_stands : (all : List Item) (x : Standing) → IsAmong x (flat_map workers all) → IsAmong (at x.file x.regime) (flat_map stands all)
+working_stands [] x there = absurd there
+working_stands (item ∷ all) x there =
+    elim (in_either x (workers item) (flat_map workers all) there) [
+      | inl own ↦ in_left (at x.file x.regime) (stands item) (flat_map stands all) (worker_stands (history_of item) x own)
+      | inr later ↦ in_right (at x.file x.regime) (stands item) (flat_map stands all) (working_stands all x later)
+    ]

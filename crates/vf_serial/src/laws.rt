@@ -1,7 +1,7 @@
 //! Laws of the definitions, each the contract of a function that does nothing.
 ghost use Rattle.std.specs.Prelude.{ℕ};
 ghost use Rattle.vf_serial.specs.FileModel.{FilesAreSerial};
-ghost use Rattle.vf_serial.specs.Laws.{RunsAreOrderly};
+ghost use Rattle.vf_serial.specs.Laws.{RunsAreOrderly, RunsAreSerial, RunsPerform};
 ghost use Rattle.vf_serial.specs.Schedule.{Commute, LeavesTheSame, ShowAlike, ShowsTheSame};
 
 /// Operations of any kind on any world: what each leaves and shows, and which are apart.
@@ -44,4 +44,16 @@ pub fn files_are_serial()
 /// holds.
 pub fn runs_are_orderly()
     ensures { RunsAreOrderly }
+{}
+
+/// In every run the operations of each file, performed in their own order, show what was shown, and leave the contents
+/// that the file has.
+pub fn runs_perform()
+    ensures { RunsPerform }
+{}
+
+/// So, of each file all of whose open regimes isolate, each read showed, and the contents are, what its operations give
+/// one regime after another, in the order in which these ceased to hold.
+pub fn runs_are_serial()
+    ensures { RunsAreSerial }
 {}

@@ -5,5 +5,8 @@
 mod laws;
 mod rows;
 
-pub use laws::{Performing, files_are_serial, runs_are_orderly, schedules_are_serial};
+pub use laws::{
+    Performing, files_are_serial, runs_are_orderly, runs_are_serial, runs_perform,
+    schedules_are_serial,
+};
 pub use rows::appends_compute;
