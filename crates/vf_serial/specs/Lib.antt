@@ -1,0 +1,7 @@
+pub mod FileModel
+pub mod Isolating
+pub mod Laws
+pub mod Moves
+pub mod RowsOfAppends
+pub mod Schedule
+pub mod Uses
