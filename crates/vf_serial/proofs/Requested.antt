@@ -26,7 +26,7 @@ use Rattle.vf_filestore.specs.Controls.{content_controls}
 use Rattle.vf_filestore.specs.Decision.{Grants, made_unless, request_decision, wanted_by}
 use Rattle.vf_filestore.specs.Diagnostics.{attribute_unsupported, name_exists, not_permitted, row}
 use Rattle.vf_filestore.specs.Ending.{stamp_of}
-use Rattle.vf_filestore.specs.History.{Given, Nothing, Made, Refused, Showed, Placed, Resumed, History, Regime, Selection, regime, renamed, selection}
+use Rattle.vf_filestore.specs.History.{Given, Nothing, Made, Refused, Showed, Placed, Resumed, Regime, Selection, regime, renamed, selection}
 use Rattle.vf_filestore.specs.Holders.{alone_row, held_files, holders}
 use Rattle.vf_filestore.specs.Performed.{operation}
 use Rattle.vf_filestore.specs.Selecting.{create_rows, is_taken, rename_row}
@@ -60,9 +60,6 @@ use Rattle.vf_serial.proofs.Present.{Item, items, present, stand_by, stands_in, 
 -- the party after it
 abbrev next_of : State → StandingParty → Setting → Message → Given → List Message → StandingParty
 next_of state party setting message given trace = record party { trace = trace; history = concluding_entry state party setting message given ∷ party.history }
-
-nothing_open : (history : History) → regime history ≡ None → stands_in history ≡ []
-nothing_open history none = none_stands history none
 
 -- ---- files by name
 

@@ -1,9 +1,12 @@
 -- Which open regimes isolate (ISO 8571-2, concurrency control; the rule is profile): while one holds, nobody else does
 -- to the file what would change what it reads, or be changed by what it does.
-use Rattle.std.specs.Prelude.{Bool, not, ◌&&◌, ◌||◌}
+use Rattle.std.specs.Prelude.{Bool, not, ◌&&◌, ◌||◌, if◌then◌else◌}
 use Rattle.vf_attr.specs.Access.{has}
 use Rattle.vf_base.specs.declared.action.Action.TheVariants as actions
+use Rattle.vf_base.specs.declared.action.Action.{Action}
 use Rattle.vf_base.specs.declared.action.Actions.{Actions}
+use Rattle.vf_base.specs.declared.action.Control.{Control}
+use Rattle.vf_base.specs.declared.action.Control.TheVariants.{Shared, Exclusive, NoAccess}
 use Rattle.vf_locks.specs.Clash.{is_bar}
 use Rattle.vf_pdu_fields.specs.declared.controls.ContentControls.{ContentControls}
 use Rattle.vf_filestore.specs.Controls.{contents_usable}
@@ -31,3 +34,17 @@ isolates regime =
     contents_usable regime.mode regime.controls
     && (not (may_read regime.mode) || bars_changes regime.controls)
     && (not (may_change regime.mode) || bars_all regime.controls)
+
+-- The controls by which a mode isolates: what is in it is exclusive where it changes the contents, and else shared, and
+-- nobody does what isn't in it.
+abbrev pub isolating_control : Actions → Action → Control
+isolating_control mode action = if has mode action then (if may_change mode then Exclusive else Shared) else NoAccess
+
+abbrev pub isolating_controls : Actions → ContentControls
+isolating_controls mode = record {
+  read = isolating_control mode actions.Read;
+  insert = isolating_control mode actions.Insert;
+  replace = isolating_control mode actions.Replace;
+  extend = isolating_control mode actions.Extend;
+  erase = isolating_control mode actions.Erase;
+}

@@ -9,4 +9,4 @@ pub use laws::{
     Performing, files_are_serial, runs_are_orderly, runs_are_serial, runs_perform,
     schedules_are_serial,
 };
-pub use rows::appends_compute;
+pub use rows::{appends_compute, random_runs_compute};
