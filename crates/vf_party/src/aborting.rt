@@ -1,5 +1,5 @@
 //! What aborts a request before anything else is asked (profile): an abort has no diagnostic, and ends the association.
-ghost use Rattle.std.specs.Prelude.{◌≡◌, ◌&&◌, [], ◌∷◌, nat_le, not};
+ghost use Rattle.std.specs.Prelude.{◌≡◌, ◌+◌, ◌-◌, ◌&&◌, [], ◌∷◌, nat_le, not};
 ghost use Rattle.vf_filestore.specs.Aborts.{abort_where, first_abort, passes_serials as passes_serials_meant};
 ghost use Rattle.vf_filestore.specs.Diagnostics.{numbers_spent, wrong_state};
 ghost use Rattle.vf_filestore.specs.Units.{has_checks as has_checks_meant};
