@@ -6,6 +6,8 @@ ghost use Rattle.vf_stack.specs.declared.indication.Indication.{Indication};
 ghost use Rattle.vf_stack.specs.declared.request.Request.{Request};
 ghost use Rattle.vf_session.specs.declared.units.TokenSide.{TokenSide};
 ghost use Rattle.vf_stack.specs.Association.{Association, end_of};
+ghost use Rattle.vf_stack.specs.Few.{FewTellLast};
+ghost use Rattle.vf_stack.specs.Represents.{Kept};
 ghost use Rattle.vf_stack.specs.Pieces.{AreCut, TellOnce, TellsByOctets, TellsInPieces};
 ghost use Rattle.vf_stack.specs.Examples.{CarriageExamples, ReceivedExamples};
 ghost use Rattle.vf_tpkt.specs.Stream.{reading as stream_read};
@@ -60,4 +62,10 @@ pub fn identifiers_mean_one_context()
 /// agreed, and the token passes without an indication.
 pub fn requests_tell_themselves()
     ensures { (own : TokenSide) (offer far_offer : Bool) (a far : Association) (request : Request) → TellsItself own offer far_offer a far request }
+{}
+
+/// Of at most as many octets as a packet lacks the last alone tells something, or one that ends receiving; those before it
+/// only lengthen the stream.
+pub fn few_octets_tell_last()
+    ensures { (kept : Kept) (a : Association) (octets : List ℕ) → FewTellLast kept a octets }
 {}
