@@ -10,6 +10,8 @@ pub mod SpduLemmas
 pub mod FeedLemmas
 pub mod OnwardLemmas
 pub mod FewLemmas
+pub mod ReadValueLemmas
+pub mod ReadLemmas
 pub mod OutcomeLemmas
 pub mod ToldLemmas
 pub mod SendLemmas

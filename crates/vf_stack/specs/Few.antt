@@ -1,6 +1,6 @@
 -- So few octets that the last of them alone tells something, or one that ends receiving: what is said in between doesn't
 -- depend on the pieces in which they come.
-use Rattle.std.specs.Prelude.{◌≡◌, ◌≤◌, ◌⊎◌, ℕ, Bool, true, false, List, [], ◌∷◌, ◌++◌, length}
+use Rattle.std.specs.Prelude.{◌≡◌, ◌≤◌, ◌⊎◌, ℕ, true, false, List, [], ◌∷◌, ◌++◌, length}
 use Rattle.vf_session.specs.declared.units.TokenSide.{TokenSide}
 use Rattle.vf_stack.specs.Association.{Association, is_ended}
 use Rattle.vf_stack.specs.Receiving.{nothing_fed, octets_received, piece_received}

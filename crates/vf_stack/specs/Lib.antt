@@ -6,6 +6,7 @@ pub mod Carriage
 pub mod Receiving
 pub mod Pieces
 pub mod Few
+pub mod Ranges
 pub mod Represents
 pub mod Examples
 pub mod Requests

@@ -7,6 +7,7 @@ ghost use Rattle.vf_stack.specs.declared.request.Request.{Request};
 ghost use Rattle.vf_session.specs.declared.units.TokenSide.{TokenSide};
 ghost use Rattle.vf_stack.specs.Association.{Association, end_of};
 ghost use Rattle.vf_stack.specs.Few.{FewTellLast};
+ghost use Rattle.vf_stack.specs.Ranges.{TellsRead};
 ghost use Rattle.vf_stack.specs.Represents.{Kept};
 ghost use Rattle.vf_stack.specs.Pieces.{AreCut, TellOnce, TellsByOctets, TellsInPieces};
 ghost use Rattle.vf_stack.specs.Examples.{CarriageExamples, ReceivedExamples};
@@ -68,4 +69,10 @@ pub fn requests_tell_themselves()
 /// only lengthen the stream.
 pub fn few_octets_tell_last()
     ensures { (kept : Kept) (a : Association) (octets : List ℕ) → FewTellLast kept a octets }
+{}
+
+/// What octets tell was read: the PDU of each indication, and its element, have each field in its range (ISO 8571-4), and its
+/// serial number has six digits (ISO 8327).
+pub fn told_was_read()
+    ensures { (own : TokenSide) (a : Association) (octets : List ℕ) → TellsRead own a octets }
 {}
