@@ -19,7 +19,7 @@ use Rattle.vf_filestore.proofs.Soundness.{retains}
 
 -- ---- either way round
 
-abbrev clashes : Control × Control → Bool
+abbrev pub clashes : Control × Control → Bool
 clashes pair = clash pair.0 pair.1
 
 clash_flips : (one other : Control) → clash one other ≡ clash other one
@@ -40,7 +40,7 @@ clash_flips NoAccess Shared = refl
 clash_flips NoAccess Exclusive = refl
 clash_flips NoAccess NoAccess = refl
 
-any_flips : (one other : List Control) → list_any clashes (zip one other) ≡ list_any clashes (zip other one)
+pub any_flips : (one other : List Control) → list_any clashes (zip one other) ≡ list_any clashes (zip other one)
 any_flips [] [] = refl
 any_flips [] (other ∷ others) = refl
 any_flips (one ∷ ones) [] = refl

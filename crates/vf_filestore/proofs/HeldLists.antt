@@ -51,7 +51,7 @@ swapped x y (z ∷ helds) apart = by (stands_before z.holder x.holder) refl (sta
         ∙ sym (λ i. cond (e i) (z ∷ in_order x (in_order y helds)) (x ∷ z ∷ in_order y helds))
     by false e false f rest = neither e f (stands_before x.holder y.holder) (one_before x.holder y.holder apart)
 
-abbrev put_among : List Held → List Held → List Held
+abbrev pub put_among : List Held → List Held → List Held
 put_among ordered helds = fold (λ ordered held. in_order held ordered) ordered helds
 
 put_past : (x : Held) (helds ordered : List Held) → AllByRecursion (IsOther x.holder) helds → put_among (in_order x ordered) helds ≡ in_order x (put_among ordered helds)
@@ -59,13 +59,13 @@ put_past x [] ordered off = refl
 put_past x (y ∷ helds) ordered off = ap (λ ordered. put_among ordered helds) (swapped x y ordered off.0) ∙ put_past x helds (in_order y ordered) off.1
 
 -- one that differs from those after it comes in last
-put_last : (before : List Held) (x : Held) (after ordered : List Held) → AllByRecursion (IsOther x.holder) after → put_among ordered (before ++ x ∷ after) ≡ in_order x (put_among ordered (before ++ after))
+pub put_last : (before : List Held) (x : Held) (after ordered : List Held) → AllByRecursion (IsOther x.holder) after → put_among ordered (before ++ x ∷ after) ≡ in_order x (put_among ordered (before ++ after))
 put_last [] x after ordered off = put_past x after ordered off
 put_last (y ∷ before) x after ordered off = put_last before x after (in_order y ordered) off
 
 -- ---- what holds of all
 
-all_into : (P : Held → Type 0) (x : Held) (helds : List Held) → P x → AllByRecursion P helds → AllByRecursion P (in_order x helds)
+pub all_into : (P : Held → Type 0) (x : Held) (helds : List Held) → P x → AllByRecursion P helds → AllByRecursion P (in_order x helds)
 all_into P x [] here all = (here, tt)
 all_into P x (y ∷ helds) here all = by (stands_before y.holder x.holder) (all_into P x helds here all.1)
   where
@@ -82,7 +82,7 @@ all_ordered P helds all = all_among P helds [] tt all
 
 -- ---- the others, and the controls of one
 
-others_all : (holder : Holder) (helds : List Held) → AllByRecursion (IsOther holder) helds → others holder helds ≡ helds
+pub others_all : (holder : Holder) (helds : List Held) → AllByRecursion (IsOther holder) helds → others holder helds ≡ helds
 others_all holder [] off = refl
 others_all holder (x ∷ helds) off =
     (λ i. cond (not (off.0 i)) (x ∷ others holder helds) (others holder helds)) ∙ ap (λ (list : List Held). x ∷ list) (others_all holder helds off.1)

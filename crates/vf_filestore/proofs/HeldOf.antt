@@ -33,7 +33,7 @@ controls_on file opened (Some one) = cond (bytes_eq one.file file) (Some (contro
 abbrev pub controls_in : History → (file : List ℕ) → Option Controls
 controls_in history file = controls_on file (regime history) (selection history)
 
-held_own : (file : List ℕ) (holder : Holder) (opened : Option Regime) (one : Option Selection) → held_by file holder opened one ≡ own holder (controls_on file opened one)
+pub held_own : (file : List ℕ) (holder : Holder) (opened : Option Regime) (one : Option Selection) → held_by file holder opened one ≡ own holder (controls_on file opened one)
 held_own file holder opened None = refl
 held_own file holder opened (Some one) = by (bytes_eq one.file file)
   where

@@ -20,6 +20,7 @@ pub mod FilesMoved
 pub mod FilesOf
 pub mod HeldAfter
 pub mod HeldCalls
+pub mod RowsHeld
 pub mod HeldClosed
 pub mod HeldGone
 pub mod HeldLists

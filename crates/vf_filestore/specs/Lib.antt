@@ -13,6 +13,7 @@ pub mod Groups
 pub mod History
 pub mod Holders
 pub mod HoldersAfter
+pub mod HoldersOfRows
 pub mod Keeping
 pub mod Laws
 pub mod Limits

@@ -1,5 +1,6 @@
 //! Laws of the definitions, each the contract of a function that does nothing.
 ghost use Rattle.vf_filestore.specs.HoldersAfter.{ArrivalsHold, BreaksHold, CallsFollow, ClosesHold, DropsHold, ItemsHold, MessagesHold, MovesFollow, PartiesHold, TracesHold};
+ghost use Rattle.vf_filestore.specs.HoldersOfRows.{RowsFollow, RowsKeep, RowsStand};
 ghost use Rattle.vf_filestore.specs.Keeping.{BeginsKept, BreaksStayKept, DropsStayKept, FaultsStayKept, KeptIsValid, MessagesStayKept, RunsStayKept, StopsStayKept};
 ghost use Rattle.vf_filestore.specs.Laws.{BeginsSound, BreaksAreSound, BreaksKeep, DifferencesFit, DifferencesLead, DropsAreSound, DropsLead, FaultsAreSound, FaultsKeep, MakesNoChange, MessagesFit, MessagesLead, RunsAreSound, StopsAreSound, StopsBegin, StopsKeep, TransitionsAreSound};
 ghost use Rattle.vf_filestore.specs.Ranges.{BeginsReached, BreaksStayReached, DropsMake, DropsStayReached, FaultsStayReached, MessagesStayReached, ReachedIsKept, ReadMessagesFit, ReadMessagesMake, RunsMake, StopsStayReached};
@@ -168,4 +169,13 @@ pub fn parties_hold()
 pub fn calls_follow()
     ensures calls { CallsFollow }
     ensures moves { MovesFollow }
+{}
+
+/// Where a table has of each file the holders that rows of dockets tell, it has those of one more row once this is granted
+/// its controls on its file. Of the tables that an incarnation begins with each row is granted them after those before it,
+/// and all of them tell the holders of every state that it may begin with.
+pub fn rows_hold()
+    ensures follow { RowsFollow }
+    ensures stand { RowsStand }
+    ensures keep { RowsKeep }
 {}
