@@ -1,7 +1,5 @@
 -- How the holders of each file change with a message that is granted.
-use Rattle.std.proofs.Common.{◌≡◌, ℕ, true, not, List, [], ◌∷◌, ◌++◌, map, nat_eq, option_map, Option, None, Some, refl, ap, sym, subst, ◌∙◌}
-use Rattle.std.specs.Prelude.{IsSome}
-use Rattle.std.specs.List.{AllByRecursion, IsDistinct}
+use Rattle.std.proofs.Common.{◌≡◌, ℕ, true, not, List, [], ◌∷◌, ◌++◌, nat_eq, Option, None, Some, refl, ap, sym, subst, ◌∙◌}
 use Rattle.vf_attr.specs.Access.{has}
 use Rattle.vf_base.specs.declared.action.Action.TheVariants as actions
 use Rattle.vf_elements.specs.Stages.{takes}
@@ -14,11 +12,11 @@ use Rattle.vf_filestore.specs.Conclusion.{concluded, concluding_entry, history_o
 use Rattle.vf_filestore.specs.Controls.{attribute_controls, content_controls}
 use Rattle.vf_filestore.specs.Decision.{Grants, message_decision, request_decision}
 use Rattle.vf_filestore.specs.Diagnostics.{attribute_unsupported, name_exists, not_permitted, row}
-use Rattle.vf_filestore.specs.History.{Given, Nothing, History, Regime, Selection, regime, renamed, selection}
+use Rattle.vf_filestore.specs.History.{Given, Nothing, History, Regime, Selection, selection}
 use Rattle.vf_filestore.specs.Holders.{holders}
 use Rattle.vf_filestore.specs.HoldersAfter.{IsHeldAfter, IsHeldAfterRequest, IsTakenUp, ItemsHold, MessagesHold}
 use Rattle.vf_filestore.specs.Selecting.{is_taken, rename_row}
-use Rattle.vf_filestore.specs.Sound.{IsSound, IsSoundDocket, link_of}
+use Rattle.vf_filestore.specs.Sound.{IsSound, IsSoundDocket}
 use Rattle.vf_filestore.specs.Stage.{pending, regime_stage}
 use Rattle.vf_filestore.specs.State as states
 use Rattle.vf_filestore.specs.State.{State, StandingParty, docket_of, identity_of, is_docket_of, name_in, party_of, requested_in, units_of, with_party}
@@ -28,10 +26,10 @@ use Rattle.vf_filestore.proofs.Concluded.{after_entry, concluded_is}
 use Rattle.vf_filestore.proofs.Decided.{first_passed, later_passed, row_passed, rows_passed}
 use Rattle.vf_filestore.proofs.Decisions.{decided_taken, passed_alone, put_again, trial_taken}
 use Rattle.vf_filestore.proofs.HeldOf.{controls_in, controls_on}
-use Rattle.vf_filestore.proofs.HeldParty.{IsNext, deselected_in, docket_at, is_among, next_party, opened_in, renamed_in, selected_in, stays, taken_up_held}
+use Rattle.vf_filestore.proofs.HeldParty.{deselected_in, docket_at, is_among, opened_in, renamed_in, selected_in, stays, taken_up_held}
 use Rattle.vf_filestore.proofs.Nested.{placed}
 use Rattle.vf_filestore.proofs.Owned.{found_all, placed_request, recovers, within_stage}
-use Rattle.vf_filestore.proofs.Parties.{Located, located}
+use Rattle.vf_filestore.proofs.Parties.{located}
 use Rattle.vf_filestore.proofs.Same.{with_parties, with_trace}
 use Rattle.vf_filestore.proofs.Soundness.{alike_resumed}
 use Rattle.vf_filestore.proofs.Views.{in_association_only}

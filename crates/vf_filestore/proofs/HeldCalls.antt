@@ -1,15 +1,11 @@
 -- What calls make of a table of holders is what becomes of the holders in the state.
-use Rattle.std.proofs.Common.{◌≡◌, ℕ, Bool, true, false, cond, List, [], refl, ap, sym, subst, ◌∙◌}
+use Rattle.std.proofs.Common.{◌≡◌, Bool, true, false, cond, [], refl, ap, sym, ◌∙◌}
 use Rattle.std.specs.Str.{bytes_eq}
-use Rattle.vf_base.specs.declared.action.Controls.{Controls}
 use Rattle.vf_locks.specs.Holders.{granted, others}
-use Rattle.vf_locks.specs.Table as tables
 use Rattle.vf_locks.specs.Table.{held}
-use Rattle.vf_locks.specs.declared.held.Held.{Held}
 use Rattle.vf_locks.specs.declared.holder.Holder.TheVariants.{Party}
 use Rattle.vf_filestore.specs.Holders.{holders}
-use Rattle.vf_filestore.specs.HoldersAfter.{CallsFollow, IsMoved, MovesFollow}
-use Rattle.vf_filestore.specs.State.{State}
+use Rattle.vf_filestore.specs.HoldersAfter.{CallsFollow, MovesFollow}
 use Rattle.vf_filestore.proofs.Filed.{same_name}
 
 pub calls_follow : CallsFollow

@@ -15,7 +15,7 @@ use Rattle.vf_filestore.specs.Controls.{joined, not_opened}
 use Rattle.vf_filestore.specs.History.{History, Regime, Selection, regime, selection}
 use Rattle.vf_filestore.specs.Holders.{controls_by, held_by, held_by_docket, held_by_party, held_in, put_in_order}
 use Rattle.vf_filestore.specs.HoldersAfter.{ClosesHold}
-use Rattle.vf_filestore.specs.Sound.{IsSound, Use, are_clashing, do_clash, use_by, use_in, use_of_docket, use_of_party}
+use Rattle.vf_filestore.specs.Sound.{Use, are_clashing, do_clash, use_by, use_in, use_of_docket, use_of_party}
 use Rattle.vf_filestore.specs.State as states
 use Rattle.vf_filestore.specs.State.{State, StandingParty}
 use Rattle.vf_filestore.proofs.Agreed.{Fits, closed_agreed, rest_of, uses_around}

@@ -4,7 +4,6 @@ use Rattle.std.specs.Prelude.{IsSome, flat_map}
 use Rattle.std.specs.List.{AllByRecursion, IsDistinct}
 use Rattle.std.specs.Str.{bytes_eq}
 use Rattle.std.proofs.lemmas.List.{append_assoc, append-nil}
-use Rattle.vf_elements.specs.declared.message.Message.{Message}
 use Rattle.vf_base.specs.declared.action.Controls.{Controls}
 use Rattle.vf_locks.specs.Holders.{controls_of, others}
 use Rattle.vf_locks.specs.declared.held.Held.{Held}
@@ -12,24 +11,22 @@ use Rattle.vf_locks.specs.declared.holder.Holder.TheVariants.{Party, Docket}
 use Rattle.vf_filestore.specs.Dockets.{docket_by, docket_left_by, dropped, retained}
 use Rattle.vf_filestore.specs.History.{Regime, Selection, regime, selection}
 use Rattle.vf_filestore.specs.Holders.{held_by_docket, held_by_party, holders, put_in_order}
-use Rattle.vf_filestore.specs.HoldersAfter.{ArrivalsHold, BreaksHold, DropsHold, IsAsBefore, IsDropped, IsLeft, IsPassed, IsReleased, IsWith, PartiesHold, TracesHold}
-use Rattle.vf_filestore.specs.Runs.{arrives}
-use Rattle.vf_filestore.specs.Sound.{IsSound, IsSoundDocket, IsSoundParty}
+use Rattle.vf_filestore.specs.HoldersAfter.{ArrivalsHold, BreaksHold, DropsHold, IsAsBefore, IsDropped, IsLeft, IsPassed, IsReleased, PartiesHold, TracesHold}
+use Rattle.vf_filestore.specs.Sound.{IsSound, IsSoundParty}
 use Rattle.vf_filestore.specs.State as states
 use Rattle.vf_filestore.specs.State.{State, StandingParty, activity_in, activity_of, arrived, docket_of, file_in, identity_of, is_docket_of, name_in, party_of, with_party, without_docket}
 use Rattle.vf_filestore.proofs.Agreed.{IsAmong}
 use Rattle.vf_filestore.proofs.Broken.{broken_is}
 use Rattle.vf_filestore.proofs.Decisions.{party_sound}
 use Rattle.vf_filestore.proofs.DocketsMoved.{all_stay, apart, none_asked, other_keys}
-use Rattle.vf_filestore.proofs.HeldLists.{AreSame, Around, IsOther, among, becomes, controls_among, held_around, own, releases}
-use Rattle.vf_filestore.proofs.HeldOf.{around_docket, around_party, controls_in, controls_on, dockets_off, holders_of, in_states, none_held, on_other, on_own, parties_no_docket, with_docket_among, with_party_among, without_docket_among, without_party_among}
-use Rattle.vf_filestore.proofs.HeldParty.{IsNext, docket_at, held_at_docket, held_before, is_among, passed_in, stays}
-use Rattle.vf_filestore.proofs.Lists.{all_append, all_left, all_right, all_weaker, flat_map-append}
+use Rattle.vf_filestore.proofs.HeldLists.{AreSame, Around, IsOther, among, controls_among, held_around, own, releases}
+use Rattle.vf_filestore.proofs.HeldOf.{around_docket, around_party, controls_in, controls_on, holders_of, in_states, on_other, on_own, with_docket_among, with_party_among, without_docket_among, without_party_among}
+use Rattle.vf_filestore.proofs.HeldParty.{docket_at, held_at_docket, held_before, is_among, passed_in}
+use Rattle.vf_filestore.proofs.Lists.{all_append, all_left, all_weaker, flat_map-append}
 use Rattle.vf_filestore.proofs.Nested.{nests}
 use Rattle.vf_filestore.proofs.OrderedRows.{is_same_key, key_flips}
-use Rattle.vf_filestore.proofs.Owned.{found_all}
 use Rattle.vf_filestore.proofs.Parties.{Located, located, with_at}
-use Rattle.vf_filestore.proofs.Same.{with_parties, with_trace}
+use Rattle.vf_filestore.proofs.Same.{with_trace}
 use Rattle.vf_filestore.proofs.Soundness.{IsRetainedAs, retains}
 
 -- ---- traces and arrivals

@@ -1,7 +1,6 @@
 -- Holders put in order: where one stands among others, and what becomes of all of them where it is granted other controls,
 -- goes, or is passed to another.
-use Rattle.std.proofs.Common.{◌≡◌, ℕ, Bool, true, false, cond, not, List, [], ◌∷◌, ◌++◌, find, filter, is_some, Option, None, Some, refl, ap, sym, subst, ◌∙◌}
-use Rattle.std.specs.Prelude.{IsSome}
+use Rattle.std.proofs.Common.{◌≡◌, ℕ, Bool, true, false, cond, not, List, [], ◌∷◌, ◌++◌, find, Option, None, Some, refl, ap, sym, subst, ◌∙◌}
 use Rattle.std.specs.List.{AllByRecursion, fold}
 use Rattle.std.specs.Option.{option_map, option_map_or}
 use Rattle.std.specs.Str.{bytes_eq}

@@ -1,6 +1,6 @@
 -- The holders of a state's files, with one party or one docket among the others.
-use Rattle.std.proofs.Common.{◌≡◌, ℕ, Bool, true, false, cond, ◌&&◌, List, [], ◌∷◌, ◌++◌, nat_eq, Option, None, Some, refl, ap, sym, subst, ◌∙◌}
-use Rattle.std.specs.Prelude.{IfSome, IsSome, flat_map, nat_lt}
+use Rattle.std.proofs.Common.{◌≡◌, ℕ, Bool, true, false, cond, List, [], ◌∷◌, ◌++◌, nat_eq, Option, None, Some, refl, ap, sym, ◌∙◌}
+use Rattle.std.specs.Prelude.{IfSome, flat_map, nat_lt}
 use Rattle.std.specs.List.{AllByRecursion}
 use Rattle.std.specs.Ordering.{is_eq}
 use Rattle.std.specs.Str.{bytes_eq}
@@ -18,7 +18,7 @@ use Rattle.vf_filestore.specs.State as states
 use Rattle.vf_filestore.specs.State.{State, StandingParty, file_in, is_docket_of}
 use Rattle.vf_filestore.proofs.Alone.{IsNotOn}
 use Rattle.vf_filestore.proofs.Filed.{name_itself}
-use Rattle.vf_filestore.proofs.HeldLists.{AreOthers, Around, Becomes, IsOther, among, held_around, own}
+use Rattle.vf_filestore.proofs.HeldLists.{Around, Becomes, IsOther, among, own}
 use Rattle.vf_filestore.proofs.HolderOrder.{same_dockets}
 use Rattle.vf_filestore.proofs.Lists.{all-flat_map, all_append, all_weaker, flat_map-append}
 use Rattle.vf_filestore.proofs.Parties.{IsOff}

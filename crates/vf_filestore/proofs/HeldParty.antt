@@ -1,57 +1,40 @@
 -- How the holders of each file change where one party has another history, or one holder stands in the place of another.
-use Rattle.std.proofs.Common.{◌≡◌, ℕ, Bool, true, false, cond, not, List, [], ◌∷◌, ◌++◌, map, nat_eq, is_some, option_map, Option, None, Some, refl, ap, sym, subst, ◌∙◌}
+use Rattle.std.proofs.Common.{◌≡◌, ℕ, Bool, true, false, cond, List, [], ◌∷◌, ◌++◌, map, nat_eq, is_some, option_map, Option, None, Some, refl, ap, sym, subst, ◌∙◌}
 use Rattle.std.specs.Prelude.{IfSome, IsSome, flat_map}
 use Rattle.std.specs.List.{AllByRecursion, IsDistinct}
 use Rattle.std.specs.Str.{bytes_eq}
 use Rattle.std.proofs.lemmas.Bool.{and_parts, eqb-true}
 use Rattle.std.proofs.lemmas.List.{append_assoc}
-use Rattle.vf_attr.specs.Access.{has}
 use Rattle.vf_attr.specs.declared.file.File.{File}
 use Rattle.vf_base.specs.declared.action.Action.TheVariants as actions
 use Rattle.vf_base.specs.declared.action.Controls.{Controls}
-use Rattle.vf_elements.specs.Stages.{takes}
 use Rattle.vf_elements.specs.declared.message.Message.{Message}
-use Rattle.vf_elements.specs.declared.message.Message.TheVariants as messages
 use Rattle.vf_locks.specs.Holders.{controls_of, granted, others, passed}
 use Rattle.vf_locks.specs.declared.held.Held.{Held}
 use Rattle.vf_locks.specs.declared.holder.Holder.{Holder}
 use Rattle.vf_locks.specs.declared.holder.Holder.TheVariants.{Party, Docket}
-use Rattle.vf_pdu.specs.declared.pdu.Pdu.{Pdu}
-use Rattle.vf_pdu.specs.declared.pdu.Pdu.TheVariants.{SelectRequest, CreateRequest, DeselectRequest, DeleteRequest, ChangeAttribRequest, OpenRequest, CloseRequest, RecoverRequest}
-use Rattle.vf_filestore.specs.Aborts.{Setting}
-use Rattle.vf_filestore.specs.Conclusion.{concluded, concluding_entry, history_of, taken_up}
-use Rattle.vf_filestore.specs.Controls.{attribute_controls, content_controls, joined, not_opened}
-use Rattle.vf_filestore.specs.Decision.{Grants, message_decision, request_decision}
-use Rattle.vf_filestore.specs.Diagnostics.{attribute_unsupported, name_exists, not_permitted, row}
+use Rattle.vf_filestore.specs.Controls.{joined, not_opened}
+use Rattle.vf_filestore.specs.Diagnostics.{row}
 use Rattle.vf_filestore.specs.Dockets.{docket_left_by}
 use Rattle.vf_filestore.specs.Files.{file_named}
-use Rattle.vf_filestore.specs.History.{Given, Nothing, History, Regime, Selection, regime, renamed, selection}
+use Rattle.vf_filestore.specs.History.{History, Regime, Selection, regime, renamed, selection}
 use Rattle.vf_filestore.specs.Holders.{alone_row, controls_by, held_by_docket, held_by_party, holders, opened_controls, put_in_order}
-use Rattle.vf_filestore.specs.HoldersAfter.{IsAsBefore, IsDeselected, IsGranted, IsHeldAfter, IsHeldAfterRequest, IsMoved, IsMovedUnless, IsOpened, IsPassed, IsReleased, IsRenamed, IsTakenUp, ItemsHold, MessagesHold, PartiesHold, TracesHold}
+use Rattle.vf_filestore.specs.HoldersAfter.{IsAsBefore, IsDeselected, IsGranted, IsMoved, IsMovedUnless, IsOpened, IsPassed, IsReleased, IsRenamed}
 use Rattle.vf_filestore.specs.Selecting.{is_taken, rename_row}
 use Rattle.vf_filestore.specs.Sound.{IsSound, IsSoundDocket, IsSoundIn, IsSoundParty, IsThere, link_of}
-use Rattle.vf_filestore.specs.Stage.{pending, regime_stage}
 use Rattle.vf_filestore.specs.State as states
 use Rattle.vf_filestore.specs.State.{State, StandingParty, docket_of, file_in, identity_of, is_docket_of, name_in, party_of, requested_in, units_of, with_party, without_docket}
-use Rattle.vf_filestore.specs.Units.{enhanced_management, unit_row}
 use Rattle.vf_filestore.proofs.Agreed.{IsAmong}
 use Rattle.vf_filestore.proofs.Alone.{IsAlone, IsNotOn, alone}
-use Rattle.vf_filestore.proofs.Concluded.{after_entry, concluded_is}
-use Rattle.vf_filestore.proofs.Decided.{first_passed, later_passed, row_passed, rows_passed}
-use Rattle.vf_filestore.proofs.Decisions.{decided_taken, passed_alone, put_again, trial_taken}
-use Rattle.vf_filestore.proofs.DocketsMoved.{all_stay, apart, found_among, off_key, other_keys, without_found}
+use Rattle.vf_filestore.proofs.DocketsMoved.{apart, found_among, off_key, other_keys, without_found}
 use Rattle.vf_filestore.proofs.Effected.{not_taken}
 use Rattle.vf_filestore.proofs.Filed.{names_flip, same_name}
 use Rattle.vf_filestore.proofs.HeldLists.{AreSame, Around, IsOther, among, controls_among, controls_free, grants, held_around, others_left, own, passes, releases}
 use Rattle.vf_filestore.proofs.HeldOf.{around_docket, around_party, controls_in, controls_on, holders_of, in_states, no_dockets, no_parties, none_held, on_other, on_own, with_docket_among, with_party_among}
 use Rattle.vf_filestore.proofs.Lists.{all_append, all_both, all_left, all_right, all_weaker, flat_map-append}
-use Rattle.vf_filestore.proofs.Nested.{placed}
 use Rattle.vf_filestore.proofs.OrderedRows.{is_same_key}
-use Rattle.vf_filestore.proofs.Owned.{found_all, placed_request, recovers, within_stage}
-use Rattle.vf_filestore.proofs.Parties.{IsOff, Located, located, off_after, with_at}
-use Rattle.vf_filestore.proofs.Same.{with_parties, with_trace}
-use Rattle.vf_filestore.proofs.Soundness.{alike_resumed}
-use Rattle.vf_filestore.proofs.Views.{in_association_only}
+use Rattle.vf_filestore.proofs.Parties.{IsOff, Located, off_after}
+use Rattle.vf_filestore.proofs.Same.{with_parties}
 
 -- ---- where the party stands
 

@@ -1,5 +1,5 @@
 -- The order of holders is a total order.
-use Rattle.std.proofs.Common.{◌≡◌, ℕ, Bool, true, false, ◌&&◌, not, nat_eq, List, refl, ap, sym, ◌∙◌, true≢false}
+use Rattle.std.proofs.Common.{◌≡◌, ℕ, true, false, ◌&&◌, not, nat_eq, List, refl, ap, sym, ◌∙◌, true≢false}
 use Rattle.std.specs.Cmp.{IsTotalOrder, nat_cmp_total, unsigned_ties}
 use Rattle.std.specs.Cmp.Lexicographic.{slice_cmp, lists_total, texts_ties}
 use Rattle.std.specs.Ordering.{is_eq, is_lt, nat_cmp, ordering_reverse, ordering_then}

@@ -21,6 +21,9 @@ pub mod FilesOf
 pub mod HeldAfter
 pub mod HeldCalls
 pub mod RowsHeld
+pub mod Others
+pub mod Counts
+pub mod GivingWay
 pub mod HeldClosed
 pub mod HeldGone
 pub mod HeldLists

@@ -1,5 +1,5 @@
 -- What the rows of dockets tell of the holders of each file.
-use Rattle.std.proofs.Common.{◌≡◌, ℕ, ◌+◌, Bool, true, false, cond, ◌&&◌, ◌||◌, not, List, [], ◌∷◌, ◌++◌, map, nat_eq, Option, None, Some, refl, ap, sym, subst, ◌∙◌}
+use Rattle.std.proofs.Common.{◌≡◌, ℕ, ◌+◌, Bool, true, false, cond, ◌&&◌, not, List, [], ◌∷◌, ◌++◌, map, Option, None, Some, refl, ap, sym, subst, ◌∙◌}
 use Rattle.std.specs.Prelude.{IsSome, flat_map, option_and_then, slice_get}
 use Rattle.std.specs.Option.{option_or}
 use Rattle.vf_base.specs.declared.action.Control.{Control}
@@ -12,9 +12,8 @@ use Rattle.std.proofs.lemmas.List.Sums.{fold-append}
 use Rattle.std.proofs.lemmas.List.Sorted.{IsPermutation-append_comm, IsPermutation-append_left, IsPermutation-refl, IsPermutation-trans}
 use Rattle.std.proofs.lemmas.Map.Keys.{IsDistinct-IsPermutation}
 use Rattle.vf_base.specs.declared.action.Controls.{Controls}
-use Rattle.vf_locks.specs.Clash.{actions, against, conflict, first_against, lowest_clash}
+use Rattle.vf_locks.specs.Clash.{actions, against, first_against, lowest_clash}
 use Rattle.vf_locks.specs.Holders.{granted, in_order as held_in_order, is_same, others}
-use Rattle.vf_locks.specs.Table as table
 use Rattle.vf_locks.specs.Table.{held}
 use Rattle.vf_locks.specs.declared.held.Held.{Held}
 use Rattle.vf_locks.specs.declared.holder.Holder.{Holder}
@@ -22,14 +21,14 @@ use Rattle.vf_locks.specs.declared.holder.Holder.TheVariants as kinds
 use Rattle.vf_tables.specs.declared.docket.Docket as records
 use Rattle.vf_tables.specs.declared.tables.Tables.{Tables}
 use Rattle.vf_filestore.specs.Changes.{is_same_open}
-use Rattle.vf_filestore.specs.History.{Regime, Selection, regime, selection}
+use Rattle.vf_filestore.specs.History.{Selection, regime, selection}
 use Rattle.vf_filestore.specs.Holders.{held_by, held_by_docket, held_by_party, holders, put_in_order}
-use Rattle.vf_filestore.specs.HoldersOfRows.{HoldsRows, RowsFollow, RowsKeep, RowsStand, granted_row, held_by_rows, holder_of}
+use Rattle.vf_filestore.specs.HoldersOfRows.{RowsFollow, RowsKeep, RowsStand, granted_row, held_by_rows, holder_of}
 use Rattle.vf_filestore.specs.Sound.{Begins, IsSound, IsSoundDocket, Standing, Use, are_clashing, do_clash, standing_of_docket, standing_of_party, use_by, use_of_docket, use_of_party}
 use Rattle.vf_filestore.specs.Sound as standings
 use Rattle.vf_filestore.specs.State.{Docket, State, StandingParty, is_docket_of}
 use Rattle.vf_filestore.specs.Dockets.{docket_left_by}
-use Rattle.vf_filestore.specs.Tables.{in_order, number_of_open, row_in, row_of, tables_of}
+use Rattle.vf_filestore.specs.Tables.{in_order, number_of_open, row_in, row_of}
 use Rattle.vf_filestore.specs.Transfers.{under_way}
 use Rattle.vf_filestore.proofs.Clashes.{any_flips, clashes, uses_flip}
 use Rattle.vf_filestore.proofs.Filed.{same_name}

@@ -1,8 +1,7 @@
 -- How the holders of each file change with each thing that happens (ISO 8571-2, concurrency control; profile), in the
 -- words of what is done to the holders of one file: one is granted controls, goes, or is passed to another.
-use Rattle.std.specs.Prelude.{◌≡◌, ℕ, Bool, true, false, List, [], ◌∷◌, Option, None, Some, IsSome, if◌then◌else◌}
+use Rattle.std.specs.Prelude.{◌≡◌, ℕ, Bool, true, false, List, [], Option, None, Some, IsSome, if◌then◌else◌}
 use Rattle.std.specs.Str.{bytes_eq}
-use Rattle.vf_base.specs.declared.action.Actions.{Actions}
 use Rattle.vf_base.specs.declared.action.Controls.{Controls}
 use Rattle.vf_elements.specs.declared.message.Message.{Message}
 use Rattle.vf_elements.specs.declared.message.Message.TheVariants as messages

@@ -14,6 +14,7 @@ pub mod History
 pub mod Holders
 pub mod HoldersAfter
 pub mod HoldersOfRows
+pub mod GivingWay
 pub mod Keeping
 pub mod Laws
 pub mod Limits

@@ -74,6 +74,10 @@ abbrev pub IsReadWhole : Message → Type 0
 IsReadWhole (messages.Restart point) = point ≤ MOST_POINT
 IsReadWhole message = IsRead message
 
+-- so is one of which the F-RESTART was read
+abbrev pub RestartsAreRead : Type 0
+RestartsAreRead = (point : ℕ) → IsRead (messages.Pdu (RestartRequest point)) → IsReadWhole (messages.Restart point)
+
 -- FILES. The attributes that are told of a file are such as their types have.
 pub record IsToldStamp (stamp : Stamp) : Type 0 where
   pub moment : IsMoment stamp.moment

@@ -1,10 +1,11 @@
 //! Laws of the definitions, each the contract of a function that does nothing.
+ghost use Rattle.vf_filestore.specs.GivingWay.{AnswersCount, AnswersFollow, AnswersLeaveOthers, ArrivalsCount, ArrivalsLeaveOthers, ArrivalsStand, BreaksCount, BreaksLeaveNone, BreaksLeaveOthers, OneIsInWay};
 ghost use Rattle.vf_filestore.specs.HoldersAfter.{ArrivalsHold, BreaksHold, CallsFollow, ClosesHold, DropsHold, ItemsHold, MessagesHold, MovesFollow, PartiesHold, TracesHold};
 ghost use Rattle.vf_filestore.specs.HoldersOfRows.{RowsFollow, RowsKeep, RowsStand};
 ghost use Rattle.vf_filestore.specs.Keeping.{BeginsKept, BreaksStayKept, DropsStayKept, FaultsStayKept, KeptIsValid, MessagesStayKept, RunsStayKept, StopsStayKept};
 ghost use Rattle.vf_filestore.specs.Laws.{BeginsSound, BreaksAreSound, BreaksKeep, DifferencesFit, DifferencesLead, DropsAreSound, DropsLead, FaultsAreSound, FaultsKeep, MakesNoChange, MessagesFit, MessagesLead, RunsAreSound, StopsAreSound, StopsBegin, StopsKeep, TransitionsAreSound};
 ghost use Rattle.vf_filestore.specs.Ranges.{BeginsReached, BreaksStayReached, DropsMake, DropsStayReached, FaultsStayReached, MessagesStayReached, ReachedIsKept, ReadMessagesFit, ReadMessagesMake, RunsMake, StopsStayReached};
-ghost use Rattle.vf_filestore.specs.Sayable.{AnswersAreNumbered, BeginsTelling, BreaksGoOnTelling, ChecksAreNumbered, DropsGoOnTelling, FaultsAreSayable, FaultsGoOnTelling, MessagesGoOnTelling, RunsAreSayable, SaidIsSayable, StopsGoOnTelling};
+ghost use Rattle.vf_filestore.specs.Sayable.{AnswersAreNumbered, BeginsTelling, BreaksGoOnTelling, ChecksAreNumbered, DropsGoOnTelling, FaultsAreSayable, FaultsGoOnTelling, MessagesGoOnTelling, RestartsAreRead, RunsAreSayable, SaidIsSayable, StopsGoOnTelling};
 
 /// A filestore whose files have names of their own and are within their limits begins in a sound state.
 pub fn begins_sound()
@@ -110,6 +111,11 @@ pub fn runs_make()
     ensures { RunsMake }
 {}
 
+/// A restart that the session carries, of which the F-RESTART was read, has a point in its range.
+pub fn restarts_are_read()
+    ensures { RestartsAreRead }
+{}
+
 /// All that is sent has a value: each PDU has its fields in their ranges, and each element its string within its limit. So
 /// it is in each state in which it can be, with every message that was read, and by octets that are none.
 pub fn said_is_sayable()
@@ -178,4 +184,29 @@ pub fn rows_hold()
     ensures follow { RowsFollow }
     ensures stand { RowsStand }
     ensures keep { RowsKeep }
+{}
+
+/// The transition by a message is the abort of the association that is in its way, if there is one, and then the answer in
+/// the state without it, which is sound and reached as it was, keeps the same, and has nothing in the way. It is the one
+/// association that has its identity and its activity.
+pub fn answers_follow()
+    ensures follow { AnswersFollow }
+    ensures one { OneIsInWay }
+{}
+
+/// Whatever a party answers, whoever is gone and whoever arrives, the parties of other links stand as they did.
+pub fn others_stand()
+    ensures answers { AnswersLeaveOthers }
+    ensures breaks { BreaksLeaveOthers }
+    ensures arrivals { ArrivalsLeaveOthers }
+{}
+
+/// A link has no party once its association is gone, and a new one once it has arrived; a message's party stands on or is
+/// gone, and so many stand.
+pub fn parties_count()
+    ensures gone { BreaksLeaveNone }
+    ensures arrived { ArrivalsStand }
+    ensures answers { AnswersCount }
+    ensures breaks { BreaksCount }
+    ensures arrivals { ArrivalsCount }
 {}

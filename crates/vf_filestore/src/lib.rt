@@ -9,11 +9,12 @@ mod rows;
 
 pub use creation::NewFile;
 pub use laws::{
-    begins_sound, calls_follow, changes_fit, changes_lead, changes_make, checks_are_numbered,
-    ends_are_sound, ends_hold, ends_keep_tables, messages_hold, parties_hold,
-    reached_tables_are_kept, rows_hold, runs_are_sayable, runs_are_sound, runs_make,
-    said_is_sayable, states_go_on_telling, states_stay_kept, states_stay_reached, stops_begin,
-    tables_are_valid, the_same_makes_no_change, transitions_are_sound,
+    answers_follow, begins_sound, calls_follow, changes_fit, changes_lead, changes_make,
+    checks_are_numbered, ends_are_sound, ends_hold, ends_keep_tables, messages_hold, others_stand,
+    parties_count, parties_hold, reached_tables_are_kept, restarts_are_read, rows_hold,
+    runs_are_sayable, runs_are_sound, runs_make, said_is_sayable, states_go_on_telling,
+    states_stay_kept, states_stay_reached, stops_begin, tables_are_valid, the_same_makes_no_change,
+    transitions_are_sound,
 };
 pub use rows::{
     attributes_compute, changes_compute, controls_compute, groups_compute, opens_compute,
