@@ -15,7 +15,7 @@ ghost use Rattle.vf_tree.specs.Acts.{Erases, does};
 
 use crate::files::file_change;
 use crate::locating::has_access;
-use crate::positions::position_changes;
+use crate::regimes::position_changes;
 use crate::states::OpenRegime;
 use crate::step::{followed_by, one_said};
 use crate::{Open, Said, Step, StepError};

@@ -7,7 +7,7 @@ ghost use Rattle.vf_party_steps.specs.Represents.{IsOpen};
 ghost use Rattle.vf_party_steps.specs.Steps.{IsStep};
 ghost use Rattle.vf_pdu.specs.PduNumbers.{number_of};
 
-use crate::positions::position_changes;
+use crate::regimes::position_changes;
 use crate::states::OpenRegime;
 use crate::step::one_said;
 use crate::{Open, Said, Step, StepError};
