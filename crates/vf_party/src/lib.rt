@@ -3,6 +3,7 @@
 #![tactic(auto)]
 
 mod aborting;
+mod asked;
 mod associated;
 mod attributes;
 mod changing;

@@ -136,7 +136,7 @@ fn take_request(
 }
 
 /// The innermost regime, and how far the write has come.
-fn stage(writing: &Writing) -> Stage
+pub(crate) fn stage(writing: &Writing) -> Stage
     ensures { result ≡ stage_of_writing writing.now }
 {
     if writing.ended.is_some() {

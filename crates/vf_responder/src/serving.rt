@@ -1,0 +1,126 @@
+//! Serving links from one store.
+use crate::error::ServeError;
+use crate::event::{Event, Reply};
+use crate::responder::Responder;
+use std::alloc::Global;
+use vf_base::{LinkEvent, LinkFault, Links, NoMemory};
+use vf_disk::Disk;
+
+/// How much was served; counts stand still at their type's end.
+#[derive(Clone, Copy, Debug, PartialEq, Eq)]
+pub struct Served {
+    /// How many links arrived.
+    pub links: u64,
+    /// How many events there were, arrivals among them.
+    pub events: u64,
+}
+
+/// Serves links from the store on a disk until they are through. What is said to an event is sent once all of it is on the
+/// disk. A send that fails breaks its link alone. The disk is given back.
+pub fn serve<L: Links, D: Disk>(
+    alloc: Global,
+    links: &mut L,
+    disk: D,
+    limit: u64,
+) -> (D, Result<Served, ServeError>) {
+    match Responder::open(alloc, disk, limit) {
+        Ok(responder) => {
+            let mut responder = responder;
+            let served = serve_all(alloc, links, &mut responder);
+            (responder.close(), served)
+        }
+        Err((disk, error)) => (disk, Err(ServeError::Respond(error))),
+    }
+}
+
+fn serve_all<L: Links, D: Disk>(
+    alloc: Global,
+    links: &mut L,
+    responder: &mut Responder<D>,
+) -> Result<Served, ServeError> {
+    let mut piece = Vec::new(alloc);
+    let mut served = Served {
+        links: 0,
+        events: 0,
+    };
+    loop {
+        let event = match links.next(alloc, &mut piece) {
+            Ok(event) => event,
+            Err(LinkFault::Failed) => return Err(ServeError::LinksFault),
+            Err(LinkFault::NoMemory) => return Err(ServeError::NoMemory),
+        };
+        let Some(event) = event_of(event, piece.as_slice()) else {
+            return Ok(served);
+        };
+        served = counted(served, event);
+        round(alloc, links, responder, event)?;
+    }
+}
+
+/// The event of an answer with the octets that came; `None` at the end.
+fn event_of(event: LinkEvent, piece: &[u8]) -> Option<Event<'_>> {
+    match event {
+        LinkEvent::Arrived { link } => Some(Event::Arrived { link }),
+        LinkEvent::Octets { link, moment } => Some(Event::Octets {
+            link,
+            moment,
+            octets: piece,
+        }),
+        LinkEvent::Ended { link } => Some(Event::Ended { link }),
+        LinkEvent::Done => None,
+    }
+}
+
+fn counted(served: Served, event: Event<'_>) -> Served {
+    let arrived = match event {
+        Event::Arrived { .. } => 1,
+        Event::Octets { .. } => 0,
+        Event::Ended { .. } => 0,
+    };
+    Served {
+        links: served.links.saturating_add(arrived),
+        events: served.events.saturating_add(1),
+    }
+}
+
+/// An event, its replies, and the breaks of the links on which a send failed.
+fn round<L: Links, D: Disk>(
+    alloc: Global,
+    links: &mut L,
+    responder: &mut Responder<D>,
+    event: Event<'_>,
+) -> Result<(), ServeError> {
+    let mut replies = Vec::new(alloc);
+    responder.deliver(alloc, event, &mut replies)?;
+    let failed = send_all(alloc, links, replies.as_slice())?;
+    for link in failed.as_slice() {
+        let mut none = Vec::new(alloc);
+        responder.deliver(alloc, Event::Ended { link: *link }, &mut none)?;
+    }
+    Ok(())
+}
+
+/// Sends replies in their order, and tells the links on which a send failed. Nothing more is sent on these.
+fn send_all<L: Links>(
+    alloc: Global,
+    links: &mut L,
+    replies: &[Reply],
+) -> Result<Vec<u32>, NoMemory> {
+    let mut failed = Vec::new(alloc);
+    for reply in replies {
+        send(links, reply, &mut failed)?;
+    }
+    Ok(failed)
+}
+
+/// Sends a reply, unless a send on its link has failed, and shuts the link where that is due.
+fn send<L: Links>(links: &mut L, reply: &Reply, failed: &mut Vec<u32>) -> Result<(), NoMemory> {
+    let is_due = reply.octets.len() > 0 && !failed.contains(&reply.link);
+    if is_due && links.send(reply.link, reply.octets.as_slice()).is_err() {
+        failed.push(reply.link)?;
+    }
+    if reply.shut {
+        links.shut(reply.link);
+    }
+    Ok(())
+}

@@ -1,0 +1,5 @@
+//! Tests of public calls of the responder.
+#![tactic(auto)]
+
+#[cfg(test)]
+mod first;
