@@ -6,8 +6,7 @@ ghost use Rattle.vf_filestore.specs.State.{StandingParty, activity_of};
 ghost use Rattle.vf_filestore.specs.Transfers.{last_check as last_check_meant, under_way};
 ghost use Rattle.vf_party.specs.Turns.{IsParty};
 
-use crate::taking_writing;
-use crate::{Associated, Party, Quiet};
+use crate::{Associated, Party, Quiet, taking_writing};
 use vf_base::Name;
 use vf_elements::Stage;
 

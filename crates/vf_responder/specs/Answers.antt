@@ -15,25 +15,21 @@ use Rattle.vf_stack.specs.Association.{Association, beginning, is_ended}
 use Rattle.vf_stack.specs.Receiving.{piece_received}
 use Rattle.vf_stack.specs.declared.indication.Indication.{Indication}
 use Rattle.vf_stack.specs.declared.indication.Indication.TheVariants as indications
-use Rattle.vf_responder.specs.Meanings.{Meaning, Takes, Faults, Nothing, meaning, sync_of}
+use Rattle.vf_responder.specs.Meanings.{Meaning, Takes, Faults, Nothing, meaning, sync_of, transfer_check}
 use Rattle.vf_responder.specs.Replies.{sending_all}
 use Rattle.vf_responder.specs.Serving.{Serving, stands, with_association}
+use Rattle.vf_responder.specs.declared.event.Reply.{Reply}
 
--- what is spoken on a link, and whether the link is shut after it
-pub record Spoken : Type 0 where
-  pub link : ℕ
-  pub octets : List ℕ
-  pub shut : Bool
-
+-- what is spoken on links, each time with whether the link is shut after it, and the state then
 pub record Answer : Type 0 where
-  pub spoken : List Spoken
+  pub spoken : List Reply
   pub state : Serving
 
 abbrev pub is_silent : List ℕ → Bool
 is_silent [] = true
 is_silent (octet ∷ octets) = false
 
-abbrev pub speaking : (link : ℕ) → List ℕ → (shut : Bool) → List Spoken
+abbrev pub speaking : (link : ℕ) → List ℕ → (shut : Bool) → List Reply
 speaking link octets shut =
     if is_silent octets && not shut then [] else record { link = link; octets = octets; shut = shut } ∷ []
 
@@ -42,7 +38,7 @@ abbrev pub at_end : Serving → List Answer → Serving
 at_end state [] = state
 at_end state (answer ∷ answers) = at_end answer.state answers
 
-abbrev pub spoken_in : List Answer → List Spoken
+abbrev pub spoken_in : List Answer → List Reply
 spoken_in answers = flat_map (λ (answer : Answer). answer.spoken) answers
 
 -- A PARTY SAYS something in answer to an indication. Its link is shut where it is gone.
@@ -74,13 +70,13 @@ abbrev pub in_the_way : State → StandingParty → Meaning → Option StandingP
 in_the_way state party (Takes message) = superseded_by state party message
 in_the_way state party meant = None
 
-abbrev pub giving_way : Indication → Serving → Option StandingParty → List Answer
-giving_way indication serving None = []
-giving_way indication serving (Some other) = says other.link indication serving (aborts serving.filestore other superseded 0) ∷ []
+abbrev pub giving_way : Serving → Option StandingParty → List Answer
+giving_way serving None = []
+giving_way serving (Some other) = says other.link (indications.Abort None) serving (aborts serving.filestore other superseded 0) ∷ []
 
 abbrev pub answering : (moment : ℕ) → Indication → Serving → StandingParty → Meaning → List Answer
 answering moment indication serving party meant =
-    let first = giving_way indication serving (in_the_way serving.filestore party meant) in
+    let first = giving_way serving (in_the_way serving.filestore party meant) in
     let now = at_end serving first in
     let setting = setting_at moment (now.associations party.link) indication in
     first ++ says party.link indication now (given_to now.filestore party setting meant) ∷ []
@@ -90,7 +86,7 @@ abbrev pub answering_on : (moment : ℕ) → Indication → Serving → Option S
 answering_on moment indication serving None = []
 answering_on moment indication serving (Some party) =
     let trace = (serving.associations party.link).exchange.trace in
-    answering moment indication serving party (meaning (next trace) party.history indication)
+    answering moment indication serving party (meaning (next trace) (transfer_check party.history) indication)
 
 abbrev pub told : (moment link : ℕ) → Serving → Indication → List Answer
 told moment link serving indication = answering_on moment indication serving (party_of link serving.filestore.parties)

@@ -3,4 +3,9 @@ pub mod Meanings
 pub mod Replies
 pub mod Answers
 pub mod Run
+pub mod Events
 pub mod Along
+pub mod Represents
+pub mod Steps
+pub mod Served
+pub mod Examples

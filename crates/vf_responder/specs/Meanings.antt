@@ -1,10 +1,11 @@
 -- What an indication of the lower layers is to a party (ISO 8571-4; numbers of checks and of aborts are profile).
-use Rattle.std.specs.Prelude.{ℕ, ◌+◌, ◌-◌, Bool, true, false, ◌&&◌, not, Some, None, Option, is_some, nat_eq, nat_lt, if◌then◌else◌}
+use Rattle.std.specs.Option.{option_map}
+use Rattle.std.specs.Prelude.{ℕ, ◌+◌, ◌-◌, Bool, true, false, ◌&&◌, Some, None, Option, nat_eq, nat_le, nat_lt, if◌then◌else◌}
 use Rattle.vf_elements.specs.declared.message.Message.{Message}
 use Rattle.vf_elements.specs.declared.message.Message.TheVariants as messages
 use Rattle.vf_filestore.specs.Diagnostics.{wrong_state, too_long}
 use Rattle.vf_filestore.specs.History.{History}
-use Rattle.vf_filestore.specs.Transfers.{last_check, under_way}
+use Rattle.vf_filestore.specs.Transfers.{Transfer, last_check, under_way}
 use Rattle.vf_pdu.specs.declared.pdu.Pdu.{Pdu}
 use Rattle.vf_pdu.specs.declared.pdu.Pdu.TheVariants.{RestartRequest}
 use Rattle.vf_stack.specs.declared.indication.FaultName.{FaultName}
@@ -40,36 +41,41 @@ fault_of layers.Ftam name place = Faults outside place
 fault_of layer name place = Faults outside 0
 
 -- CHECKS of a transfer are numbered from 1. The next one, after the last that stands, has in the session the number `next`.
--- An acknowledgement of a number names the check of it; one of an earlier transfer may be below 0, and is none of this.
-abbrev pub acknowledged : (next : ℕ) → History → (serial : ℕ) → Meaning
-acknowledged next history serial =
-    let sum = serial + last_check history + 1 in
-    if nat_lt sum next then Faults wrong_state 0 else Takes (messages.Acknowledge (sum - next))
+abbrev pub transfer_check : History → Option ℕ
+transfer_check history = option_map (λ (transfer : Transfer). last_check history) (under_way history)
 
--- The number of a restart is that of the check after its point.
-abbrev pub is_numbered_so : (next : ℕ) → History → (serial point : ℕ) → Bool
-is_numbered_so next history serial point = nat_eq (serial + last_check history) (next + point)
+-- An acknowledgement of a number names the check of it, of those that were before `next`. One of an earlier transfer is at or
+-- below 0; below 0 it is none of this transfer.
+abbrev pub acknowledged : (next : ℕ) (last : Option ℕ) → (serial : ℕ) → Meaning
+acknowledged next None serial = Faults wrong_state 0
+acknowledged next (Some last) serial =
+    if nat_lt serial next && nat_le next (last + serial + 1) then Takes (messages.Acknowledge ((last + serial + 1) - next)) else Faults wrong_state 0
 
-abbrev pub restarted : (next : ℕ) → History → (serial : ℕ) → Pdu → Meaning
-restarted next history serial (RestartRequest point) =
-    if is_some (under_way history) && not (is_numbered_so next history serial point) then Faults outside 0 else Takes (messages.Restart point)
-restarted next history serial pdu = Nothing
+-- The number of a restart is that of the check after its point. Without a transfer no stage takes it.
+abbrev pub is_numbered_so : (next : ℕ) (last : Option ℕ) → (serial point : ℕ) → Bool
+is_numbered_so next None serial point = true
+is_numbered_so next (Some last) serial point = nat_eq (last + serial) (next + point)
+
+abbrev pub restarted : (next : ℕ) (last : Option ℕ) → (serial : ℕ) → Pdu → Meaning
+restarted next last serial (RestartRequest point) =
+    if is_numbered_so next last serial point then Takes (messages.Restart point) else Faults outside 0
+restarted next last serial pdu = Nothing
 
 -- INDICATIONS, of those that a called end is told. An abort says nothing but that receiving has ended.
 abbrev pub item_of : ItemOf → Message
 item_of (items.Pdu pdu) = messages.Pdu pdu
 item_of (items.Element element) = messages.Element element
 
-abbrev pub meaning : (next : ℕ) → History → Indication → Meaning
-meaning next history (Associate sync pdu) = Takes (messages.Pdu pdu)
-meaning next history (Release pdu) = Takes (messages.Pdu pdu)
-meaning next history (Item item) = Takes (item_of item)
-meaning next history (Check serial) = Takes messages.Check
-meaning next history (Acknowledged serial) = acknowledged next history serial
-meaning next history (Restart serial pdu) = restarted next history serial pdu
-meaning next history (Cancel pdu) = Takes (messages.Pdu pdu)
-meaning next history (Fault layer name place) = fault_of layer name place
-meaning next history indication = Nothing
+abbrev pub meaning : (next : ℕ) (last : Option ℕ) → Indication → Meaning
+meaning next last (Associate sync pdu) = Takes (messages.Pdu pdu)
+meaning next last (Release pdu) = Takes (messages.Pdu pdu)
+meaning next last (Item item) = Takes (item_of item)
+meaning next last (Check serial) = Takes messages.Check
+meaning next last (Acknowledged serial) = acknowledged next last serial
+meaning next last (Restart serial pdu) = restarted next last serial pdu
+meaning next last (Cancel pdu) = Takes (messages.Pdu pdu)
+meaning next last (Fault layer name place) = fault_of layer name place
+meaning next last indication = Nothing
 
 -- whether an association request proposes sync; no other message asks
 abbrev pub sync_of : Indication → Bool

@@ -1,7 +1,20 @@
 //! What is answered to octets, one thing that they tell after the other.
+ghost use Rattle.std.specs.Prelude.{◌≡◌, ◌≤◌, IfOk, OnOk, length};
+ghost use Rattle.vf_responder.specs.Answers.{octets_heard, told, told_all};
+ghost use Rattle.vf_responder.specs.Represents.{AnswerCauses, Does, GivesWay, KeepsAlong, Represents, put_back, with_link};
+ghost use Rattle.vf_responder.specs.Serving.{Serving};
+ghost use Rattle.vf_responder.specs.Steps.{IsAsked, taking};
+ghost use Rattle.vf_disk.specs.Disk.{LeavesOnly};
+ghost use Rattle.vf_store.specs.Commit.{AreFitting};
+ghost use Rattle.vf_store.specs.Represented.{RepresentsEither};
+ghost use Rattle.vf_store.specs.StoreState.{IsRepresented};
+ghost use Rattle.vf_tables.specs.Changes.{after_all};
+ghost use Rattle.vf_tpkt.specs.Wanting.{lacking};
+ghost use Rattle.vf_stack.specs.declared.indication.Indication.{Indication as IndicationMeant};
+
 use crate::event::Reply;
 use crate::link::Link;
-use crate::meaning::{Asked, Meaning, SUPERSEDED, asked, meaning};
+use crate::meaning::{Asked, Meaning, SUPERSEDED, asked_by, meaning_of};
 use crate::replies::speak;
 use crate::responder::Responder;
 use std::alloc::Global;
@@ -44,7 +57,13 @@ impl<D: Disk> Responder<D> {
         moment: Moment,
         octets: &[u8],
         replies: &mut Vec<Reply>,
-    ) -> Result<(), StoreError> {
+    ) -> Result<(), StoreError>
+        ensures answers { OnOk result (Does (λ serving. octets_heard moment number serving octets.now) self.old replies.old.items self.new replies.new.items) }
+        ensures represented { (serving : Serving) → Represents self.old serving → IsRepresented D.shown D.may_leave self.old.store → OnOk result (IsRepresented D.shown D.may_leave self.new.store) }
+        ensures any_moment { KeepsAlong (λ serving. octets_heard moment number serving octets.now) D.shown D.may_leave D.moment D.left_since self.old self.new }
+        ensures causes { AnswerCauses self.old.store.journal.limit (D.fault_count self.old.store.disk) (D.fault_count self.new.store.disk) result }
+        ensures limit { self.new.store.journal.limit ≡ self.old.store.journal.limit }
+    {
         let Some(link) = self.links.swap_remove(&number) else {
             return Ok(());
         };
@@ -63,7 +82,14 @@ impl<D: Disk> Responder<D> {
         moment: Moment,
         octets: &[u8],
         replies: &mut Vec<Reply>,
-    ) -> Result<bool, StoreError> {
+    ) -> Result<bool, StoreError>
+        ensures answers { IfOk result (λ goes. Does (λ serving. octets_heard moment link.old.number serving octets.now) (with_link link.old self.old) replies.old.items (put_back goes link.new self.new) replies.new.items) }
+        ensures represented { (serving : Serving) → Represents (with_link link.old self.old) serving → IsRepresented D.shown D.may_leave self.old.store → OnOk result (IsRepresented D.shown D.may_leave self.new.store) }
+        ensures any_moment { KeepsAlong (λ serving. octets_heard moment link.old.number serving octets.now) D.shown D.may_leave D.moment D.left_since (with_link link.old self.old) self.new }
+        ensures causes { AnswerCauses self.old.store.journal.limit (D.fault_count self.old.store.disk) (D.fault_count self.new.store.disk) result }
+        ensures limit { self.new.store.journal.limit ≡ self.old.store.journal.limit }
+        ensures number { link.new.number ≡ link.old.number }
+    {
         let mut rest = octets;
         while !rest.is_empty() {
             let (front, more) = rest.split_at(link.stack.wanted().min(rest.len()));
@@ -83,7 +109,15 @@ impl<D: Disk> Responder<D> {
         moment: Moment,
         octets: &[u8],
         replies: &mut Vec<Reply>,
-    ) -> Result<bool, StoreError> {
+    ) -> Result<bool, StoreError>
+        requires { length octets.now ≤ lacking link.old.stack.transport.packet }
+        ensures answers { IfOk result (λ goes. Does (λ serving. octets_heard moment link.old.number serving octets.now) (with_link link.old self.old) replies.old.items (put_back goes link.new self.new) replies.new.items) }
+        ensures represented { (serving : Serving) → Represents (with_link link.old self.old) serving → IsRepresented D.shown D.may_leave self.old.store → OnOk result (IsRepresented D.shown D.may_leave self.new.store) }
+        ensures any_moment { KeepsAlong (λ serving. octets_heard moment link.old.number serving octets.now) D.shown D.may_leave D.moment D.left_since (with_link link.old self.old) self.new }
+        ensures causes { AnswerCauses self.old.store.journal.limit (D.fault_count self.old.store.disk) (D.fault_count self.new.store.disk) result }
+        ensures limit { self.new.store.journal.limit ≡ self.old.store.journal.limit }
+        ensures number { link.new.number ≡ link.old.number }
+    {
         let mut indications = Vec::new(alloc);
         let mut answers = Vec::new(alloc);
         link.stack.feed(octets, &mut indications, &mut answers)?;
@@ -105,7 +139,14 @@ impl<D: Disk> Responder<D> {
         moment: Moment,
         indications: Vec<Indication>,
         replies: &mut Vec<Reply>,
-    ) -> Result<bool, StoreError> {
+    ) -> Result<bool, StoreError>
+        ensures answers { IfOk result (λ goes. Does (λ serving. told_all moment link.old.number serving indications.items) (with_link link.old self.old) replies.old.items (put_back goes link.new self.new) replies.new.items) }
+        ensures represented { (serving : Serving) → Represents (with_link link.old self.old) serving → IsRepresented D.shown D.may_leave self.old.store → OnOk result (IsRepresented D.shown D.may_leave self.new.store) }
+        ensures any_moment { KeepsAlong (λ serving. told_all moment link.old.number serving indications.items) D.shown D.may_leave D.moment D.left_since (with_link link.old self.old) self.new }
+        ensures causes { AnswerCauses self.old.store.journal.limit (D.fault_count self.old.store.disk) (D.fault_count self.new.store.disk) result }
+        ensures limit { self.new.store.journal.limit ≡ self.old.store.journal.limit }
+        ensures number { link.new.number ≡ link.old.number }
+    {
         for indication in indications {
             if !self.tell(alloc, link, moment, indication, replies)? {
                 return Ok(false);
@@ -122,10 +163,17 @@ impl<D: Disk> Responder<D> {
         moment: Moment,
         indication: Indication,
         replies: &mut Vec<Reply>,
-    ) -> Result<bool, StoreError> {
-        let asked = asked(&indication);
+    ) -> Result<bool, StoreError>
+        ensures answers { IfOk result (λ goes. Does (λ serving. told moment link.old.number serving indication) (with_link link.old self.old) replies.old.items (put_back goes link.new self.new) replies.new.items) }
+        ensures represented { (serving : Serving) → Represents (with_link link.old self.old) serving → IsRepresented D.shown D.may_leave self.old.store → OnOk result (IsRepresented D.shown D.may_leave self.new.store) }
+        ensures any_moment { KeepsAlong (λ serving. told moment link.old.number serving indication) D.shown D.may_leave D.moment D.left_since (with_link link.old self.old) self.new }
+        ensures causes { AnswerCauses self.old.store.journal.limit (D.fault_count self.old.store.disk) (D.fault_count self.new.store.disk) result }
+        ensures limit { self.new.store.journal.limit ≡ self.old.store.journal.limit }
+        ensures number { link.new.number ≡ link.old.number }
+    {
+        let asked = asked_by(&indication);
         let next = link.stack.next_serial();
-        match meaning(next, link.party.last_check(), indication) {
+        match meaning_of(next, link.party.last_check(), indication) {
             Meaning::Takes(message) => self.take(alloc, link, moment, asked, message, replies),
             Meaning::Faults { number, place } => {
                 let said = abort(alloc, number, place)?;
@@ -145,7 +193,14 @@ impl<D: Disk> Responder<D> {
         asked: Asked,
         message: Message,
         replies: &mut Vec<Reply>,
-    ) -> Result<bool, StoreError> {
+    ) -> Result<bool, StoreError>
+        ensures answers { (indication : IndicationMeant) → IsAsked asked indication → IfOk result (λ goes. Does (λ serving. taking moment link.old.number serving indication message) (with_link link.old self.old) replies.old.items (put_back goes link.new self.new) replies.new.items) }
+        ensures represented { (serving : Serving) → Represents (with_link link.old self.old) serving → (indication : IndicationMeant) → IsAsked asked indication → IsRepresented D.shown D.may_leave self.old.store → OnOk result (IsRepresented D.shown D.may_leave self.new.store) }
+        ensures any_moment { (indication : IndicationMeant) → IsAsked asked indication → KeepsAlong (λ serving. taking moment link.old.number serving indication message) D.shown D.may_leave D.moment D.left_since (with_link link.old self.old) self.new }
+        ensures causes { AnswerCauses self.old.store.journal.limit (D.fault_count self.old.store.disk) (D.fault_count self.new.store.disk) result }
+        ensures limit { self.new.store.journal.limit ≡ self.old.store.journal.limit }
+        ensures number { link.new.number ≡ link.old.number }
+    {
         self.give_way(alloc, link, &message, replies)?;
         let tables = self.store.tables();
         let Outcome {
@@ -159,7 +214,15 @@ impl<D: Disk> Responder<D> {
     }
 
     /// Makes the changes of a message; without any the disk isn't called.
-    fn keep(&mut self, alloc: Global, changes: Changes) -> Result<(), StoreError> {
+    fn keep(&mut self, alloc: Global, changes: Changes) -> Result<(), StoreError>
+        ensures tables { OnOk result (self.new.store.tables ≡ after_all self.old.store.tables changes) }
+        ensures represented { AreFitting self.old.store.tables changes → IsRepresented D.shown D.may_leave self.old.store → OnOk result (IsRepresented D.shown D.may_leave self.new.store) }
+        ensures any_moment { AreFitting self.old.store.tables changes → IsRepresented D.shown D.may_leave self.old.store
+            → LeavesOnly D.moment D.left_since self.old.store.disk self.new.store.disk (RepresentsEither self.old.store.tables (after_all self.old.store.tables changes)) }
+        ensures causes { AnswerCauses self.old.store.journal.limit (D.fault_count self.old.store.disk) (D.fault_count self.new.store.disk) result }
+        ensures rest { (self.new.links ≡ self.old.links) × (self.new.locks ≡ self.old.locks) }
+        ensures limit { self.new.store.journal.limit ≡ self.old.store.journal.limit }
+    {
         if changes.as_slice().is_empty() {
             return Ok(());
         }
@@ -175,7 +238,10 @@ impl<D: Disk> Responder<D> {
         link: &Link,
         message: &Message,
         replies: &mut Vec<Reply>,
-    ) -> Result<(), StoreError> {
+    ) -> Result<(), StoreError>
+        ensures way { OnOk result (GivesWay link.now message.now self.old replies.old.items self.new replies.new.items) }
+        ensures store { self.new.store ≡ self.old.store }
+    {
         let Some(activity) = recovering(link, message) else {
             return Ok(());
         };

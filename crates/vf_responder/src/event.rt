@@ -4,7 +4,9 @@ use vf_base::{Moment, Octets};
 #[derive(Clone, Copy)]
 pub enum Event<'a> {
     /// A new link.
-    Arrived { link: u32 },
+    Arrived {
+        link: u32,
+    },
     /// Octets came, any number of them.
     Octets {
         link: u32,
@@ -12,7 +14,9 @@ pub enum Event<'a> {
         octets: &'a [u8],
     },
     /// The link has ended.
-    Ended { link: u32 },
+    Ended {
+        link: u32,
+    },
 }
 
 /// What is spoken on a link, and whether the link is shut after it. Where nothing is spoken it is shut.

@@ -5,6 +5,7 @@
 mod answering;
 mod error;
 mod event;
+mod laws;
 mod link;
 mod meaning;
 mod opening;
@@ -14,6 +15,7 @@ mod serving;
 
 pub use error::ServeError;
 pub use event::{Event, Reply};
+pub use laws::examples_compute;
 pub use responder::Responder;
 pub use serving::{Served, serve};
 pub use vf_store::StoreError as RespondError;

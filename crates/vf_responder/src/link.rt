@@ -1,4 +1,16 @@
 //! A link that stands.
+ghost use Rattle.std.specs.Prelude.{◌≡◌, IfOk, IfSome, None, OnOk, is_some, not, true};
+ghost use Rattle.vf_filestore.specs.State.{arrived as arrived_meant};
+ghost use Rattle.vf_party.specs.Settings.{setting_of};
+ghost use Rattle.vf_party.specs.Turns.{LeavesParty};
+ghost use Rattle.vf_responder.specs.Answers.{setting_at};
+ghost use Rattle.vf_responder.specs.Replies.{sending_all};
+ghost use Rattle.vf_responder.specs.Represents.{IsLink};
+ghost use Rattle.vf_responder.specs.Steps.{IsAsked, IsCalled, IsSaid, TakesOn};
+ghost use Rattle.vf_stack.specs.Association.{Association, beginning};
+ghost use Rattle.vf_stack.specs.declared.indication.Indication.{Indication};
+ghost use Rattle.vf_stack.specs.declared.indication.Indication.TheVariants as indications;
+
 use crate::event::Reply;
 use crate::meaning::{Asked, PLAIN};
 use crate::replies::{send_all, speak};
@@ -22,7 +34,9 @@ pub(crate) struct Link {
 
 impl Link {
     /// A link that has just arrived.
-    pub(crate) fn arrived(alloc: Global, number: u32) -> Result<Link, NoMemory> {
+    pub(crate) fn arrived(alloc: Global, number: u32) -> Result<Link, NoMemory>
+        ensures { IfOk result (λ link. IsLink number link (arrived_meant number) beginning) }
+    {
         let stack = Stack::called(alloc)?;
         Ok(Link {
             number,
@@ -31,7 +45,11 @@ impl Link {
         })
     }
 
-    fn setting(&self, moment: Moment, asked: Asked) -> Setting {
+    /// What the session says of the moment.
+    fn setting(&self, moment: Moment, asked: Asked) -> Setting
+        ensures { (association : Association) (indication : Indication) → IsCalled self.now.stack association → IsAsked asked indication
+            → setting_of result ≡ setting_at moment association indication }
+    {
         Setting {
             moment,
             serial: self.stack.next_serial(),
@@ -49,7 +67,11 @@ impl Link {
         message: Message,
         tables: &Tables,
         locks: &mut Locks,
-    ) -> Result<Outcome, NoMemory> {
+    ) -> Result<Outcome, NoMemory>
+        ensures taken { IfOk result (TakesOn tables.now locks.old locks.new self.old moment asked message) }
+        ensures stack { self.new.stack ≡ self.old.stack }
+        ensures number { self.new.number ≡ self.old.number }
+    {
         let setting = self.setting(moment, asked);
         let party = mem::replace(&mut self.party, Party::arrived(self.number));
         match party.take(alloc, message, setting, tables, locks) {
@@ -66,7 +88,13 @@ impl Link {
         said: Vec<Said>,
         next: Option<Party>,
         replies: &mut Vec<Reply>,
-    ) -> Result<bool, NoMemory> {
+    ) -> Result<bool, NoMemory>
+        ensures said { OnOk result ((association : Association) (indication : Indication) → IsCalled self.old.stack association → IsAsked asked indication
+            → IsSaid self.old.number (sending_all indication association said.items) (not (is_some next)) replies.old.items self.new.stack replies.new.items) }
+        ensures goes { IfOk result (λ goes. goes ≡ is_some next) }
+        ensures party { OnOk result (IfSome next (λ next. self.new.party ≡ next)) }
+        ensures number { self.new.number ≡ self.old.number }
+    {
         let mut out = Vec::new(alloc);
         send_all(alloc, &mut self.stack, asked, said, &mut out)?;
         speak(self.number, out, next.is_none(), replies)?;
@@ -84,7 +112,11 @@ impl Link {
         said: Vec<Said>,
         locks: &mut Locks,
         replies: &mut Vec<Reply>,
-    ) -> Result<(), NoMemory> {
+    ) -> Result<(), NoMemory>
+        ensures said { OnOk result ((association : Association) → IsCalled self.old.stack association
+            → IsSaid self.old.number (sending_all (indications.Abort None) association said.items) true replies.old.items self.new.stack replies.new.items) }
+        ensures leaves { LeavesParty self.old.party locks.old locks.new }
+    {
         let party = mem::replace(&mut self.party, Party::arrived(self.number));
         party.leave(locks);
         self.say(alloc, PLAIN, said, None, replies)?;

@@ -1,4 +1,8 @@
 //! What an indication of the lower layers is to a party (ISO 8571-4; numbers of checks and of aborts are profile).
+ghost use Rattle.std.specs.Prelude.{◌≡◌};
+ghost use Rattle.vf_responder.specs.Meanings.{acknowledged, fault_of, meaning, restarted};
+ghost use Rattle.vf_responder.specs.Steps.{IsAsked, meant_by};
+
 use vf_elements::Message;
 use vf_pdu::{Boxed, Pdu};
 use vf_stack::{FaultName, Indication, Item, Layer};
@@ -43,7 +47,9 @@ pub(crate) const PLAIN: Asked = Asked {
     serial: 0,
 };
 
-pub(crate) fn asked(indication: &Indication) -> Asked {
+pub(crate) fn asked_by(indication: &Indication) -> Asked
+    ensures { IsAsked result indication.now }
+{
     match indication {
         Indication::Associate { sync, .. } => Asked {
             sync: *sync,
@@ -66,7 +72,9 @@ const fn faults(number: u16, place: u64) -> Meaning {
 }
 
 /// A fault of transport other than of size shuts the link without a word.
-fn meaning_of_fault(layer: Layer, name: FaultName, at: u64) -> Meaning {
+fn meaning_of_fault(layer: Layer, name: FaultName, at: u64) -> Meaning
+    ensures { meant_by result ≡ fault_of layer name at }
+{
     match layer {
         Layer::Transport => match name {
             FaultName::Size => faults(TOO_LONG, 0),
@@ -85,20 +93,29 @@ fn meaning_of_fault(layer: Layer, name: FaultName, at: u64) -> Meaning {
 }
 
 /// The acknowledgement of a number, where the check after the last that stands has the number `next`.
-fn meaning_of_acknowledgement(next: u32, last_check: Option<u32>, serial: u32) -> Meaning {
-    let sum = u64::from(serial) + u64::from(last_check.unwrap_or(0)) + 1;
-    let next = u64::from(next);
-    if sum < next {
-        return faults(WRONG_STATE, 0);
-    }
-    let Ok(point) = u32::try_from(sum - next) else {
+fn meaning_of_acknowledgement(next: u32, last_check: Option<u32>, serial: u32) -> Meaning
+    ensures { meant_by result ≡ acknowledged next last_check serial }
+{
+    let Some(last_check) = last_check else {
         return faults(WRONG_STATE, 0);
     };
-    Meaning::Takes(Message::Acknowledge { point })
+    if serial >= next {
+        return faults(WRONG_STATE, 0);
+    }
+    // How many checks before the next one.
+    let back = next - serial - 1;
+    if back > last_check {
+        return faults(WRONG_STATE, 0);
+    }
+    Meaning::Takes(Message::Acknowledge {
+        point: last_check - back,
+    })
 }
 
 /// A restart whose number isn't that of the check after its point is at fault while a transfer is under way.
-fn meaning_of_restart(next: u32, last_check: Option<u32>, serial: u32, pdu: &Pdu) -> Meaning {
+fn meaning_of_restart(next: u32, last_check: Option<u32>, serial: u32, pdu: &Pdu) -> Meaning
+    ensures { meant_by result ≡ restarted next last_check serial pdu.now }
+{
     let Pdu::RestartRequest { point } = pdu else {
         return Meaning::Nothing;
     };
@@ -117,7 +134,9 @@ fn taken(pdu: Boxed<Pdu>) -> Meaning {
 
 /// What an indication is to a party that has this last check in its transfer, if one is under way, where the next check of
 /// the session has the number `next`.
-pub(crate) fn meaning(next: u32, last_check: Option<u32>, indication: Indication) -> Meaning {
+pub(crate) fn meaning_of(next: u32, last_check: Option<u32>, indication: Indication) -> Meaning
+    ensures { meant_by result ≡ meaning next last_check indication }
+{
     match indication {
         Indication::Associate { pdu, .. } => taken(pdu),
         Indication::Release { pdu } => taken(pdu),

@@ -1,4 +1,11 @@
 //! How what a party says is carried by the lower layers (ISO 8571-4; ISO 8327, checkpoints).
+ghost use Rattle.std.specs.Prelude.{◌≡◌, ◌++◌, IfOk, OnOk};
+ghost use Rattle.vf_responder.specs.Answers.{speaking};
+ghost use Rattle.vf_responder.specs.Replies.{abort_request as abort_meant, pdu_request, request_of as request_meant, sending, sending_all};
+ghost use Rattle.vf_responder.specs.Steps.{IsAsked, IsCalled, Sends};
+ghost use Rattle.vf_stack.specs.Association.{Association};
+ghost use Rattle.vf_stack.specs.declared.indication.Indication.{Indication};
+
 use crate::event::Reply;
 use crate::meaning::Asked;
 use std::alloc::Global;
@@ -8,7 +15,9 @@ use vf_pdu::{Boxed, Pdu};
 use vf_stack::{Item, Request, Stack};
 
 /// The request of a PDU that answers what was asked.
-fn request_of_pdu(alloc: Global, asked: Asked, pdu: Pdu) -> Result<Request, NoMemory> {
+fn request_of_pdu(alloc: Global, asked: Asked, pdu: Pdu) -> Result<Request, NoMemory>
+    ensures { IfOk result (λ request. (indication : Indication) → IsAsked asked indication → request ≡ pdu_request indication pdu) }
+{
     let pdu = Boxed::new(alloc, pdu)?;
     match pdu.value() {
         Pdu::InitializeResponse { diagnostic, .. } => {
@@ -31,12 +40,9 @@ fn request_of_pdu(alloc: Global, asked: Asked, pdu: Pdu) -> Result<Request, NoMe
 }
 
 /// An abort. Of an association that isn't accepted it has no PDU.
-fn abort_request(
-    alloc: Global,
-    stack: &Stack,
-    number: u16,
-    place: u64,
-) -> Result<Request, NoMemory> {
+fn abort_request(alloc: Global, stack: &Stack, number: u16, place: u64) -> Result<Request, NoMemory>
+    ensures { IfOk result (λ request. (association : Association) → IsCalled stack.now association → request ≡ abort_meant association number place) }
+{
     let pdu = Boxed::new(alloc, Pdu::ProviderAbort { number, place })?;
     let request = Request::Abort { pdu: Some(pdu) };
     if stack.may(&request) {
@@ -45,12 +51,10 @@ fn abort_request(
     Ok(Request::Abort { pdu: None })
 }
 
-fn request_of(
-    alloc: Global,
-    stack: &Stack,
-    asked: Asked,
-    said: Said,
-) -> Result<Request, NoMemory> {
+fn request_of(alloc: Global, stack: &Stack, asked: Asked, said: Said) -> Result<Request, NoMemory>
+    ensures { IfOk result (λ request. (association : Association) (indication : Indication) → IsCalled stack.now association → IsAsked asked indication
+        → request ≡ request_meant association indication said) }
+{
     match said {
         Said::Pdu(pdu) => {
             let request = request_of_pdu(alloc, asked, pdu)?;
@@ -77,7 +81,9 @@ fn send(
     stack: &mut Stack,
     request: &Request,
     out: &mut Vec<u8>,
-) -> Result<(), NoMemory> {
+) -> Result<(), NoMemory>
+    ensures { OnOk result ((association : Association) → IsCalled stack.old association → Sends (sending association request.now) out.old.items stack.new out.new.items) }
+{
     if stack.may(request) {
         stack.send(alloc, request, out)?;
         return Ok(());
@@ -95,7 +101,10 @@ pub(crate) fn send_all(
     asked: Asked,
     said: Vec<Said>,
     out: &mut Vec<u8>,
-) -> Result<(), NoMemory> {
+) -> Result<(), NoMemory>
+    ensures { OnOk result ((association : Association) (indication : Indication) → IsCalled stack.old association → IsAsked asked indication
+        → Sends (sending_all indication association said.items) out.old.items stack.new out.new.items) }
+{
     for one in said {
         let request = request_of(alloc, stack, asked, one)?;
         send(alloc, stack, &request, out)?;
@@ -109,7 +118,9 @@ pub(crate) fn speak(
     octets: Vec<u8>,
     shut: bool,
     replies: &mut Vec<Reply>,
-) -> Result<(), NoMemory> {
+) -> Result<(), NoMemory>
+    ensures { OnOk result (replies.new.items ≡ replies.old.items ++ speaking link octets.items shut) }
+{
     if octets.is_empty() && !shut {
         return Ok(());
     }

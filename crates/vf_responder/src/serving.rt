@@ -1,4 +1,12 @@
 //! Serving links from one store.
+ghost use Rattle.std.specs.Prelude.{◌≡◌, ℕ, List, Some};
+ghost use Rattle.vf_base.specs.declared.events.ScriptEvent.{ScriptEvent};
+ghost use Rattle.vf_disk.specs.Disk.{LeavesOnly};
+ghost use Rattle.vf_responder.specs.Served.{ServeCauses, Serves, RepresentsServed, untold};
+ghost use Rattle.vf_responder.specs.Serving.{IsBegun, Serving};
+ghost use Rattle.vf_store.specs.Represented.{Represents as ImageRepresents};
+ghost use Rattle.vf_tables.specs.declared.tables.Tables.{Tables as TablesMeant};
+
 use crate::error::ServeError;
 use crate::event::{Event, Reply};
 use crate::responder::Responder;
@@ -22,7 +30,14 @@ pub fn serve<L: Links, D: Disk>(
     links: &mut L,
     disk: D,
     limit: u64,
-) -> (D, Result<Served, ServeError>) {
+) -> (D, Result<Served, ServeError>)
+    ensures serves { (left : List ScriptEvent) (image : List ℕ) (tables : TablesMeant) (serving : Serving) → L.told links.old ≡ Some (untold left) → D.shown disk ≡ Some image
+        → ImageRepresents image tables → IsBegun tables serving → Serves D.shown D.may_leave serving result.0 result.1 (L.told links.new) }
+    ensures any_moment { (left : List ScriptEvent) (tables : TablesMeant) (serving : Serving) → L.told links.old ≡ Some (untold left)
+        → ((image : List ℕ) → D.may_leave disk image → ImageRepresents image tables) → IsBegun tables serving
+        → LeavesOnly D.moment D.left_since disk result.0 (RepresentsServed serving (L.told links.new)) }
+    ensures causes { ServeCauses (D.fault_count disk) (D.fault_count result.0) (L.fault_count links.old) (L.fault_count links.new) result.1 }
+{
     match Responder::open(alloc, disk, limit) {
         Ok(responder) => {
             let mut responder = responder;
