@@ -93,9 +93,9 @@ impl<D: Disk> Responder<D> {
         event: Event<'_>,
         replies: &mut Vec<Reply>,
     ) -> Result<(), StoreError>
-        ensures answers { OnOk result (Does (trail (event_meant event)) self.old replies.old.items self.new replies.new.items) }
+        ensures answers { OnOk result (Does (trail (event_meant event.entry)) self.old replies.old.items self.new replies.new.items) }
         ensures represented { (serving : Serving) → Represents self.old serving → IsRepresented D.shown D.may_leave self.old.store → OnOk result (IsRepresented D.shown D.may_leave self.new.store) }
-        ensures any_moment { KeepsAlong (trail (event_meant event)) D.shown D.may_leave D.moment D.left_since self.old self.new }
+        ensures any_moment { KeepsAlong (trail (event_meant event.entry)) D.shown D.may_leave D.moment D.left_since self.old self.new }
         ensures causes { AnswerCauses self.old.store.journal.limit (D.fault_count self.old.store.disk) (D.fault_count self.new.store.disk) result }
         ensures limit { self.new.store.journal.limit ≡ self.old.store.journal.limit }
     {

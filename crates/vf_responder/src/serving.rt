@@ -13,6 +13,7 @@ use crate::responder::Responder;
 use std::alloc::Global;
 use vf_base::{LinkEvent, LinkFault, Links, NoMemory};
 use vf_disk::Disk;
+use vf_store::StoreError;
 
 /// How much was served; counts stand still at their type's end.
 #[derive(Clone, Copy, Debug, PartialEq, Eq)]
@@ -64,37 +65,48 @@ fn serve_all<L: Links, D: Disk>(
             Err(LinkFault::Failed) => return Err(ServeError::LinksFault),
             Err(LinkFault::NoMemory) => return Err(ServeError::NoMemory),
         };
-        let Some(event) = event_of(event, piece.as_slice()) else {
+        if event == LinkEvent::Done {
             return Ok(served);
-        };
+        }
         served = counted(served, event);
-        round(alloc, links, responder, event)?;
+        round(alloc, links, responder, event, piece.as_slice())?;
     }
 }
 
-/// The event of an answer with the octets that came; `None` at the end.
-fn event_of(event: LinkEvent, piece: &[u8]) -> Option<Event<'_>> {
-    match event {
-        LinkEvent::Arrived { link } => Some(Event::Arrived { link }),
-        LinkEvent::Octets { link, moment } => Some(Event::Octets {
-            link,
-            moment,
-            octets: piece,
-        }),
-        LinkEvent::Ended { link } => Some(Event::Ended { link }),
-        LinkEvent::Done => None,
-    }
-}
-
-fn counted(served: Served, event: Event<'_>) -> Served {
+fn counted(served: Served, event: LinkEvent) -> Served {
     let arrived = match event {
-        Event::Arrived { .. } => 1,
-        Event::Octets { .. } => 0,
-        Event::Ended { .. } => 0,
+        LinkEvent::Arrived { .. } => 1,
+        LinkEvent::Octets { .. } => 0,
+        LinkEvent::Ended { .. } => 0,
+        LinkEvent::Done => 0,
     };
     Served {
         links: served.links.saturating_add(arrived),
         events: served.events.saturating_add(1),
+    }
+}
+
+/// The responder answers an event of the links, with the octets that came.
+fn answer<D: Disk>(
+    alloc: Global,
+    responder: &mut Responder<D>,
+    event: LinkEvent,
+    piece: &[u8],
+    replies: &mut Vec<Reply>,
+) -> Result<(), StoreError> {
+    match event {
+        LinkEvent::Arrived { link } => responder.deliver(alloc, Event::Arrived { link }, replies),
+        LinkEvent::Octets { link, moment } => responder.deliver(
+            alloc,
+            Event::Octets {
+                link,
+                moment,
+                octets: piece,
+            },
+            replies,
+        ),
+        LinkEvent::Ended { link } => responder.deliver(alloc, Event::Ended { link }, replies),
+        LinkEvent::Done => Ok(()),
     }
 }
 
@@ -103,10 +115,11 @@ fn round<L: Links, D: Disk>(
     alloc: Global,
     links: &mut L,
     responder: &mut Responder<D>,
-    event: Event<'_>,
+    event: LinkEvent,
+    piece: &[u8],
 ) -> Result<(), ServeError> {
     let mut replies = Vec::new(alloc);
-    responder.deliver(alloc, event, &mut replies)?;
+    answer(alloc, responder, event, piece, &mut replies)?;
     let failed = send_all(alloc, links, replies.as_slice())?;
     for link in failed.as_slice() {
         let mut none = Vec::new(alloc);

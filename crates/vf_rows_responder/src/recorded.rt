@@ -81,6 +81,35 @@ fn a_session_is_answered_the_same_in_any_pieces(rt: HostRuntime) -> Result<(), F
     Ok(())
 }
 
+/// What is spoken to octets that come in pieces of 1 to 64 octets, drawn from a seed.
+fn answered_at_random(alloc: Global, octets: &[u8], seed: u32) -> Result<Vec<u8>, Fail> {
+    let disk = created(alloc)?;
+    let mut world = opened(alloc, disk, 0)?;
+    world.act(alloc, "1 listen")?;
+    let mut drawn = seed;
+    let mut rest = octets;
+    while !rest.is_empty() {
+        drawn = (75 * drawn + 74) % 65_537;
+        let length = (drawn % 64) as usize + 1;
+        let (front, more) = rest.split_at(length.min(rest.len()));
+        world.send(alloc, 1, front)?;
+        rest = more;
+    }
+    let peer = world.peer(1)?;
+    copied(alloc, peer.heard.as_slice())
+}
+
+#[test]
+fn a_session_is_answered_the_same_in_pieces_at_random(rt: HostRuntime) -> Result<(), Fail> {
+    let alloc = rt.alloc();
+    let (sent, heard) = recorded(alloc, SESSION)?;
+    for seed in 1..=20 {
+        let answers = answered_at_random(alloc, sent.as_slice(), seed)?;
+        assert!(rt; answers.as_slice() == heard.as_slice());
+    }
+    Ok(())
+}
+
 /// Of a session that is cut at a place and then broken: how many octets were spoken, and how many octets its file has.
 fn broken(alloc: Global, sent: &[u8], heard: &[u8], cut: usize) -> Result<(usize, u64), Fail> {
     let disk = created(alloc)?;
