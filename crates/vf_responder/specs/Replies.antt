@@ -13,6 +13,8 @@ use Rattle.vf_stack.specs.declared.indication.Indication.{Indication}
 use Rattle.vf_stack.specs.declared.indication.Indication.TheVariants as told
 use Rattle.vf_stack.specs.declared.indication.Item.TheVariants as items
 use Rattle.vf_stack.specs.declared.request.Request.{Request}
+use Rattle.vf_tpkt.specs.Sending.{stands}
+use Rattle.vf_tpkt.specs.Stream.{reading}
 use Rattle.vf_stack.specs.declared.request.Request.TheVariants.{Accept, Refuse, Released, Item, Check, Acknowledge, Restarted, Cancelled, Abort}
 use Rattle.vf_responder.specs.Meanings.{sync_of}
 
@@ -44,15 +46,16 @@ request_of association indication (answers.Check point) = Check (next associatio
 request_of association indication (answers.Acknowledge point) = Acknowledge (serial_of indication)
 request_of association indication (answers.Abort number place) = abort_request association number place
 
--- A check is left out where session doesn't permit it: where the initiator took the token back with its restart of a read.
--- Everything else that a party says may be sent.
+-- A check is left out where it may not be sent: where the initiator took the token back with its restart of a read, so that
+-- session doesn't permit it, or transport isn't connected. Everything else that a party says may be sent.
 abbrev pub is_check : Request → Bool
 is_check (Check serial) = true
 is_check request = false
 
 abbrev pub is_permitted : Association → Request → Bool
 is_permitted association request =
-    permits Responder false (state_of Responder association.exchange.trace) (unit_sent Responder association request) association.exchange.ending
+    stands (reading (end_of Responder) association.stream).kept
+    && permits Responder false (state_of Responder association.exchange.trace) (unit_sent Responder association request) association.exchange.ending
 
 abbrev pub is_left_out : Association → Request → Bool
 is_left_out association request = is_check request && not (is_permitted association request)

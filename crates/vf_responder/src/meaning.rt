@@ -1,5 +1,7 @@
 //! What an indication of the lower layers is to a party (ISO 8571-4; numbers of checks and of aborts are profile).
 ghost use Rattle.std.specs.Prelude.{◌≡◌};
+ghost use Rattle.vf_elements.specs.declared.message.Message.TheVariants as messages;
+ghost use Rattle.vf_responder.specs.Meanings as run;
 ghost use Rattle.vf_responder.specs.Meanings.{acknowledged, fault_of, meaning, restarted};
 ghost use Rattle.vf_responder.specs.Steps.{IsAsked, meant_by};
 
@@ -67,7 +69,9 @@ pub(crate) fn asked_by(indication: &Indication) -> Asked
     }
 }
 
-const fn faults(number: u16, place: u64) -> Meaning {
+const fn faults(number: u16, place: u64) -> Meaning
+    ensures { meant_by result ≡ run.Faults number place }
+{
     Meaning::Faults { number, place }
 }
 
@@ -128,7 +132,9 @@ fn meaning_of_restart(next: u32, last_check: Option<u32>, serial: u32, pdu: &Pdu
     Meaning::Takes(Message::Restart { point: *point })
 }
 
-fn taken(pdu: Boxed<Pdu>) -> Meaning {
+fn taken(pdu: Boxed<Pdu>) -> Meaning
+    ensures { meant_by result ≡ run.Takes (messages.Pdu pdu) }
+{
     Meaning::Takes(Message::Pdu(pdu.into_value()))
 }
 

@@ -43,12 +43,11 @@ fn request_of_pdu(alloc: Global, asked: Asked, pdu: Pdu) -> Result<Request, NoMe
 fn abort_request(alloc: Global, stack: &Stack, number: u16, place: u64) -> Result<Request, NoMemory>
     ensures { IfOk result (λ request. (association : Association) → IsCalled stack.now association → request ≡ abort_meant association number place) }
 {
-    let pdu = Boxed::new(alloc, Pdu::ProviderAbort { number, place })?;
-    let request = Request::Abort { pdu: Some(pdu) };
-    if stack.may(&request) {
-        return Ok(request);
+    if !stack.is_accepted() {
+        return Ok(Request::Abort { pdu: None });
     }
-    Ok(Request::Abort { pdu: None })
+    let pdu = Boxed::new(alloc, Pdu::ProviderAbort { number, place })?;
+    Ok(Request::Abort { pdu: Some(pdu) })
 }
 
 fn request_of(alloc: Global, stack: &Stack, asked: Asked, said: Said) -> Result<Request, NoMemory>
