@@ -1,5 +1,5 @@
 -- How what a party says is carried by the lower layers (ISO 8571-4; ISO 8327, checkpoints), and the octets of it.
-use Rattle.std.specs.Prelude.{ℕ, Bool, true, false, ◌&&◌, not, List, [], ◌∷◌, ◌++◌, Option, None, Some, if◌then◌else◌}
+use Rattle.std.specs.Prelude.{ℕ, Bool, false, ◌&&◌, not, List, [], ◌∷◌, ◌++◌, Option, None, Some, if◌then◌else◌}
 use Rattle.vf_base.specs.declared.diagnostic.Diagnostic.{Diagnostic}
 use Rattle.vf_elements.specs.declared.message.Said.{Said}
 use Rattle.vf_elements.specs.declared.message.Said.TheVariants as answers
@@ -48,17 +48,14 @@ request_of association indication (answers.Abort number place) = abort_request a
 
 -- A check is left out where it may not be sent: where the initiator took the token back with its restart of a read, so that
 -- session doesn't permit it, or transport isn't connected. Everything else that a party says may be sent.
-abbrev pub is_check : Request → Bool
-is_check (Check serial) = true
-is_check request = false
-
 abbrev pub is_permitted : Association → Request → Bool
 is_permitted association request =
     stands (reading (end_of Responder) association.stream).kept
     && permits Responder false (state_of Responder association.exchange.trace) (unit_sent Responder association request) association.exchange.ending
 
 abbrev pub is_left_out : Association → Request → Bool
-is_left_out association request = is_check request && not (is_permitted association request)
+is_left_out association (Check serial) = not (is_permitted association (Check serial))
+is_left_out association request = false
 
 -- what was sent, and the association after it
 pub record Outgoing : Type 0 where

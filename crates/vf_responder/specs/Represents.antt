@@ -1,9 +1,16 @@
 -- Which states of the run a responder in the code represents, and what is kept of one (profile).
 use Rattle.std.specs.Prelude.{◌≡◌, ℕ, ◌<◌, Bool, true, false, List, [], ◌∷◌, ◌++◌, None, Option, Some, Result, Ok, Err, length, nat_eq, if◌then◌else◌}
+use Rattle.std.specs.List.{IsDistinct}
+use Rattle.std.specs.Map.{keys_of, lookup}
 use Rattle.vf_base.specs.Faults.{HasRisen}
 use Rattle.vf_disk.specs.Disk.{LeavesOnly}
 use Rattle.vf_elements.specs.declared.message.Message.{Message}
+use Rattle.vf_elements.specs.Stages.{takes}
+use Rattle.vf_elements.specs.declared.message.Message.TheVariants as messages
 use Rattle.vf_filestore.specs.HoldersAfter.{Keeps}
+use Rattle.vf_filestore.specs.Opening.{is_at}
+use Rattle.vf_filestore.specs.Stage.{stage}
+use Rattle.vf_pdu.specs.declared.pdu.Pdu.TheVariants.{RecoverRequest}
 use Rattle.vf_filestore.specs.Transition.{superseded_by}
 use Rattle.vf_filestore.specs.Ranges.{IsReached}
 use Rattle.vf_filestore.specs.State.{StandingParty, party_of}
@@ -28,8 +35,7 @@ pub record Kept (D : Type 0) : Type 0 where
   pub links : List (ℕ × Link)
 
 abbrev pub link_of : (number : ℕ) → List (ℕ × Link) → Option Link
-link_of number [] = None
-link_of number (entry ∷ entries) = if nat_eq entry.0 number then Some entry.1 else link_of number entries
+link_of number entries = lookup (nat_eq number) entries
 
 -- a link in the code is this one of the run: a called end, with its party
 pub record IsLink (number : ℕ) (link : Link) (party : StandingParty) (association : Association) : Type 0 where
@@ -47,6 +53,7 @@ pub record Represents {D : Type 0} (kept : Kept D) (serving : Serving) : Type 0 
   pub held : Keeps kept.locks serving.filestore
   pub links : (number : ℕ) → IsLinkOf number (link_of number kept.links) (party_of number serving.filestore.parties) (serving.associations number)
   pub counted : length kept.links ≡ length serving.filestore.parties
+  pub distinct : IsDistinct nat_eq (keys_of kept.links)
   pub reached : IsReached serving.filestore
 
 -- a link put among the others, and one that was taken out of them put back where it still stands
@@ -85,6 +92,23 @@ disk_of (Err back) = back.0
 abbrev pub answer_of : {D E : Type 0} → Result (Kept D) (D × E) → Result (Kept D) E
 answer_of (Ok kept) = Ok kept
 answer_of (Err back) = Err back.1
+
+-- the activity that a message asks to recover, where the party's stage takes it
+abbrev pub recovered_by : StandingParty → Message → Option ℕ
+recovered_by party (messages.Pdu (RecoverRequest activity number point)) =
+    if takes (stage party) (messages.Pdu (RecoverRequest activity number point)) then Some activity else None
+recovered_by party message = None
+
+-- whether every party that the link's may be has this identity and a recoverable open of this activity
+abbrev pub IsWith : (identity : List ℕ) (activity : ℕ) → Bool → Link → Type 0
+IsWith identity activity answer link = (party : StandingParty) → IsParty link.party party → is_at identity activity party ≡ answer
+
+-- An error stays; putting back alone may lack memory.
+abbrev pub IsErrorOf : Result Bool JournalError → Result (Unit {0}) JournalError → Type 0
+IsErrorOf (Ok goes) (Ok done) = Unit {0}
+IsErrorOf (Ok goes) (Err error) = error ≡ NoMemory
+IsErrorOf (Err error) (Ok done) = ⊥
+IsErrorOf (Err error) (Err other) = other ≡ error
 
 -- CAUSES of what is answered to an event: full exactly by numbers, and a fault of the disk only where its count rose.
 abbrev pub AnswerCauses : {T : Type 0} → (limit before after : ℕ) → Result T JournalError → Type 0

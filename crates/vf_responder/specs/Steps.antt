@@ -2,6 +2,7 @@
 use Rattle.std.specs.Prelude.{◌≡◌, ℕ, Bool, List, [], ◌++◌, Option, None, Some}
 use Rattle.vf_elements.specs.declared.message.Message.{Message}
 use Rattle.vf_filestore.specs.Keeping.{AreHistoriesKept}
+use Rattle.vf_filestore.specs.Ranges.{IsRead}
 use Rattle.vf_filestore.specs.State.{State, StandingParty, party_of}
 use Rattle.vf_party.specs.Steps.{HoldersOfFiles, StandsIn}
 use Rattle.vf_party.specs.Turns.{IsParty, IsTaken}
@@ -30,6 +31,14 @@ meant_by meanings.Nothing = run.Nothing
 pub record IsAsked (asked : Asked) (indication : Indication) : Type 0 where
   pub sync : asked.sync ≡ run.sync_of indication
   pub serial : asked.serial ≡ serial_of indication
+
+-- A message that an indication tells was read, whatever stands.
+abbrev pub IsReadMeaning : run.Meaning → Type 0
+IsReadMeaning (run.Takes message) = IsRead message
+IsReadMeaning meant = Unit {0}
+
+abbrev pub IsReadTold : Indication → Type 0
+IsReadTold indication = (next : ℕ) (last : Option ℕ) → IsReadMeaning (run.meaning next last indication)
 
 -- a called end of this association
 pub record IsCalled (kept : stack.Kept) (association : Association) : Type 0 where

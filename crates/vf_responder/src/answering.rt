@@ -1,9 +1,15 @@
 //! What is answered to octets, one thing that they tell after the other.
-ghost use Rattle.std.specs.Prelude.{◌≡◌, ◌≤◌, IfOk, OnOk, length};
+ghost use Rattle.std.specs.Prelude.{◌≡◌, ◌<◌, ◌≤◌, ◌∷◌, [], ℕ, IfNone, IfOk, IfSome, None, OnOk, Some, false, length, true};
+ghost use Rattle.vf_elements.specs.declared.message.Said.TheVariants as answers;
+ghost use Rattle.std.specs.List.{AllByRecursion};
+ghost use Rattle.vf_filestore.specs.Ranges.{IsRead};
+ghost use Rattle.vf_filestore.specs.State.{StandingParty};
+ghost use Rattle.vf_party.specs.Turns.{IsParty};
 ghost use Rattle.vf_responder.specs.Answers.{octets_heard, told, told_all};
-ghost use Rattle.vf_responder.specs.Represents.{AnswerCauses, Does, GivesWay, KeepsAlong, Represents, put_back, with_link};
+ghost use Rattle.vf_responder.specs.Represents.{AnswerCauses, Does, GivesWay, IsErrorOf, IsWith, KeepsAlong, Represents, link_of, put_back, recovered_by, with_link};
+ghost use Rattle.vf_responder.specs.declared.link.Link.{Link as LinkMeant};
 ghost use Rattle.vf_responder.specs.Serving.{Serving};
-ghost use Rattle.vf_responder.specs.Steps.{IsAsked, taking};
+ghost use Rattle.vf_responder.specs.Steps.{IsAsked, IsReadTold, taking};
 ghost use Rattle.vf_disk.specs.Disk.{LeavesOnly};
 ghost use Rattle.vf_store.specs.Commit.{AreFitting};
 ghost use Rattle.vf_store.specs.Represented.{RepresentsEither};
@@ -16,7 +22,7 @@ use crate::event::Reply;
 use crate::link::Link;
 use crate::meaning::{Asked, Meaning, SUPERSEDED, asked_by, meaning_of};
 use crate::replies::speak;
-use crate::responder::Responder;
+use crate::responder::{Responder, put};
 use std::alloc::Global;
 use vf_base::{Moment, Name, NoMemory};
 use vf_disk::Disk;
@@ -28,14 +34,18 @@ use vf_store::StoreError;
 use vf_tables::Changes;
 
 /// A list of one abort.
-fn abort(alloc: Global, number: u16, place: u64) -> Result<Vec<Said>, NoMemory> {
+fn abort(alloc: Global, number: u16, place: u64) -> Result<Vec<Said>, NoMemory>
+    ensures { IfOk result (λ said. said.items ≡ answers.Abort number place ∷ []) }
+{
     let mut said = Vec::new(alloc);
     said.push(Said::Abort { number, place })?;
     Ok(said)
 }
 
 /// The activity that a message asks to recover, where the link's stage takes it.
-fn recovering(link: &Link, message: &Message) -> Option<u32> {
+fn recovering(link: &Link, message: &Message) -> Option<u32>
+    ensures { (party : StandingParty) → IsParty link.now.party party → result ≡ recovered_by party message.now }
+{
     match message {
         Message::Pdu(Pdu::RecoverRequest { activity, .. }) => {
             if link.party.stage() == Stage::Associated {
@@ -68,10 +78,31 @@ impl<D: Disk> Responder<D> {
             return Ok(());
         };
         let mut link = link;
-        if self.hear_all(alloc, &mut link, moment, octets, replies)? {
-            self.links.insert(number, link)?;
+        let heard = self.hear_all(alloc, &mut link, moment, octets, replies);
+        self.put_back(link, heard)
+    }
+
+    /// A link that was taken out of the others is put back where it goes on.
+    fn put_back(&mut self, link: Link, heard: Result<bool, StoreError>) -> Result<(), StoreError>
+        requires { length self.old.links < 64 }
+        ensures answers { OnOk result (IfOk heard (λ goes. link_of link.number self.old.links ≡ None → self.new.links ≡ (put_back goes link self.old).links)) }
+        ensures rest { (self.new.store ≡ self.old.store) × (self.new.locks ≡ self.old.locks) }
+        ensures error { IsErrorOf heard result }
+    {
+        match heard {
+            Ok(true) => {
+                put(&mut self.links, link)?;
+                Ok(())
+            }
+            Ok(false) => {
+                drop(link);
+                Ok(())
+            }
+            Err(error) => {
+                drop(link);
+                Err(error)
+            }
         }
-        Ok(())
     }
 
     /// Hears octets up to the one with which the link's party is gone. Says whether it goes on.
@@ -89,6 +120,7 @@ impl<D: Disk> Responder<D> {
         ensures causes { AnswerCauses self.old.store.journal.limit (D.fault_count self.old.store.disk) (D.fault_count self.new.store.disk) result }
         ensures limit { self.new.store.journal.limit ≡ self.old.store.journal.limit }
         ensures number { link.new.number ≡ link.old.number }
+        ensures fewer { length self.new.links ≤ length self.old.links }
     {
         let mut rest = octets;
         while !rest.is_empty() {
@@ -117,6 +149,7 @@ impl<D: Disk> Responder<D> {
         ensures causes { AnswerCauses self.old.store.journal.limit (D.fault_count self.old.store.disk) (D.fault_count self.new.store.disk) result }
         ensures limit { self.new.store.journal.limit ≡ self.old.store.journal.limit }
         ensures number { link.new.number ≡ link.old.number }
+        ensures fewer { length self.new.links ≤ length self.old.links }
     {
         let mut indications = Vec::new(alloc);
         let mut answers = Vec::new(alloc);
@@ -140,12 +173,13 @@ impl<D: Disk> Responder<D> {
         indications: Vec<Indication>,
         replies: &mut Vec<Reply>,
     ) -> Result<bool, StoreError>
-        ensures answers { IfOk result (λ goes. Does (λ serving. told_all moment link.old.number serving indications.items) (with_link link.old self.old) replies.old.items (put_back goes link.new self.new) replies.new.items) }
-        ensures represented { (serving : Serving) → Represents (with_link link.old self.old) serving → IsRepresented D.shown D.may_leave self.old.store → OnOk result (IsRepresented D.shown D.may_leave self.new.store) }
-        ensures any_moment { KeepsAlong (λ serving. told_all moment link.old.number serving indications.items) D.shown D.may_leave D.moment D.left_since (with_link link.old self.old) self.new }
+        ensures answers { AllByRecursion IsReadTold indications.items → IfOk result (λ goes. Does (λ serving. told_all moment link.old.number serving indications.items) (with_link link.old self.old) replies.old.items (put_back goes link.new self.new) replies.new.items) }
+        ensures represented { AllByRecursion IsReadTold indications.items → (serving : Serving) → Represents (with_link link.old self.old) serving → IsRepresented D.shown D.may_leave self.old.store → OnOk result (IsRepresented D.shown D.may_leave self.new.store) }
+        ensures any_moment { AllByRecursion IsReadTold indications.items → KeepsAlong (λ serving. told_all moment link.old.number serving indications.items) D.shown D.may_leave D.moment D.left_since (with_link link.old self.old) self.new }
         ensures causes { AnswerCauses self.old.store.journal.limit (D.fault_count self.old.store.disk) (D.fault_count self.new.store.disk) result }
         ensures limit { self.new.store.journal.limit ≡ self.old.store.journal.limit }
         ensures number { link.new.number ≡ link.old.number }
+        ensures fewer { length self.new.links ≤ length self.old.links }
     {
         for indication in indications {
             if !self.tell(alloc, link, moment, indication, replies)? {
@@ -164,12 +198,13 @@ impl<D: Disk> Responder<D> {
         indication: Indication,
         replies: &mut Vec<Reply>,
     ) -> Result<bool, StoreError>
-        ensures answers { IfOk result (λ goes. Does (λ serving. told moment link.old.number serving indication) (with_link link.old self.old) replies.old.items (put_back goes link.new self.new) replies.new.items) }
-        ensures represented { (serving : Serving) → Represents (with_link link.old self.old) serving → IsRepresented D.shown D.may_leave self.old.store → OnOk result (IsRepresented D.shown D.may_leave self.new.store) }
-        ensures any_moment { KeepsAlong (λ serving. told moment link.old.number serving indication) D.shown D.may_leave D.moment D.left_since (with_link link.old self.old) self.new }
+        ensures answers { IsReadTold indication → IfOk result (λ goes. Does (λ serving. told moment link.old.number serving indication) (with_link link.old self.old) replies.old.items (put_back goes link.new self.new) replies.new.items) }
+        ensures represented { IsReadTold indication → (serving : Serving) → Represents (with_link link.old self.old) serving → IsRepresented D.shown D.may_leave self.old.store → OnOk result (IsRepresented D.shown D.may_leave self.new.store) }
+        ensures any_moment { IsReadTold indication → KeepsAlong (λ serving. told moment link.old.number serving indication) D.shown D.may_leave D.moment D.left_since (with_link link.old self.old) self.new }
         ensures causes { AnswerCauses self.old.store.journal.limit (D.fault_count self.old.store.disk) (D.fault_count self.new.store.disk) result }
         ensures limit { self.new.store.journal.limit ≡ self.old.store.journal.limit }
         ensures number { link.new.number ≡ link.old.number }
+        ensures fewer { length self.new.links ≤ length self.old.links }
     {
         let asked = asked_by(&indication);
         let next = link.stack.next_serial();
@@ -194,21 +229,29 @@ impl<D: Disk> Responder<D> {
         message: Message,
         replies: &mut Vec<Reply>,
     ) -> Result<bool, StoreError>
-        ensures answers { (indication : IndicationMeant) → IsAsked asked indication → IfOk result (λ goes. Does (λ serving. taking moment link.old.number serving indication message) (with_link link.old self.old) replies.old.items (put_back goes link.new self.new) replies.new.items) }
-        ensures represented { (serving : Serving) → Represents (with_link link.old self.old) serving → (indication : IndicationMeant) → IsAsked asked indication → IsRepresented D.shown D.may_leave self.old.store → OnOk result (IsRepresented D.shown D.may_leave self.new.store) }
-        ensures any_moment { (indication : IndicationMeant) → IsAsked asked indication → KeepsAlong (λ serving. taking moment link.old.number serving indication message) D.shown D.may_leave D.moment D.left_since (with_link link.old self.old) self.new }
+        ensures answers { (indication : IndicationMeant) → IsRead message → IsAsked asked indication → IfOk result (λ goes. Does (λ serving. taking moment link.old.number serving indication message) (with_link link.old self.old) replies.old.items (put_back goes link.new self.new) replies.new.items) }
+        ensures represented { (serving : Serving) → Represents (with_link link.old self.old) serving → (indication : IndicationMeant) → IsRead message → IsAsked asked indication → IsRepresented D.shown D.may_leave self.old.store → OnOk result (IsRepresented D.shown D.may_leave self.new.store) }
+        ensures any_moment { (indication : IndicationMeant) → IsRead message → IsAsked asked indication → KeepsAlong (λ serving. taking moment link.old.number serving indication message) D.shown D.may_leave D.moment D.left_since (with_link link.old self.old) self.new }
         ensures causes { AnswerCauses self.old.store.journal.limit (D.fault_count self.old.store.disk) (D.fault_count self.new.store.disk) result }
         ensures limit { self.new.store.journal.limit ≡ self.old.store.journal.limit }
         ensures number { link.new.number ≡ link.old.number }
+        ensures fewer { length self.new.links ≤ length self.old.links }
     {
-        self.give_way(alloc, link, &message, replies)?;
+        if self.give_way(alloc, link, &message, replies).is_err() {
+            drop(message);
+            return Err(StoreError::NoMemory);
+        }
         let tables = self.store.tables();
         let Outcome {
             party,
             said,
             changes,
         } = link.turn(alloc, moment, asked, message, tables, &mut self.locks)?;
-        self.keep(alloc, changes)?;
+        if let Err(error) = self.keep(alloc, changes) {
+            drop(party);
+            drop(said);
+            return Err(error);
+        }
         let goes = link.say(alloc, asked, said, party, replies)?;
         Ok(goes)
     }
@@ -238,9 +281,10 @@ impl<D: Disk> Responder<D> {
         link: &Link,
         message: &Message,
         replies: &mut Vec<Reply>,
-    ) -> Result<(), StoreError>
+    ) -> Result<(), NoMemory>
         ensures way { OnOk result (GivesWay link.now message.now self.old replies.old.items self.new replies.new.items) }
         ensures store { self.new.store ≡ self.old.store }
+        ensures fewer { length self.new.links ≤ length self.old.links }
     {
         let Some(activity) = recovering(link, message) else {
             return Ok(());
@@ -251,32 +295,30 @@ impl<D: Disk> Responder<D> {
         let Some(number) = self.link_with(identity, activity) else {
             return Ok(());
         };
+        let said = abort(alloc, SUPERSEDED, 0)?;
         let Some(other) = self.links.swap_remove(&number) else {
             return Ok(());
         };
         let mut other = other;
-        let said = abort(alloc, SUPERSEDED, 0)?;
-        other.leave(alloc, said, &mut self.locks, replies)?;
+        let left = other.leave(alloc, said, &mut self.locks, replies);
+        drop(other);
+        left?;
         Ok(())
     }
 
     /// The number of another link whose party has this identity and a recoverable open of this activity.
-    fn link_with(&self, identity: &Name, activity: u32) -> Option<u32> {
-        for (number, link) in self.links.iter() {
-            if is_with(link, identity, activity) {
+    fn link_with(&self, identity: &Name, activity: u32) -> Option<u32>
+        ensures found { IfSome result (λ number. (link : LinkMeant) × (link_of number self.now.links ≡ Some link) × IsWith identity.now activity true link) }
+        ensures none { IfNone result ((number : ℕ) (link : LinkMeant) → link_of number self.now.links ≡ Some link → IsWith identity.now activity false link) }
+    {
+        for index in 0..self.links.len() {
+            let Some((number, link)) = self.links.get_index(index) else {
+                return None;
+            };
+            if link.party.is_at(identity, activity) {
                 return Some(*number);
             }
         }
         None
-    }
-}
-
-fn is_with(link: &Link, identity: &Name, activity: u32) -> bool {
-    if link.party.activity() != Some(activity) {
-        return false;
-    }
-    match link.party.identity() {
-        Some(found) => found == identity,
-        None => false,
     }
 }

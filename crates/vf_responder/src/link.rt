@@ -76,7 +76,41 @@ impl Link {
         let party = mem::replace(&mut self.party, Party::arrived(self.number));
         match party.take(alloc, message, setting, tables, locks) {
             Ok(outcome) => Ok(outcome),
-            Err(_) => Err(NoMemory),
+            Err(back) => {
+                drop(back);
+                Err(NoMemory)
+            }
+        }
+    }
+
+    /// Speaks what the party says, and shuts the link after it or not.
+    fn speak(
+        &mut self,
+        alloc: Global,
+        asked: Asked,
+        said: Vec<Said>,
+        shut: bool,
+        replies: &mut Vec<Reply>,
+    ) -> Result<(), NoMemory>
+        ensures said { OnOk result ((association : Association) (indication : Indication) → IsCalled self.old.stack association → IsAsked asked indication
+            → IsSaid self.old.number (sending_all indication association said.items) shut replies.old.items self.new.stack replies.new.items) }
+        ensures party { self.new.party ≡ self.old.party }
+        ensures number { self.new.number ≡ self.old.number }
+    {
+        let mut out = Vec::new(alloc);
+        send_all(alloc, &mut self.stack, asked, said, &mut out)?;
+        speak(self.number, out, shut, replies)
+    }
+
+    /// The party after a message, where there is one.
+    fn go_on(&mut self, next: Option<Party>)
+        ensures party { IfSome next (λ next. self.new.party ≡ next) }
+        ensures stack { self.new.stack ≡ self.old.stack }
+        ensures number { self.new.number ≡ self.old.number }
+    {
+        if let Some(party) = next {
+            let before = mem::replace(&mut self.party, party);
+            drop(before);
         }
     }
 
@@ -95,14 +129,11 @@ impl Link {
         ensures party { OnOk result (IfSome next (λ next. self.new.party ≡ next)) }
         ensures number { self.new.number ≡ self.old.number }
     {
-        let mut out = Vec::new(alloc);
-        send_all(alloc, &mut self.stack, asked, said, &mut out)?;
-        speak(self.number, out, next.is_none(), replies)?;
-        let Some(next) = next else {
-            return Ok(false);
-        };
-        self.party = next;
-        Ok(true)
+        let goes = next.is_some();
+        let spoken = self.speak(alloc, asked, said, !goes, replies);
+        self.go_on(next);
+        spoken?;
+        Ok(goes)
     }
 
     /// The party is gone, once this is said, and the link is shut.
@@ -119,7 +150,19 @@ impl Link {
     {
         let party = mem::replace(&mut self.party, Party::arrived(self.number));
         party.leave(locks);
-        self.say(alloc, PLAIN, said, None, replies)?;
-        Ok(())
+        self.speak(alloc, PLAIN, said, true, replies)
+    }
+
+    /// The link has ended, and its party is gone.
+    pub(crate) fn end(self, locks: &mut Locks)
+        ensures { LeavesParty self.party locks.old locks.new }
+    {
+        let Link {
+            number: _,
+            stack,
+            party,
+        } = self;
+        party.leave(locks);
+        drop(stack);
     }
 }

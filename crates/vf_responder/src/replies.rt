@@ -106,7 +106,9 @@ pub(crate) fn send_all(
 {
     for one in said {
         let request = request_of(alloc, stack, asked, one)?;
-        send(alloc, stack, &request, out)?;
+        let sent = send(alloc, stack, &request, out);
+        drop(request);
+        sent?;
     }
     Ok(())
 }

@@ -1,9 +1,11 @@
 //! Many associations over one store.
-ghost use Rattle.std.specs.Prelude.{◌≡◌, ◌<◌, ◌≤◌, ◌++◌, ℕ, List, Some, IfOk, OnOk, length};
+ghost use Rattle.std.specs.Prelude.{◌≡◌, ◌<◌, ◌≤◌, ◌++◌, ◌+◌, ◌∷◌, [], ℕ, List, None, Some, IfOk, OnErr, OnOk, length, nat_eq};
+ghost use Rattle.std.specs.Map.{lookup};
 ghost use Rattle.vf_disk.specs.Disk.{LeavesOnly};
 ghost use Rattle.vf_disk.specs.Plans.{sooner};
 ghost use Rattle.vf_journal.specs.Answers.{OpenCauses};
-ghost use Rattle.vf_responder.specs.Answers.{arrival, ended};
+ghost use Rattle.vf_base.specs.declared.events.ScriptEvent.TheVariants as script;
+ghost use Rattle.vf_responder.specs.declared.event.Reply.{Reply as ReplyMeant};
 ghost use Rattle.vf_responder.specs.Events.{event_meant};
 ghost use Rattle.vf_responder.specs.Represents.{AnswerCauses, Does, KeepsAlong, Represents, answer_of, disk_of};
 ghost use Rattle.vf_responder.specs.Run.{trail};
@@ -52,6 +54,17 @@ impl<D: Disk> Model for Responder<D> {
     } };
 
     ghost invariant = { λ responder. length responder.links.entries ≤ 64 };
+}
+
+/// Puts a link after those that stand, of which none has its number.
+pub(crate) fn put(links: &mut IndexMap<u32, Link>, link: Link) -> Result<(), NoMemory>
+    ensures entries { OnOk result (lookup (nat_eq link.number) links.old.entries ≡ None → links.new.entries ≡ links.old.entries ++ (link.number, link) ∷ []) }
+    ensures length { OnOk result (length links.new.entries ≤ length links.old.entries + 1) }
+    ensures err { OnErr result (length links.new.entries ≤ length links.old.entries) }
+{
+    let before = links.insert(link.number, link)?;
+    drop(before);
+    Ok(())
 }
 
 impl<D: Disk> Responder<D> {
@@ -122,7 +135,10 @@ impl<D: Disk> Responder<D> {
         alloc: Global,
         number: u32,
         replies: &mut Vec<Reply>,
-    ) -> Result<(), NoMemory> {
+    ) -> Result<(), NoMemory>
+        ensures answers { OnOk result (Does (trail (script.Arrived number)) self.old replies.old.items self.new replies.new.items) }
+        ensures store { self.new.store ≡ self.old.store }
+    {
         if self.links.contains_key(&number) {
             return Ok(());
         }
@@ -130,16 +146,18 @@ impl<D: Disk> Responder<D> {
             return speak(number, Vec::new(alloc), true, replies);
         }
         let link = Link::arrived(alloc, number)?;
-        self.links.insert(number, link)?;
-        Ok(())
+        put(&mut self.links, link)
     }
 
     /// A link has ended; its party is gone.
-    fn end(&mut self, number: u32) {
+    fn end(&mut self, number: u32)
+        ensures answers { (replies : List ReplyMeant) → Does (trail (script.Ended number)) self.old replies self.new replies }
+        ensures store { self.new.store ≡ self.old.store }
+    {
         let Some(link) = self.links.swap_remove(&number) else {
             return;
         };
-        link.party.leave(&mut self.locks);
+        link.end(&mut self.locks);
     }
 
     /// The tables.
