@@ -6,3 +6,4 @@ mod StandLemmas
 mod SaysLemmas
 mod TakeLemmas
 mod TellLemmas
+mod StoreLemmas

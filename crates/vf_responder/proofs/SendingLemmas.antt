@@ -112,6 +112,15 @@ pub record IsAlong (indication : Indication) (all : Outgoing) (old : List ℕ) (
   pub octets : new ++ (sending_all indication association rest).octets ≡ old ++ all.octets
   pub after : (sending_all indication association rest).association ≡ all.association
 
+pub along-none : (indication : Indication) (a : Association) (old : List ℕ) (kept : stack.Kept) (all rest : List Said) → IsCalled kept a → rest ≡ all
+    → IsAlong indication (sending_all indication a all) old kept old rest
+along-none indication a old kept all rest called same = record {
+  association = a;
+  called = called;
+  octets = ap (λ (said : List Said). old ++ (sending_all indication a said).octets) same;
+  after = ap (λ (said : List Said). (sending_all indication a said).association) same;
+}
+
 pub along-one : (indication : Indication) (all : Outgoing) (old : List ℕ) (kept kept' : stack.Kept) (mid new : List ℕ) (request : Request) (one : Said) (rest : List Said)
     → (along : IsAlong indication all old kept mid (one ∷ rest)) → request ≡ request_of along.association indication one
     → Sends (sending along.association request) mid kept' new → IsAlong indication all old kept' new rest

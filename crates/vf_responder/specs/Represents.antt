@@ -26,6 +26,7 @@ use Rattle.vf_responder.specs.Answers.{Answer, at_end, giving_way, spoken_in}
 use Rattle.vf_responder.specs.Serving.{Serving}
 use Rattle.vf_responder.specs.Steps.{IsCalled}
 use Rattle.vf_responder.specs.declared.event.Reply.{Reply}
+use Rattle.vf_responder.specs.declared.keeping.Keeping.{Keeping}
 use Rattle.vf_responder.specs.declared.link.Link.{Link}
 
 -- What the code keeps: the store, who holds each file, and the links that stand, each with its number.
@@ -33,6 +34,9 @@ pub record Kept (D : Type 0) : Type 0 where
   pub store : StoreState D
   pub locks : List (List ℕ × List Held)
   pub links : List (ℕ × Link)
+
+abbrev pub kept_of : {D : Type 0} → Keeping D → Kept D
+kept_of keeping = record { store = keeping.store; locks = keeping.locks; links = keeping.links.entries }
 
 abbrev pub link_of : (number : ℕ) → List (ℕ × Link) → Option Link
 link_of number entries = lookup (nat_eq number) entries

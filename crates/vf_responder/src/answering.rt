@@ -1,12 +1,12 @@
 //! What is answered to octets, one thing that they tell after the other.
-ghost use Rattle.std.specs.Prelude.{◌≡◌, ◌<◌, ◌≤◌, ◌∷◌, [], ℕ, IfNone, IfOk, IfSome, None, OnOk, Some, false, length, true};
+ghost use Rattle.std.specs.Prelude.{◌≡◌, ◌+◌, ◌≤◌, ◌∷◌, [], ℕ, IfNone, IfOk, IfSome, None, OnOk, Some, false, length, true};
 ghost use Rattle.vf_elements.specs.declared.message.Said.TheVariants as answers;
 ghost use Rattle.std.specs.List.{AllByRecursion};
 ghost use Rattle.vf_filestore.specs.Ranges.{IsRead};
 ghost use Rattle.vf_filestore.specs.State.{StandingParty};
 ghost use Rattle.vf_party.specs.Turns.{IsParty};
 ghost use Rattle.vf_responder.specs.Answers.{octets_heard, told, told_all};
-ghost use Rattle.vf_responder.specs.Represents.{AnswerCauses, Does, GivesWay, IsErrorOf, IsWith, KeepsAlong, Represents, link_of, put_back, recovered_by, with_link};
+ghost use Rattle.vf_responder.specs.Represents.{AnswerCauses, Does, GivesWay, IsErrorOf, IsWith, KeepsAlong, kept_of, Represents, link_of, put_back, recovered_by, with_link};
 ghost use Rattle.vf_responder.specs.declared.link.Link.{Link as LinkMeant};
 ghost use Rattle.vf_responder.specs.Serving.{Serving};
 ghost use Rattle.vf_responder.specs.Steps.{IsAsked, IsReadTold, taking};
@@ -22,7 +22,7 @@ use crate::event::Reply;
 use crate::link::Link;
 use crate::meaning::{Asked, Meaning, SUPERSEDED, asked_by, meaning_of};
 use crate::replies::speak;
-use crate::responder::{Responder, put};
+use crate::keeping::{Keeping, put};
 use std::alloc::Global;
 use vf_base::{Moment, Name, NoMemory};
 use vf_disk::Disk;
@@ -58,7 +58,7 @@ fn recovering(link: &Link, message: &Message) -> Option<u32>
     }
 }
 
-impl<D: Disk> Responder<D> {
+impl<D: Disk> Keeping<D> {
     /// Octets come on a link. What is said is said before the next of them is heard.
     pub(crate) fn hear(
         &mut self,
@@ -68,11 +68,12 @@ impl<D: Disk> Responder<D> {
         octets: &[u8],
         replies: &mut Vec<Reply>,
     ) -> Result<(), StoreError>
-        ensures answers { OnOk result (Does (λ serving. octets_heard moment number serving octets.now) self.old replies.old.items self.new replies.new.items) }
-        ensures represented { (serving : Serving) → Represents self.old serving → IsRepresented D.shown D.may_leave self.old.store → OnOk result (IsRepresented D.shown D.may_leave self.new.store) }
-        ensures any_moment { KeepsAlong (λ serving. octets_heard moment number serving octets.now) D.shown D.may_leave D.moment D.left_since self.old self.new }
+        ensures answers { OnOk result (Does (λ serving. octets_heard moment number serving octets.now) (kept_of self.old) replies.old.items (kept_of self.new) replies.new.items) }
+        ensures represented { (serving : Serving) → Represents (kept_of self.old) serving → IsRepresented D.shown D.may_leave self.old.store → OnOk result (IsRepresented D.shown D.may_leave self.new.store) }
+        ensures any_moment { KeepsAlong (λ serving. octets_heard moment number serving octets.now) D.shown D.may_leave D.moment D.left_since (kept_of self.old) (kept_of self.new) }
         ensures causes { AnswerCauses self.old.store.journal.limit (D.fault_count self.old.store.disk) (D.fault_count self.new.store.disk) result }
         ensures limit { self.new.store.journal.limit ≡ self.old.store.journal.limit }
+        ensures bound { length self.old.links.entries ≤ 64 → length self.new.links.entries ≤ 64 }
     {
         let Some(link) = self.links.swap_remove(&number) else {
             return Ok(());
@@ -84,10 +85,10 @@ impl<D: Disk> Responder<D> {
 
     /// A link that was taken out of the others is put back where it goes on.
     fn put_back(&mut self, link: Link, heard: Result<bool, StoreError>) -> Result<(), StoreError>
-        requires { length self.old.links < 64 }
-        ensures answers { OnOk result (IfOk heard (λ goes. link_of link.number self.old.links ≡ None → self.new.links ≡ (put_back goes link self.old).links)) }
+        ensures answers { OnOk result (IfOk heard (λ goes. link_of link.number self.old.links.entries ≡ None → self.new.links.entries ≡ (put_back goes link (kept_of self.old)).links)) }
         ensures rest { (self.new.store ≡ self.old.store) × (self.new.locks ≡ self.old.locks) }
         ensures error { IsErrorOf heard result }
+        ensures length { length self.new.links.entries ≤ length self.old.links.entries + 1 }
     {
         match heard {
             Ok(true) => {
@@ -114,13 +115,13 @@ impl<D: Disk> Responder<D> {
         octets: &[u8],
         replies: &mut Vec<Reply>,
     ) -> Result<bool, StoreError>
-        ensures answers { IfOk result (λ goes. Does (λ serving. octets_heard moment link.old.number serving octets.now) (with_link link.old self.old) replies.old.items (put_back goes link.new self.new) replies.new.items) }
-        ensures represented { (serving : Serving) → Represents (with_link link.old self.old) serving → IsRepresented D.shown D.may_leave self.old.store → OnOk result (IsRepresented D.shown D.may_leave self.new.store) }
-        ensures any_moment { KeepsAlong (λ serving. octets_heard moment link.old.number serving octets.now) D.shown D.may_leave D.moment D.left_since (with_link link.old self.old) self.new }
+        ensures answers { IfOk result (λ goes. Does (λ serving. octets_heard moment link.old.number serving octets.now) (with_link link.old (kept_of self.old)) replies.old.items (put_back goes link.new (kept_of self.new)) replies.new.items) }
+        ensures represented { (serving : Serving) → Represents (with_link link.old (kept_of self.old)) serving → IsRepresented D.shown D.may_leave self.old.store → OnOk result (IsRepresented D.shown D.may_leave self.new.store) }
+        ensures any_moment { KeepsAlong (λ serving. octets_heard moment link.old.number serving octets.now) D.shown D.may_leave D.moment D.left_since (with_link link.old (kept_of self.old)) (kept_of self.new) }
         ensures causes { AnswerCauses self.old.store.journal.limit (D.fault_count self.old.store.disk) (D.fault_count self.new.store.disk) result }
         ensures limit { self.new.store.journal.limit ≡ self.old.store.journal.limit }
         ensures number { link.new.number ≡ link.old.number }
-        ensures fewer { length self.new.links ≤ length self.old.links }
+        ensures fewer { length self.new.links.entries ≤ length self.old.links.entries }
     {
         let mut rest = octets;
         while !rest.is_empty() {
@@ -143,13 +144,13 @@ impl<D: Disk> Responder<D> {
         replies: &mut Vec<Reply>,
     ) -> Result<bool, StoreError>
         requires { length octets.now ≤ lacking link.old.stack.transport.packet }
-        ensures answers { IfOk result (λ goes. Does (λ serving. octets_heard moment link.old.number serving octets.now) (with_link link.old self.old) replies.old.items (put_back goes link.new self.new) replies.new.items) }
-        ensures represented { (serving : Serving) → Represents (with_link link.old self.old) serving → IsRepresented D.shown D.may_leave self.old.store → OnOk result (IsRepresented D.shown D.may_leave self.new.store) }
-        ensures any_moment { KeepsAlong (λ serving. octets_heard moment link.old.number serving octets.now) D.shown D.may_leave D.moment D.left_since (with_link link.old self.old) self.new }
+        ensures answers { IfOk result (λ goes. Does (λ serving. octets_heard moment link.old.number serving octets.now) (with_link link.old (kept_of self.old)) replies.old.items (put_back goes link.new (kept_of self.new)) replies.new.items) }
+        ensures represented { (serving : Serving) → Represents (with_link link.old (kept_of self.old)) serving → IsRepresented D.shown D.may_leave self.old.store → OnOk result (IsRepresented D.shown D.may_leave self.new.store) }
+        ensures any_moment { KeepsAlong (λ serving. octets_heard moment link.old.number serving octets.now) D.shown D.may_leave D.moment D.left_since (with_link link.old (kept_of self.old)) (kept_of self.new) }
         ensures causes { AnswerCauses self.old.store.journal.limit (D.fault_count self.old.store.disk) (D.fault_count self.new.store.disk) result }
         ensures limit { self.new.store.journal.limit ≡ self.old.store.journal.limit }
         ensures number { link.new.number ≡ link.old.number }
-        ensures fewer { length self.new.links ≤ length self.old.links }
+        ensures fewer { length self.new.links.entries ≤ length self.old.links.entries }
     {
         let mut indications = Vec::new(alloc);
         let mut answers = Vec::new(alloc);
@@ -173,13 +174,13 @@ impl<D: Disk> Responder<D> {
         indications: Vec<Indication>,
         replies: &mut Vec<Reply>,
     ) -> Result<bool, StoreError>
-        ensures answers { AllByRecursion IsReadTold indications.items → IfOk result (λ goes. Does (λ serving. told_all moment link.old.number serving indications.items) (with_link link.old self.old) replies.old.items (put_back goes link.new self.new) replies.new.items) }
-        ensures represented { AllByRecursion IsReadTold indications.items → (serving : Serving) → Represents (with_link link.old self.old) serving → IsRepresented D.shown D.may_leave self.old.store → OnOk result (IsRepresented D.shown D.may_leave self.new.store) }
-        ensures any_moment { AllByRecursion IsReadTold indications.items → KeepsAlong (λ serving. told_all moment link.old.number serving indications.items) D.shown D.may_leave D.moment D.left_since (with_link link.old self.old) self.new }
+        ensures answers { AllByRecursion IsReadTold indications.items → IfOk result (λ goes. Does (λ serving. told_all moment link.old.number serving indications.items) (with_link link.old (kept_of self.old)) replies.old.items (put_back goes link.new (kept_of self.new)) replies.new.items) }
+        ensures represented { AllByRecursion IsReadTold indications.items → (serving : Serving) → Represents (with_link link.old (kept_of self.old)) serving → IsRepresented D.shown D.may_leave self.old.store → OnOk result (IsRepresented D.shown D.may_leave self.new.store) }
+        ensures any_moment { AllByRecursion IsReadTold indications.items → KeepsAlong (λ serving. told_all moment link.old.number serving indications.items) D.shown D.may_leave D.moment D.left_since (with_link link.old (kept_of self.old)) (kept_of self.new) }
         ensures causes { AnswerCauses self.old.store.journal.limit (D.fault_count self.old.store.disk) (D.fault_count self.new.store.disk) result }
         ensures limit { self.new.store.journal.limit ≡ self.old.store.journal.limit }
         ensures number { link.new.number ≡ link.old.number }
-        ensures fewer { length self.new.links ≤ length self.old.links }
+        ensures fewer { length self.new.links.entries ≤ length self.old.links.entries }
     {
         for indication in indications {
             if !self.tell(alloc, link, moment, indication, replies)? {
@@ -198,13 +199,13 @@ impl<D: Disk> Responder<D> {
         indication: Indication,
         replies: &mut Vec<Reply>,
     ) -> Result<bool, StoreError>
-        ensures answers { IsReadTold indication → IfOk result (λ goes. Does (λ serving. told moment link.old.number serving indication) (with_link link.old self.old) replies.old.items (put_back goes link.new self.new) replies.new.items) }
-        ensures represented { IsReadTold indication → (serving : Serving) → Represents (with_link link.old self.old) serving → IsRepresented D.shown D.may_leave self.old.store → OnOk result (IsRepresented D.shown D.may_leave self.new.store) }
-        ensures any_moment { IsReadTold indication → KeepsAlong (λ serving. told moment link.old.number serving indication) D.shown D.may_leave D.moment D.left_since (with_link link.old self.old) self.new }
+        ensures answers { IsReadTold indication → IfOk result (λ goes. Does (λ serving. told moment link.old.number serving indication) (with_link link.old (kept_of self.old)) replies.old.items (put_back goes link.new (kept_of self.new)) replies.new.items) }
+        ensures represented { IsReadTold indication → (serving : Serving) → Represents (with_link link.old (kept_of self.old)) serving → IsRepresented D.shown D.may_leave self.old.store → OnOk result (IsRepresented D.shown D.may_leave self.new.store) }
+        ensures any_moment { IsReadTold indication → KeepsAlong (λ serving. told moment link.old.number serving indication) D.shown D.may_leave D.moment D.left_since (with_link link.old (kept_of self.old)) (kept_of self.new) }
         ensures causes { AnswerCauses self.old.store.journal.limit (D.fault_count self.old.store.disk) (D.fault_count self.new.store.disk) result }
         ensures limit { self.new.store.journal.limit ≡ self.old.store.journal.limit }
         ensures number { link.new.number ≡ link.old.number }
-        ensures fewer { length self.new.links ≤ length self.old.links }
+        ensures fewer { length self.new.links.entries ≤ length self.old.links.entries }
     {
         let asked = asked_by(&indication);
         let next = link.stack.next_serial();
@@ -229,13 +230,13 @@ impl<D: Disk> Responder<D> {
         message: Message,
         replies: &mut Vec<Reply>,
     ) -> Result<bool, StoreError>
-        ensures answers { (indication : IndicationMeant) → IsRead message → IsAsked asked indication → IfOk result (λ goes. Does (λ serving. taking moment link.old.number serving indication message) (with_link link.old self.old) replies.old.items (put_back goes link.new self.new) replies.new.items) }
-        ensures represented { (serving : Serving) → Represents (with_link link.old self.old) serving → (indication : IndicationMeant) → IsRead message → IsAsked asked indication → IsRepresented D.shown D.may_leave self.old.store → OnOk result (IsRepresented D.shown D.may_leave self.new.store) }
-        ensures any_moment { (indication : IndicationMeant) → IsRead message → IsAsked asked indication → KeepsAlong (λ serving. taking moment link.old.number serving indication message) D.shown D.may_leave D.moment D.left_since (with_link link.old self.old) self.new }
+        ensures answers { (indication : IndicationMeant) → IsRead message → IsAsked asked indication → IfOk result (λ goes. Does (λ serving. taking moment link.old.number serving indication message) (with_link link.old (kept_of self.old)) replies.old.items (put_back goes link.new (kept_of self.new)) replies.new.items) }
+        ensures represented { (serving : Serving) → Represents (with_link link.old (kept_of self.old)) serving → (indication : IndicationMeant) → IsRead message → IsAsked asked indication → IsRepresented D.shown D.may_leave self.old.store → OnOk result (IsRepresented D.shown D.may_leave self.new.store) }
+        ensures any_moment { (indication : IndicationMeant) → IsRead message → IsAsked asked indication → KeepsAlong (λ serving. taking moment link.old.number serving indication message) D.shown D.may_leave D.moment D.left_since (with_link link.old (kept_of self.old)) (kept_of self.new) }
         ensures causes { AnswerCauses self.old.store.journal.limit (D.fault_count self.old.store.disk) (D.fault_count self.new.store.disk) result }
         ensures limit { self.new.store.journal.limit ≡ self.old.store.journal.limit }
         ensures number { link.new.number ≡ link.old.number }
-        ensures fewer { length self.new.links ≤ length self.old.links }
+        ensures fewer { length self.new.links.entries ≤ length self.old.links.entries }
     {
         if self.give_way(alloc, link, &message, replies).is_err() {
             drop(message);
@@ -269,8 +270,7 @@ impl<D: Disk> Responder<D> {
         if changes.as_slice().is_empty() {
             return Ok(());
         }
-        self.store.commit(alloc, changes)?;
-        Ok(())
+        self.store.commit(alloc, changes)
     }
 
     /// An association that stands with the identity and the activity that a recovery asks for is told so on its own link,
@@ -282,9 +282,9 @@ impl<D: Disk> Responder<D> {
         message: &Message,
         replies: &mut Vec<Reply>,
     ) -> Result<(), NoMemory>
-        ensures way { OnOk result (GivesWay link.now message.now self.old replies.old.items self.new replies.new.items) }
+        ensures way { OnOk result (GivesWay link.now message.now (kept_of self.old) replies.old.items (kept_of self.new) replies.new.items) }
         ensures store { self.new.store ≡ self.old.store }
-        ensures fewer { length self.new.links ≤ length self.old.links }
+        ensures fewer { length self.new.links.entries ≤ length self.old.links.entries }
     {
         let Some(activity) = recovering(link, message) else {
             return Ok(());
@@ -308,8 +308,8 @@ impl<D: Disk> Responder<D> {
 
     /// The number of another link whose party has this identity and a recoverable open of this activity.
     fn link_with(&self, identity: &Name, activity: u32) -> Option<u32>
-        ensures found { IfSome result (λ number. (link : LinkMeant) × (link_of number self.now.links ≡ Some link) × IsWith identity.now activity true link) }
-        ensures none { IfNone result ((number : ℕ) (link : LinkMeant) → link_of number self.now.links ≡ Some link → IsWith identity.now activity false link) }
+        ensures found { IfSome result (λ number. (link : LinkMeant) × (link_of number self.now.links.entries ≡ Some link) × IsWith identity.now activity true link) }
+        ensures none { IfNone result ((number : ℕ) (link : LinkMeant) → link_of number self.now.links.entries ≡ Some link → IsWith identity.now activity false link) }
     {
         for index in 0..self.links.len() {
             let Some((number, link)) = self.links.get_index(index) else {

@@ -5,6 +5,7 @@
 mod answering;
 mod error;
 mod event;
+mod keeping;
 mod laws;
 mod link;
 mod meaning;

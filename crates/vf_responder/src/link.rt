@@ -99,7 +99,8 @@ impl Link {
     {
         let mut out = Vec::new(alloc);
         send_all(alloc, &mut self.stack, asked, said, &mut out)?;
-        speak(self.number, out, shut, replies)
+        speak(self.number, out, shut, replies)?;
+        Ok(())
     }
 
     /// The party after a message, where there is one.
@@ -150,7 +151,8 @@ impl Link {
     {
         let party = mem::replace(&mut self.party, Party::arrived(self.number));
         party.leave(locks);
-        self.speak(alloc, PLAIN, said, true, replies)
+        self.speak(alloc, PLAIN, said, true, replies)?;
+        Ok(())
     }
 
     /// The link has ended, and its party is gone.

@@ -16,55 +16,31 @@ ghost use Rattle.vf_store.specs.StoreState.{IsRepresented};
 ghost use Rattle.vf_tables.specs.declared.tables.Tables.{Tables as TablesMeant};
 
 use crate::event::{Event, Reply};
-use crate::link::Link;
+use crate::keeping::Keeping;
 use crate::opening::holders_of;
-use crate::replies::speak;
 use indexmap::IndexMap;
 use std::alloc::Global;
 use std::marker::Model;
-use vf_base::NoMemory;
 use vf_disk::{Disk, MemoryDisk};
-use vf_locks::Locks;
 use vf_store::{Store, StoreError};
 use vf_tables::Tables;
-
-/// So many links stand at most.
-const MOST_LINKS: usize = 64;
 
 /// Associations on links, over a store of which they all take part. Each message is on the disk before the next one is
 /// taken. After an error it is only to be closed.
 #[derive(Drop)]
 pub struct Responder<D: Disk> {
-    pub(crate) store: Store<D>,
-    pub(crate) locks: Locks,
-    /// Those that stand, by their numbers. The one whose octets are heard is taken out meanwhile.
-    pub(crate) links: IndexMap<u32, Link>,
+    kept: Keeping<D>,
 }
 
 impl<D: Disk> Model for Responder<D> {
     ghost use Rattle.std.specs.Prelude.{◌≤◌, length};
-    ghost use Rattle.vf_responder.specs.Represents.{Kept};
+    ghost use Rattle.vf_responder.specs.Represents.{Kept, kept_of};
 
     ghost Value = { Kept D };
 
-    ghost view = { λ responder. record {
-      store = responder.store;
-      locks = responder.locks;
-      links = responder.links.entries;
-    } };
+    ghost view = { λ responder. kept_of responder.kept };
 
-    ghost invariant = { λ responder. length responder.links.entries ≤ 64 };
-}
-
-/// Puts a link after those that stand, of which none has its number.
-pub(crate) fn put(links: &mut IndexMap<u32, Link>, link: Link) -> Result<(), NoMemory>
-    ensures entries { OnOk result (lookup (nat_eq link.number) links.old.entries ≡ None → links.new.entries ≡ links.old.entries ++ (link.number, link) ∷ []) }
-    ensures length { OnOk result (length links.new.entries ≤ length links.old.entries + 1) }
-    ensures err { OnErr result (length links.new.entries ≤ length links.old.entries) }
-{
-    let before = links.insert(link.number, link)?;
-    drop(before);
-    Ok(())
+    ghost invariant = { λ responder. length responder.kept.links.entries ≤ 64 };
 }
 
 impl<D: Disk> Responder<D> {
@@ -89,10 +65,13 @@ impl<D: Disk> Responder<D> {
         let Ok(locks) = holders_of(alloc, store.tables()) else {
             return Err((store.close(), StoreError::NoMemory));
         };
+        let links = IndexMap::new(alloc);
         Ok(Responder {
-            store,
-            locks,
-            links: IndexMap::new(alloc),
+            kept: Keeping {
+                store,
+                locks,
+                links,
+            },
         })
     }
 
@@ -114,57 +93,26 @@ impl<D: Disk> Responder<D> {
     {
         match event {
             Event::Arrived { link } => {
-                self.arrive(alloc, link, replies)?;
+                self.kept.arrive(alloc, link, replies)?;
                 Ok(())
             }
             Event::Octets {
                 link,
                 moment,
                 octets,
-            } => self.hear(alloc, link, moment, octets, replies),
+            } => self.kept.hear(alloc, link, moment, octets, replies),
             Event::Ended { link } => {
-                self.end(link);
+                self.kept.end(link);
                 Ok(())
             }
         }
-    }
-
-    /// A link arrives; it is shut at once where 64 stand.
-    fn arrive(
-        &mut self,
-        alloc: Global,
-        number: u32,
-        replies: &mut Vec<Reply>,
-    ) -> Result<(), NoMemory>
-        ensures answers { OnOk result (Does (trail (script.Arrived number)) self.old replies.old.items self.new replies.new.items) }
-        ensures store { self.new.store ≡ self.old.store }
-    {
-        if self.links.contains_key(&number) {
-            return Ok(());
-        }
-        if self.links.len() >= MOST_LINKS {
-            return speak(number, Vec::new(alloc), true, replies);
-        }
-        let link = Link::arrived(alloc, number)?;
-        put(&mut self.links, link)
-    }
-
-    /// A link has ended; its party is gone.
-    fn end(&mut self, number: u32)
-        ensures answers { (replies : List ReplyMeant) → Does (trail (script.Ended number)) self.old replies self.new replies }
-        ensures store { self.new.store ≡ self.old.store }
-    {
-        let Some(link) = self.links.swap_remove(&number) else {
-            return;
-        };
-        link.end(&mut self.locks);
     }
 
     /// The tables.
     pub fn tables(&self) -> &Tables
         ensures { result.now ≡ self.now.store.tables }
     {
-        self.store.tables()
+        self.kept.store.tables()
     }
 
     /// How many links stand.
@@ -172,14 +120,14 @@ impl<D: Disk> Responder<D> {
         ensures count { result ≡ length self.now.links }
         ensures bound { result ≤ 64 }
     {
-        self.links.len() as u32
+        self.kept.links.len() as u32
     }
 
     /// The disk.
     pub fn close(self) -> D
-        ensures { result ≡ self.store.disk }
+        ensures { result ≡ self.kept.store.disk }
     {
-        self.store.close()
+        self.kept.store.close()
     }
 }
 
@@ -190,6 +138,6 @@ impl Responder<MemoryDisk> {
         requires { 0 < call }
         ensures { self.new ≡ record self.old { store = record self.old.store { disk = record self.old.store.disk { plan = record self.old.store.disk.plan { until_stop = Some (sooner call self.old.store.disk.plan.until_stop) } } } } }
     {
-        self.store.stop(call);
+        self.kept.store.stop(call);
     }
 }
