@@ -1,0 +1,4 @@
+use Rattle.vf_responder.proofs.keeping.Keeping.hear_few.Goals as goal
+
+pub returns-clause-answers : goal.returns-clause-answers
+returns-clause-answers g c = ?
