@@ -8,6 +8,7 @@ mod ContinuesLemmas
 mod ReceivedLemmas
 mod ReadingLemmas
 mod TurnLemmas
+mod MessageLemmas
 pub mod HexLemmas
 pub mod HexLineLemmas
 pub mod HexTable

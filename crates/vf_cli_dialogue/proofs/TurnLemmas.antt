@@ -1,8 +1,9 @@
 -- What the one party answers is what the whole filestore does, and it stays the only one.
 use Rattle.std.proofs.Common.{◌≡◌, ℕ, suc, ◌≤◌, Bool, true, false, true≢false, cond, not, List, [], ◌∷◌, ◌++◌, length, map, Option, None, Some, Result, Ok, is_some, refl, ap, sym, subst, ◌∙◌, arith}
 use Rattle.std.specs.Prelude.{◌&&◌, if◌then◌else◌, find, nat_eq, nat_le, count_by, flat_map}
-use Rattle.std.specs.List.{IsDistinct, list_any}
+use Rattle.std.specs.List.{All, AllByRecursion, IsDistinct, list_any}
 use Rattle.std.specs.Str.{bytes_eq}
+use Rattle.std.proofs.lemmas.List.Elements.{All-from_recursion}
 use Rattle.vf_elements.specs.Stages.{takes}
 use Rattle.vf_elements.specs.declared.message.Message.{Message}
 use Rattle.vf_elements.specs.declared.message.Message.TheVariants as messages
@@ -21,7 +22,7 @@ use Rattle.vf_filestore.specs.Keeping.{AreHistoriesKept}
 use Rattle.vf_filestore.specs.Opening.{has_activity, is_at}
 use Rattle.vf_filestore.specs.Replies.{refusal}
 use Rattle.vf_filestore.specs.Runs.{Arrives, beginning}
-use Rattle.vf_filestore.specs.Sound.{IsSound}
+use Rattle.vf_filestore.specs.Sayable.{CanTell, IsReadWhole, IsSayable}
 use Rattle.vf_filestore.specs.Stage.{Group, moving_stage, pending, stage, stage_by}
 use Rattle.vf_filestore.specs.State.{State, StandingParty, activity_in, arrived, identity_of, is_of_link, party_of, with_party, without_party}
 use Rattle.vf_filestore.specs.Transfers.{Movement, Reads, Writes, Transfer, data_end, under_way, was_shown}
@@ -31,7 +32,7 @@ use Rattle.vf_cli_dialogue.specs.declared.conversation.After.TheVariants as afte
 use Rattle.vf_cli_dialogue.specs.Conversation.{Holds, IsAnsweredBy, IsPut, Makes}
 use Rattle.vf_cli_dialogue.specs.Dialogue.{is_abort, link, opened, reply, said_in, said_of, setting}
 use Rattle.vf_party.specs.GoingOn.{StandsAs}
-use Rattle.vf_party.specs.Steps.{HoldersOfFiles, StandsIn}
+use Rattle.vf_party_steps.specs.Steps.{HoldersOfFiles, StandsIn}
 use Rattle.vf_party.specs.Turns.{IsNext, IsParty, IsTaken, IsTurnIn}
 use Rattle.vf_party.specs.declared.party.Outcome.{Outcome}
 use Rattle.vf_party.specs.declared.party.Party.{Party}
@@ -41,7 +42,8 @@ use Rattle.vf_tables.specs.Changes.{after_all}
 use Rattle.vf_tables.specs.declared.change.Change.{Change}
 use Rattle.vf_tables.specs.Entries.{no_tables}
 use Rattle.vf_tables.specs.declared.tables.Tables.{Tables}
-use Rattle.vf_filestore.proofs.Transitions.{begins_sound, runs_sound}
+use Rattle.vf_filestore.proofs.Lists.{all_map}
+use Rattle.vf_filestore.proofs.ToldStates.{begins_telling, messages_telling, runs_sayable, said_sayable}
 use Rattle.vf_locks.specs.Table.{held}
 
 pub found_here : (state : State) (filestore : Filestore) (holds : Holds filestore state) → party_of link state.parties ≡ Some holds.goes.standing
@@ -210,7 +212,7 @@ module _ (state : State) (filestore : Filestore) (holds : Holds filestore state)
   said_is = ap said_in turn_is ∙ said_again party.link (answered state party setting message).said
 
 -- What a turn makes of the filestore that holds.
-module _ (state : State) (filestore : Filestore) (holds : Holds filestore state) (message : Message) (locks : HoldersOfFiles) (outcome : Outcome)
+module _ (state : State) (filestore : Filestore) (holds : Holds filestore state) (message : Message) (read : IsReadWhole message) (locks : HoldersOfFiles) (outcome : Outcome)
     (taken : IsTaken filestore.tables locks state holds.goes.standing setting message outcome) where
   abbrev one : StandingParty
   one = holds.goes.standing
@@ -220,6 +222,13 @@ module _ (state : State) (filestore : Filestore) (holds : Holds filestore state)
 
   said_same : (said : List Said) → said ≡ outcome.said.items → said ≡ said_in (transition state link setting message)
   said_same said is = is ∙ taken.says ∙ sym (said_is state filestore holds message)
+
+  -- it has a value, as all that is sent
+  pub all_told : (said : List Said) → said ≡ outcome.said.items → All IsSayable said
+  all_told said is =
+      let turn = transition state link setting message in
+      let told : AllByRecursion IsSayable (said_in turn) = all_map said_of IsSayable turn.sent (said_sayable state link setting message (omega arith) read holds.telling) in
+      All-from_recursion IsSayable said (subst (AllByRecursion IsSayable) (sym (said_same said is)) told)
 
   pub replies_told : (old new : List ℕ) (said : List Said) → said ≡ outcome.said.items → new ≡ old ++ flat_map reply said
       → new ≡ old ++ flat_map reply (said_in (transition state link setting message))
@@ -235,8 +244,9 @@ module _ (state : State) (filestore : Filestore) (holds : Holds filestore state)
       let goes = turns_go_on filestore.tables filestore.locks locks state one setting message outcome holds.goes.stands (gives_none state filestore holds message) taken next holds.goes.histories is in
       let here = subst (λ (n : ℕ). StandsAs (after_all filestore.tables outcome.changes) locks (answered state one setting message).state n next) holds.goes.linked goes in
       let kept = subst (λ (t : Tables). StandsAs t locks (answered state one setting message).state link next) (sym made) here in
+      let telling : CanTell (answered state one setting message).state = subst CanTell (sym state_is) (messages_telling state link setting message (omega arith) read holds.telling) in
       subst (λ (s : State). Holds (record { party = next; tables = tables; locks = locks }) s) state_is
-      (record { goes = kept; alone = stays_alone state one setting message holds.alone })
+      (record { goes = kept; alone = stays_alone state one setting message holds.alone; telling = telling })
 
   pub party_gone : outcome.party ≡ None → party_of link (transition state link setting message).state.parties ≡ None
   party_gone is =
@@ -246,13 +256,13 @@ module _ (state : State) (filestore : Filestore) (holds : Holds filestore state)
       (subst (λ (n : ℕ). party_of n (answered state one setting message).state.parties ≡ None) holds.goes.linked gone)
 
 -- What was answered makes the turn, once its changes are made and its replies appended.
-module _ (state : State) (before : Filestore) (holds : Holds before state) (message : Message) (filestore : Filestore) (goes : Bool) (said told : List Said) (changes : List Change)
+module _ (state : State) (before : Filestore) (holds : Holds before state) (message : Message) (read : IsReadWhole message) (filestore : Filestore) (goes : Bool) (said told : List Said) (changes : List Change)
     (answered : IsAnsweredBy state before holds message filestore goes said changes) (same : told ≡ said) (old new : List ℕ) (lines : new ≡ old ++ flat_map reply told) where
   now_said : new ≡ old ++ flat_map reply (said_in (transition state link setting message))
-  now_said = replies_told state before holds message filestore.locks answered.outcome answered.taken old new told (same ∙ answered.says) lines
+  now_said = replies_told state before holds message read filestore.locks answered.outcome answered.taken old new told (same ∙ answered.says) lines
 
   now_aborted : (aborted : Bool) → aborted ≡ list_any is_abort told → list_any is_abort (said_in (transition state link setting message)) ≡ aborted
-  now_aborted aborted is = abort_told state before holds message filestore.locks answered.outcome answered.taken aborted told (same ∙ answered.says) is
+  now_aborted aborted is = abort_told state before holds message read filestore.locks answered.outcome answered.taken aborted told (same ∙ answered.says) is
 
   pub makes_abort : (next : Filestore) (aborted : Bool) → aborted ≡ list_any is_abort told → aborted ≡ true
       → Makes (transition state link setting message) old new next after.Aborted
@@ -269,13 +279,13 @@ module _ (state : State) (before : Filestore) (holds : Holds before state) (mess
       made_so = made ∙ ap (after_all before.tables) answered.differs
 
       gone : answered.outcome.party ≡ None → Makes (transition state link setting message) old new (record { party = filestore.party; tables = tables; locks = filestore.locks }) after.Gone
-      gone is = record { said = now_said; comes = (party_gone state before holds message filestore.locks answered.outcome answered.taken is, silent) }
+      gone is = record { said = now_said; comes = (party_gone state before holds message read filestore.locks answered.outcome answered.taken is, silent) }
 
       goes_on : (next : Party) → answered.outcome.party ≡ Some next → filestore.party ≡ next
           → Makes (transition state link setting message) old new (record { party = filestore.party; tables = tables; locks = filestore.locks }) after.Goes
       goes_on next is put = record {
         said = now_said;
-        comes = (party_goes state before holds message filestore.locks answered.outcome answered.taken filestore.party tables (is ∙ ap Some (sym put)) made_so, silent);
+        comes = (party_goes state before holds message read filestore.locks answered.outcome answered.taken filestore.party tables (is ∙ ap Some (sym put)) made_so, silent);
       }
 
       by : (goes : Bool) (next : Option Party) → answered.outcome.party ≡ next → IsPut next filestore.party goes
@@ -307,9 +317,14 @@ answered_by state before holds message filestore outcome taken tables party give
 
 -- ---- the begin
 
-opened_sound : IsSound opened
+opened_telling : CanTell opened
 unfolding IsDistinct
-opened_sound = runs_sound (Arrives link ∷ []) (beginning [] []) (refl, tt) (begins_sound [] [] tt (record { each = tt; counted = omega arith; roomy = omega arith }))
+opened_telling =
+    let begins : CanTell (beginning [] []) =
+    begins_telling [] [] tt (record { each = tt; counted = omega arith; roomy = omega arith })
+    (record { users_differ = refl; few_users = omega arith; tasks_differ = refl; few_tasks = omega arith; tasks_valid = refl })
+    (record { users_short = refl; plans = refl; pieces = refl }) tt tt tt in
+    (runs_sayable (Arrives link ∷ []) (beginning [] []) (refl, tt) (omega arith, tt) begins).1
 
 pub begins : (filestore : Filestore) → IsParty filestore.party (arrived link) → filestore.tables ≡ no_tables → filestore.locks ≡ [] → Holds filestore opened
 begins filestore represented tables locks = record {
@@ -317,8 +332,9 @@ begins filestore represented tables locks = record {
     standing = arrived link;
     linked = refl;
     represented = represented;
-    stands = record { sound = opened_sound; kept = sym tables; held = λ file. ap (held file) locks; stands = refl };
+    stands = record { sound = opened_telling.reached.sound; kept = sym tables; held = λ file. ap (held file) locks; stands = refl };
     histories = record { parties = (tt, tt); dockets = tt };
   };
   alone = omega arith;
+  telling = opened_telling;
 }

@@ -6,6 +6,7 @@ use Rattle.vf_ber.specs.Reading.{Reading, Short, Bad, Deep, Long, Read}
 use Rattle.vf_elements.specs.Messages.{message_in, place_of}
 use Rattle.vf_elements.specs.declared.message.Message.{Message}
 use Rattle.vf_pdu_fields.specs.Fault.{Fault}
+use Rattle.vf_filestore.specs.Sayable.{CanTell}
 use Rattle.vf_filestore.specs.State.{State, party_of}
 use Rattle.vf_filestore.specs.Transition.{Turn}
 use Rattle.vf_elements.specs.declared.message.Said.{Said}
@@ -48,10 +49,12 @@ abbrev pub IsUnread : Reading → Option ℕ → Type 0
 IsUnread reading None = reading ≡ Short
 IsUnread reading (Some place) = IsFault reading place
 
--- The party that goes on stands alone in the state, of which the filestore has the tables and the locks.
+-- The party that goes on stands alone in the state, of which the filestore has the tables and the locks. The state is one
+-- that messages reach that were read from octets, so that all that is said in it has a value.
 pub record Holds (filestore : Filestore) (state : State) : Type 0 where
   pub goes : StandsAs filestore.tables filestore.locks state link filestore.party
   pub alone : length_of state.parties ≤ 1
+  pub telling : CanTell state
 
 -- the octets that a party hasn't taken; one that is gone takes none
 abbrev pub octets_in : Stream → List ℕ

@@ -1,5 +1,5 @@
 //! A conversation with one party.
-ghost use Rattle.std.specs.Prelude.{◌≡◌, ◌++◌, ◌+◌, ◌<◌, ◌≤◌, [], drop, false, true, if◌then◌else◌, IfOk, IfSome, Ok, OnOk, Some, length, List, ℕ};
+ghost use Rattle.std.specs.Prelude.{◌≡◌, ◌++◌, ◌+◌, ◌<◌, ◌≤◌, [], drop, false, true, if◌then◌else◌, IfOk, All, IfSome, Ok, OnOk, Some, length, List, ℕ};
 ghost use Rattle.std.specs.List.{flat_map, list_any};
 ghost use Rattle.vf_ber.specs.Reader.{reading};
 ghost use Rattle.vf_ber.specs.Reading.{Read, Short};
@@ -8,6 +8,7 @@ ghost use Rattle.vf_ber_scan.specs.Scanned.{HasTaken};
 ghost use Rattle.vf_cli_dialogue.specs.declared.conversation.After.TheVariants as ends;
 ghost use Rattle.vf_cli_dialogue.specs.Conversation.{Adds, Advances, Appends, Holds, IsAnsweredBy, IsPut, IsRest, IsTaking, Makes, Stands, TakesFirst, TakesReady, is_ready as ready_test, left_in, octets_in, size_of};
 ghost use Rattle.vf_cli_dialogue.specs.Dialogue.{is_abort as abort_test, link, opened, outside, reply, setting as setting_meant};
+ghost use Rattle.vf_filestore.specs.Sayable.{IsReadWhole, IsSayable};
 ghost use Rattle.vf_filestore.specs.State.{State};
 ghost use Rattle.vf_filestore.specs.Transition.{transition};
 ghost use Rattle.vf_party.specs.Settings.{setting_of};
@@ -357,12 +358,15 @@ fn take_value(
     }
 }
 
+/// What the party makes of a message that was read.
 fn take_message(
     alloc: Global,
     filestore: &mut Filestore,
     message: Message,
     replies: &mut Replies,
 ) -> Result<After, NoMemory>
+    requires stands { (state : State) × Holds filestore.old state }
+    requires read { IsReadWhole message }
     ensures { IfOk result (λ rest. (state : State) → Holds filestore.old state
         → Makes (transition state link setting_meant message) replies.old.lines.items replies.new.lines.items filestore.new rest) }
 {
@@ -470,6 +474,7 @@ fn make_changes(alloc: Global, tables: &mut Doubled, changes: Changes) -> Result
 
 /// Appends the replies as lines, and says whether an abort is among them.
 fn append_replies(alloc: Global, said: &[Said], replies: &mut Replies) -> Result<bool, NoMemory>
+    requires { All IsSayable said.now }
     ensures lines { IfOk result (λ _. replies.new.lines.items ≡ replies.old.lines.items ++ flat_map reply said.now) }
     ensures abort { IfOk result (λ aborted. aborted ≡ list_any abort_test said.now) }
 {

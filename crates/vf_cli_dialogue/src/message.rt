@@ -1,5 +1,5 @@
 //! Where octets have a fault, and replies as lines.
-ghost use Rattle.std.specs.Prelude.{◌≡◌, ◌++◌, ◌↔◌, Err, IfOk, IsTrue, List, OnOk, Result, true, ℕ};
+ghost use Rattle.std.specs.Prelude.{◌≡◌, ◌++◌, Err, IfOk, List, OnOk, Result, ℕ};
 ghost use Rattle.vf_ber.specs.Limits.{IsTooLarge};
 ghost use Rattle.vf_ber.specs.Reader.{reading};
 ghost use Rattle.vf_ber.specs.Results.{IsAnswer};
@@ -8,9 +8,9 @@ ghost use Rattle.vf_ber.specs.Views.{tree_of};
 ghost use Rattle.vf_cli_dialogue.specs.Conversation.{IsFaultIn, IsUnread};
 ghost use Rattle.vf_cli_dialogue.specs.Dialogue.{reply};
 ghost use Rattle.vf_cli_dialogue.specs.Lines.{hex_line};
-ghost use Rattle.vf_elements.specs.ElementValue.{IsNamed, IsWritable, value as element_value};
-ghost use Rattle.vf_elements.specs.Elements.{is_text as text_class};
-ghost use Rattle.vf_elements.specs.Sizes.{IsShort};
+ghost use Rattle.vf_elements.specs.ElementValue.{value as element_value};
+ghost use Rattle.vf_filestore.specs.Sayable.{IsSayable, IsTold};
+ghost use Rattle.vf_pdu.specs.PduMeaning.{IsInRange};
 ghost use Rattle.vf_pdu.specs.PduValue.{value};
 ghost use Rattle.vf_pdu_fields.specs.Fault.{Fault};
 ghost use Rattle.vf_pdu_fields.specs.Results.{Fails};
@@ -18,7 +18,7 @@ ghost use Rattle.vf_elements.specs.declared.message.Message.{Message};
 
 use crate::printed::{Replies, append_hex_line};
 use std::alloc::Global;
-use vf_base::{Element, MOST_STRING_OCTETS, Name, NoMemory};
+use vf_base::{Element, NoMemory};
 use vf_ber::{BerError, Value, WriteError};
 use vf_elements::Said;
 use vf_pdu::Pdu;
@@ -50,12 +50,13 @@ pub(crate) fn fault_in_value(error: &PduError) -> Result<u32, NoMemory>
     }
 }
 
-/// Appends the line that tells a reply.
+/// Appends the line that tells a reply, which has a value.
 pub(crate) fn append_reply(
     alloc: Global,
     said: &Said,
     replies: &mut Replies,
 ) -> Result<(), NoMemory>
+    requires { IsSayable said.now }
     ensures { OnOk result (replies.new.lines.items ≡ replies.old.lines.items ++ reply said.now) }
 {
     match said {
@@ -74,80 +75,33 @@ fn append_provider_abort(
     place: u64,
     replies: &mut Replies,
 ) -> Result<(), NoMemory>
+    requires { IsInRange (Pdu.ProviderAbort number place) }
     ensures { OnOk result (replies.new.lines.items ≡ replies.old.lines.items ++ reply (Said.Abort number place)) }
 {
     let abort = Pdu::ProviderAbort { number, place };
     append_pdu(alloc, &abort, replies)
 }
 
-/// Appends the line of a PDU. One with a field out of its range has none, and counts as one for which memory is wanting.
+/// Appends the line of a PDU.
 fn append_pdu(alloc: Global, pdu: &Pdu, replies: &mut Replies) -> Result<(), NoMemory>
+    requires { IsInRange pdu.now }
     ensures { OnOk result (replies.new.lines.items ≡ replies.old.lines.items ++ hex_line (spell (value pdu.now))) }
 {
-    if !vf_pdu::is_in_range(pdu) {
-        return Err(NoMemory);
-    }
     let made = vf_pdu::to_value(alloc, pdu)?;
     vf_pdu::value_is_within();
     append_value(alloc, &made, replies)?;
     Ok(())
 }
 
-/// Appends the line of an element. One that no value means, or with a string longer than those of files, has none, and
-/// counts as one for which memory is wanting.
+/// Appends the line of an element.
 fn append_element(alloc: Global, element: &Element, replies: &mut Replies) -> Result<(), NoMemory>
+    requires { IsTold element.now }
     ensures { OnOk result (replies.new.lines.items ≡ replies.old.lines.items ++ hex_line (spell (element_value element.now))) }
 {
-    if !is_writable(element) || !is_short(element) {
-        return Err(NoMemory);
-    }
     let made = vf_elements::to_value(alloc, element)?;
     vf_elements::value_is_within();
     append_value(alloc, &made, replies)?;
     Ok(())
-}
-
-/// Whether an element has a value: a text is of a class that this profile has.
-fn is_writable(element: &Element) -> bool
-    ensures { IsTrue result ↔ IsWritable element.now }
-{
-    match element {
-        Element::Text { class, .. } => is_text(*class),
-        Element::Descriptor { name, .. } => is_named(name),
-        Element::Enter => true,
-        Element::Exit => true,
-        Element::Binary { .. } => true,
-    }
-}
-
-fn is_text(class: u8) -> bool
-    ensures { result ≡ text_class class }
-{
-    matches!(class, 22 | 25 | 26 | 27)
-}
-
-/// A name is one wherever there is one.
-fn is_named(name: &Option<Name>) -> bool
-    ensures { IsTrue result ↔ IsNamed name.now }
-{
-    match name {
-        Some(name) => {
-            let _octets = name.as_slice();
-            true
-        }
-        None => true,
-    }
-}
-
-/// Whether a string is no longer than the longest that a file holds.
-fn is_short(element: &Element) -> bool
-    ensures { result ≡ true → IsShort element.now }
-{
-    match element {
-        Element::Text { octets, .. } => octets.len() <= MOST_STRING_OCTETS as usize,
-        Element::Binary { octets } => octets.len() <= MOST_STRING_OCTETS as usize,
-        _ => true,
-    }
 }
 
 fn append_value(alloc: Global, value: &Value, replies: &mut Replies) -> Result<(), NoMemory>

@@ -16,7 +16,7 @@ use Rattle.vf_tables.specs.declared.limits.TheConstants.{MOST_TERMS}
 use Rattle.vf_filestore.specs.Conclusion.{concluding_entry, taken_up}
 use Rattle.vf_filestore.specs.Keeping.{AreFew, AreFilesKept, HasFewTerms, IsFilled, all_strings, is_taken}
 use Rattle.vf_filestore.specs.Sound.{IsLimited}
-use Rattle.vf_filestore.proofs.FilesLater.{message_goes}
+use Rattle.vf_filestore.proofs.FilesLater.{ChangesTerms, IsAnyStamp, NewTerms, brings_terms, message_goes}
 use Rattle.vf_filestore.proofs.FilesOf.{files_survive}
 use Rattle.vf_filestore.proofs.Leading.{both}
 use Rattle.vf_filestore.proofs.Preserved.{Stays}
@@ -31,7 +31,8 @@ files_stay = record {
   hears = λ state link party message few kept found. record { files = kept.files; traces = traced_heard HasFewTerms state.parties link party message few kept.traces found };
   traces = λ state link party kept found. traced_found HasFewTerms state.parties link party kept.traces found;
   grants = λ state party setting message given trace before after sound kept sound_after is allowed traces granting due. record {
-    files = message_goes AreFew IsFilled (files_survive AreFew is_taken makes_taken) state party setting.moment given message allowed kept.files;
+    files = message_goes IsAnyStamp (ChangesTerms AreFew) (NewTerms AreFew) IsFilled (files_survive AreFew is_taken makes_taken) state party setting.moment given message tt
+        (brings_terms AreFew message allowed) kept.files;
     traces =
         traced_next HasFewTerms state.parties before after party (record party { trace = trace; history = concluding_entry state party setting message given ∷ taken_up state party message }) is traces
         kept.traces;

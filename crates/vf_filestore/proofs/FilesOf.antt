@@ -24,7 +24,7 @@ use Rattle.vf_tree.specs.TreeRefusal.{TreeRefusal}
 use Rattle.vf_filestore.specs.Ending.{file_after, units_or_none, written_in}
 use Rattle.vf_filestore.specs.Keeping.{IsFileOf, all_strings}
 use Rattle.vf_filestore.specs.Opening.{act_of, only_unit}
-use Rattle.vf_filestore.proofs.FilesLater.{EndsIn, Survives, performed_goes}
+use Rattle.vf_filestore.proofs.FilesLater.{ChangesTerms, EndsIn, IsAnyStamp, NewTerms, Survives, performed_goes}
 use Rattle.vf_filestore.proofs.Leading.{all_joined, both}
 
 -- ---- what actions leave
@@ -125,11 +125,11 @@ module _ (T : List Term → Type 0) (test : DocType → Element → Bool) (makes
   new_file_passes doc None = tt
   new_file_passes doc (Some one) = new_passes (test one) (constraint_of doc.kind)
 
-  pub files_survive : Survives T (IsFileOf T test)
+  pub files_survive : Survives IsAnyStamp (ChangesTerms T) (NewTerms T) (IsFileOf T test)
   files_survive = record {
-    reads = λ stamp file is. record { terms = is.terms; strings = is.strings };
-    writes = λ files stamp file at operation fadu values. written_passes files stamp file at operation fadu values (doc_type file.contents) refl;
-    erases = λ stamp file at fadu is. acted_passes stamp file (does file.tree at (Erases fadu)) (λ doc pass. erasure_passes (test doc) file.tree.constraint file.tree.units fadu) is;
-    changes = λ stamp file change are is. record { terms = terms_after file.terms change.terms are is.terms; strings = is.strings };
-    creates = λ new stamp doc are. record { terms = are; strings = new_file_passes doc (doc_type new.contents) };
+    reads = λ stamp file stamped is. record { terms = is.terms; strings = is.strings };
+    writes = λ files stamp file at operation fadu values stamped. written_passes files stamp file at operation fadu values (doc_type file.contents) refl;
+    erases = λ stamp file at fadu stamped is. acted_passes stamp file (does file.tree at (Erases fadu)) (λ doc pass. erasure_passes (test doc) file.tree.constraint file.tree.units fadu) is;
+    changes = λ stamp file change stamped are is. record { terms = terms_after file.terms change.terms are is.terms; strings = is.strings };
+    creates = λ new stamp doc stamped are. record { terms = are; strings = new_file_passes doc (doc_type new.contents) };
   }

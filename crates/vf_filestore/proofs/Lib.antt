@@ -2,6 +2,7 @@ pub mod Agreed
 pub mod Alike
 pub mod Alone
 pub mod Broken
+pub mod CheckNumbers
 pub mod Clashes
 pub mod Concluded
 pub mod Counted
@@ -57,6 +58,12 @@ pub mod Same
 pub mod Soundness
 pub mod Standing
 pub mod StaysKept
+pub mod ToldDecisions
+pub mod ToldElements
+pub mod ToldFiles
+pub mod ToldReplies
+pub mod ToldRows
+pub mod ToldStates
 pub mod Traced
 pub mod Transitions
 pub mod Unchanged

@@ -78,7 +78,7 @@ record IsKnown (docket : Docket) (opened : Option Regime) (moving : Option Trans
   sayable : IfSome moving (IsOfWrite ArePiecesSayable (happened docket.history))
 
 -- the activity of the docket is that of its open
-activity_ranged : (docket : Docket) (opened : Option Regime) → activity_in opened ≡ Some docket.activity → IfSome opened IsActive → is_activity docket.activity ≡ true
+pub activity_ranged : (docket : Docket) (opened : Option Regime) → activity_in opened ≡ Some docket.activity → IfSome opened IsActive → is_activity docket.activity ≡ true
 activity_ranged docket None is active = absurd cc
 activity_ranged docket (Some opened) is active = subst (λ (one : Option ℕ). IfSome one (λ activity. is_activity activity ≡ true)) is active
 

@@ -37,7 +37,7 @@ use Rattle.vf_filestore.specs.Tables.{tables_of}
 use Rattle.vf_filestore.specs.Transition.{answered, fault, superseded_by, transition}
 use Rattle.vf_filestore.specs.Units.{has_checks}
 use Rattle.vf_filestore.proofs.Decisions.{answered_sound, decided_taken, grouped_as, grouped_items, heard_sound, or_none, party_sound, traced, trial_sound, where_none}
-use Rattle.vf_filestore.proofs.FilesLater.{message_goes}
+use Rattle.vf_filestore.proofs.FilesLater.{ChangesTerms, IsAnyStamp, NewTerms, brings_terms, message_goes}
 use Rattle.vf_filestore.proofs.FilesOf.{files_survive}
 use Rattle.vf_filestore.proofs.HistoriesStay.{broken_each, dropped_each, granted_each, heard_each, stopped_each}
 use Rattle.vf_filestore.proofs.Kept.{ordered, same_tables, stops_keep}
@@ -95,17 +95,18 @@ ranged_stays = record {
   traces = λ state link party ranged found. traced_found IsRead state.parties link party ranged.traces found;
   grants = λ state party setting message given trace before after sound ranged sound_after is read traces granting due. record {
     others = ranged.others;
-    files = message_goes AreShort IsRangedFile (files_survive AreShort is_of_class makes_of_class) state party setting.moment given message (read_short message read) ranged.files;
+    files = message_goes IsAnyStamp (ChangesTerms AreShort) (NewTerms AreShort) IsRangedFile (files_survive AreShort is_of_class makes_of_class) state party setting.moment given message tt
+        (brings_terms AreShort message (read_short message read)) ranged.files;
     histories = granted_each IsReadEntry read_lasts state party setting message given trace before after sound ranged.histories is due.taken (entry_read state party setting message given read due);
     traces = traced_next IsRead state.parties before after party (record party { trace = trace; history = concluding_entry state party setting message given ∷ taken_up state party message }) is traces ranged.traces;
   };
 }
 
 -- all that a store keeps, beside what is sound
-abbrev IsStored : State → Type 0
+abbrev pub IsStored : State → Type 0
 IsStored state = IsKept state × IsRanged state
 
-stored_stays : Stays IsRead IsStored
+pub stored_stays : Stays IsRead IsStored
 stored_stays = record {
   breaks = λ link state sound stored. (breaks_stay state link sound stored.0, ranged_stays.breaks link state sound stored.1);
   hears = λ state link party message read stored found. (kept_stays.hears state link party message (read_few message read) stored.0 found, ranged_stays.hears state link party message read stored.1 found);
@@ -285,7 +286,7 @@ event_few (Takes link setting message) read = read_few message read
 event_few (Faults link number place) read = tt
 event_few Stops read = tt
 
-event_reached : (state : State) (event : Event) → IsNew event state → WasRead event → IsReached state → IsReached (after_event state event).state
+pub event_reached : (state : State) (event : Event) → IsNew event state → WasRead event → IsReached state → IsReached (after_event state event).state
 event_reached state event new read is = record {
   sound = event_sound state event new is.sound;
   kept = event_kept state event (event_few event read) is.sound is.kept;

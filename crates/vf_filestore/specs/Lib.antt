@@ -8,6 +8,7 @@ pub mod Dockets
 pub mod Due
 pub mod Effects
 pub mod Ending
+pub mod Files
 pub mod Groups
 pub mod History
 pub mod Holders
@@ -31,6 +32,7 @@ pub mod RowsOfReads
 pub mod RowsOfRecovery
 pub mod RowsOfWrites
 pub mod Runs
+pub mod Sayable
 pub mod Samples
 pub mod Selecting
 pub mod Sound

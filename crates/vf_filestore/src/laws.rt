@@ -3,6 +3,7 @@ ghost use Rattle.vf_filestore.specs.HoldersAfter.{ArrivalsHold, BreaksHold, Call
 ghost use Rattle.vf_filestore.specs.Keeping.{BeginsKept, BreaksStayKept, DropsStayKept, FaultsStayKept, KeptIsValid, MessagesStayKept, RunsStayKept, StopsStayKept};
 ghost use Rattle.vf_filestore.specs.Laws.{BeginsSound, BreaksAreSound, BreaksKeep, DifferencesFit, DifferencesLead, DropsAreSound, DropsLead, FaultsAreSound, FaultsKeep, MakesNoChange, MessagesFit, MessagesLead, RunsAreSound, StopsAreSound, StopsBegin, StopsKeep, TransitionsAreSound};
 ghost use Rattle.vf_filestore.specs.Ranges.{BeginsReached, BreaksStayReached, DropsMake, DropsStayReached, FaultsStayReached, MessagesStayReached, ReachedIsKept, ReadMessagesFit, ReadMessagesMake, RunsMake, StopsStayReached};
+ghost use Rattle.vf_filestore.specs.Sayable.{AnswersAreNumbered, BeginsTelling, BreaksGoOnTelling, ChecksAreNumbered, DropsGoOnTelling, FaultsAreSayable, FaultsGoOnTelling, MessagesGoOnTelling, RunsAreSayable, SaidIsSayable, StopsGoOnTelling};
 
 /// A filestore whose files have names of their own and are within their limits begins in a sound state.
 pub fn begins_sound()
@@ -106,6 +107,35 @@ pub fn states_stay_reached()
 /// what is kept after it, and no other event changes what is kept.
 pub fn runs_make()
     ensures { RunsMake }
+{}
+
+/// All that is sent has a value: each PDU has its fields in their ranges, and each element its string within its limit. So
+/// it is in each state in which it can be, with every message that was read, and by octets that are none.
+pub fn said_is_sayable()
+    ensures messages { SaidIsSayable }
+    ensures faults { FaultsAreSayable }
+{}
+
+/// The checks in answer to a message, and the answers to a cancel and to a restart, have numbers of the session.
+pub fn checks_are_numbered()
+    ensures checks { ChecksAreNumbered }
+    ensures answers { AnswersAreNumbered }
+{}
+
+/// So it can be at the begin, where what a filestore begins with is such, and stays so with each message that was read, and
+/// with each fault, break, stop and drop.
+pub fn states_go_on_telling()
+    ensures begins { BeginsTelling }
+    ensures messages { MessagesGoOnTelling }
+    ensures faults { FaultsGoOnTelling }
+    ensures breaks { BreaksGoOnTelling }
+    ensures stops { StopsGoOnTelling }
+    ensures drops { DropsGoOnTelling }
+{}
+
+/// Along every run of links that are new where they arrive, and of messages that were read, all that is sent has a value.
+pub fn runs_are_sayable()
+    ensures { RunsAreSayable }
 {}
 
 /// A message that is granted, alone or as an item of a group, changes the holders of a file by one call on them: it

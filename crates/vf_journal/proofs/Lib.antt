@@ -17,3 +17,4 @@ mod Looks
 mod Heads
 mod Opening
 mod Takings
+mod Ending

@@ -1,6 +1,6 @@
 -- Which octets a write leaves as they were.
 use Rattle.std.proofs.Common.{◌≡◌, ℕ, ◌+◌, ◌-◌, ◌≤◌, max, List, ◌++◌, length, take, drop, refl, sym, ◌∙◌, ap, arith, append_assoc, length-append, length-drop}
-use Rattle.std.proofs.lemmas.List.{take-take, take_at, drop_at, drop-drop, drop-take, length-take-le}
+use Rattle.std.proofs.lemmas.List.{take-append-drop, take-take, take_at, drop_at, drop-drop, drop-take, length-take-le}
 use Rattle.vf_disk.specs.Disk.{Torn, overwritten}
 use Rattle.vf_journal.specs.Layout.{part}
 
@@ -24,6 +24,26 @@ drop_after from place old new same le =
 
 pub part_after : (from place count : ℕ) (old new : List ℕ) → drop from new ≡ drop from old → from ≤ place → part new place count ≡ part old place count
 part_after from place count old new same le = ap (λ (octets : List ℕ). take count octets) (drop_after from place old new same le)
+
+-- parts that follow one another
+pub parts_joined : (image : List ℕ) (place count more : ℕ) → part image place count ++ part image (place + count) more ≡ part image place (count + more)
+parts_joined image place count more =
+    let rest = drop place image in
+    let front : take count (take (count + more) rest) ≡ take count rest = take-take count (count + more) rest (omega arith) in
+    let back : drop count (take (count + more) rest) ≡ part image (place + count) more =
+    drop-take count more rest ∙ ap (λ (l : List ℕ). take more l) (drop-drop count place image) in
+    ap (λ (l : List ℕ). l ++ part image (place + count) more) (sym front)
+    ∙ ap (λ (l : List ℕ). take count (take (count + more) rest) ++ l) (sym back)
+    ∙ take-append-drop count (take (count + more) rest)
+
+-- what is there of a part, with the next octets of it
+pub part_goes_on : (image : List ℕ) (place : ℕ) (old new : List ℕ) → old ≡ part image place (length old) → new ≡ old ++ part image (place + length old) (length new - length old)
+    → new ≡ part image place (length new)
+part_goes_on image place old new there is =
+    let more : ℕ = length new - length old in
+    let next = part image (place + length old) more in
+    let long : length old + more ≡ length new = omega (arith, ap length is, length-append old next) in
+    is ∙ ap (λ (l : List ℕ). l ++ next) there ∙ parts_joined image place (length old) more ∙ ap (λ (n : ℕ). part image place n) long
 
 -- what a write that succeeds gives
 module _ (old : List ℕ) (at : ℕ) (octets : List ℕ) (low : at ≤ length old) where

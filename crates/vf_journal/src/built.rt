@@ -1,5 +1,6 @@
 //! Records and areas in their built form.
-ghost use Rattle.std.specs.Prelude.{◌≡◌, ◌≤◌, IfOk, length};
+ghost use Rattle.std.specs.Prelude.{◌≡◌, ◌+◌, ◌≤◌, ◌++◌, IfOk, OnErr, OnOk, drop, length, take};
+ghost use Rattle.vf_journal.specs.Layout.{length_octets};
 ghost use Rattle.vf_journal.specs.Records.{IsArea, IsEntry, area_with, entry_of, longest};
 
 use std::alloc::Global;
@@ -33,4 +34,32 @@ pub fn built_area(alloc: Global, item: &[u8]) -> Result<Vec<u8>, NoMemory>
     area.extend_from_slice(item)?;
     area.push(0)?;
     Ok(area)
+}
+
+/// Puts a length in the place of the four octets that stand at a place.
+#[tactic(auto, using(crate::proofs::Numbers::length_octets_are))]
+fn put_length(octets: &mut [u8], at: usize, count: u32)
+    requires { at + 4 ≤ length octets.old }
+    ensures { octets.new ≡ take at octets.old ++ (length_octets count ++ drop 4 (drop at octets.old)) }
+{
+    let (_, rest) = octets.split_at_mut(at);
+    let (place, _) = rest.split_at_mut(4);
+    place.copy_from_slice(&count.to_be_bytes());
+}
+
+/// Ends a record that was put after four octets at a place, so that it stands there in its built form: its length takes
+/// the place of these octets, and the octet 0 is put after it. A record has at most 4,294,967,295 octets: for a longer one
+/// memory is wanting. Without memory nothing is changed.
+pub fn end_record(octets: &mut Vec<u8>, at: usize) -> Result<(), NoMemory>
+    requires { at + 4 ≤ length octets.old.items }
+    ensures built { OnOk result (octets.new.items ≡ take at octets.old.items ++ entry_of (drop (at + 4) octets.old.items)) }
+    ensures short { OnOk result (length (drop (at + 4) octets.old.items) ≤ longest) }
+    ensures err { OnErr result (octets.new.items ≡ octets.old.items) }
+{
+    let Ok(count) = u32::try_from(octets.len() - at - 4) else {
+        return Err(NoMemory);
+    };
+    octets.push(0)?;
+    put_length(octets.as_mut_slice(), at, count);
+    Ok(())
 }

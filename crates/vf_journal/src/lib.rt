@@ -14,7 +14,7 @@ mod placing;
 mod reading;
 
 pub use area::Area;
-pub use built::{built_area, built_entry};
+pub use built::{built_area, built_entry, end_record};
 pub use error::JournalError;
 pub use journal::Journal;
 pub use laws::{built_lengths, held_is_read, new_holds_none, planned_fits, unplanned_end};

@@ -1,5 +1,5 @@
 //! Reading the records of an area, in blocks.
-ghost use Rattle.std.specs.Prelude.{◌≡◌, ◌+◌, ◌-◌, ◌<◌, ◌≤◌, ◌^◌, ℕ, List, [], ◌∷◌, ◌++◌, take, drop, length, length as size_of, false, IfOk, IfNone, IfSome, IsTrue, None, OnErr, option_map, Some};
+ghost use Rattle.std.specs.Prelude.{◌≡◌, ◌+◌, ◌-◌, ◌<◌, ◌≤◌, ◌^◌, ℕ, List, [], ◌∷◌, ◌++◌, take, drop, length, length as size_of, false, IfOk, IfNone, IfSome, IsTrue, None, OnErr, OnOk, option_map, Some};
 ghost use Rattle.vf_disk.specs.Disk.{greatest_length};
 ghost use Rattle.vf_journal.specs.Answers.{ReadCauses, is_fault};
 ghost use Rattle.vf_journal.specs.Looking.{IsLookedAt};
@@ -116,22 +116,54 @@ pub(crate) fn take_records(
     }
 }
 
-/// So many octets of a disk, from a place on.
+/// Puts the next of `count` octets of a disk, from a place on, after those of them that are there: as many as the block
+/// takes.
+fn append_part<D: Disk>(
+    disk: &mut D,
+    block: &mut [u8],
+    at: u64,
+    count: u64,
+    octets: &mut Vec<u8>,
+) -> Result<(), JournalError>
+    requires block { 0 < size_of block.old }
+    requires place { at + count ≤ D.size disk.old }
+    requires fits { at + count < 2 ^ 64 }
+    requires more { size_of octets.old.items < count }
+    ensures octets { (image : List ℕ) → D.shown disk.old ≡ Some image
+        → OnOk result (octets.new.items ≡ octets.old.items ++ part image (at + size_of octets.old.items) (size_of octets.new.items - size_of octets.old.items)) }
+    ensures grows { OnOk result (size_of octets.old.items < size_of octets.new.items) }
+    ensures bound { OnOk result (size_of octets.new.items ≤ count) }
+    ensures looks { IsLookedAt D.shown D.size D.may_leave D.moment D.left_since D.plan D.state D.lack_count (is_fault result) disk.old disk.new }
+    ensures causes { ReadCauses (D.fault_count disk.old) (D.fault_count disk.new) result }
+{
+    let there = octets.len() as u64;
+    let more = (count - there).min(block.len() as u64) as usize;
+    read_at(disk, at + there, &mut block[..more])?;
+    octets.extend_from_slice(&block[..more])?;
+    Ok(())
+}
+
+/// So many octets of a disk, from a place on, read in blocks: no octet is set before it is read.
 fn read_octets<D: Disk>(
     alloc: Global,
     disk: &mut D,
+    block: &mut [u8],
     at: u64,
     count: u64,
 ) -> Result<Octets, JournalError>
+    requires block { 0 < size_of block.old }
     requires place { at + count ≤ D.size disk.old }
+    requires fits { at + count < 2 ^ 64 }
     requires count { count < 2 ^ 32 }
     ensures octets { (image : List ℕ) → D.shown disk.old ≡ Some image → IfOk result (λ octets. octets ≡ part image at count) }
     ensures count { IfOk result (λ octets. size_of octets ≡ count) }
     ensures looks { IsLookedAt D.shown D.size D.may_leave D.moment D.left_since D.plan D.state D.lack_count (is_fault result) disk.old disk.new }
     ensures causes { ReadCauses (D.fault_count disk.old) (D.fault_count disk.new) result }
 {
-    let mut octets = vec![in alloc; 0; count as usize]?;
-    read_at(disk, at, &mut octets)?;
+    let mut octets = Vec::with_capacity(alloc, count as usize)?;
+    while (octets.len() as u64) < count {
+        append_part(disk, block, at, count, &mut octets)?;
+    }
     let octets = Octets::from_vec(octets)?;
     Ok(octets)
 }
@@ -140,9 +172,11 @@ fn read_octets<D: Disk>(
 fn read_record<D: Disk>(
     alloc: Global,
     disk: &mut D,
+    block: &mut [u8],
     gate: u64,
     length: u64,
 ) -> Result<Option<Octets>, JournalError>
+    requires block { 0 < size_of block.old }
     requires gate { gate < length }
     requires length { length ≡ D.size disk.old }
     ensures found { (image : List ℕ) → D.shown disk.old ≡ Some image → IfOk result (λ found. found ≡ option_map (λ item. item.0) (first_record (drop gate image))) }
@@ -159,7 +193,7 @@ fn read_record<D: Disk>(
     let Some(count) = record_length(&head, left) else {
         return Ok(None);
     };
-    let record = read_octets(alloc, disk, gate + 5, u64::from(count))?;
+    let record = read_octets(alloc, disk, block, gate + 5, u64::from(count))?;
     Ok(Some(record))
 }
 
@@ -196,10 +230,12 @@ fn take_block<D: Disk>(
 fn take_alone<D: Disk>(
     alloc: Global,
     disk: &mut D,
+    block: &mut [u8],
     length: u64,
     area: Area,
     records: &mut Vec<Octets>,
 ) -> Result<(Area, bool), JournalError>
+    requires block { 0 < size_of block.old }
     requires length { length ≡ D.size disk.old }
     requires bound { length ≤ greatest_length }
     requires end { area.end ≤ length }
@@ -210,7 +246,7 @@ fn take_alone<D: Disk>(
     ensures looks { IsLookedAt D.shown D.size D.may_leave D.moment D.left_since D.plan D.state D.lack_count (is_fault result) disk.old disk.new }
     ensures causes { ReadCauses (D.fault_count disk.old) (D.fault_count disk.new) result }
 {
-    let Some(record) = read_record(alloc, disk, area.end - 1, length)? else {
+    let Some(record) = read_record(alloc, disk, block, area.end - 1, length)? else {
         return Ok((area, false));
     };
     let count = record.len() as u64;
@@ -246,7 +282,7 @@ fn take_more<D: Disk>(
     if area.end < found.end {
         return Ok((found, true));
     }
-    let (found, more) = take_alone(alloc, disk, length, area, records)?;
+    let (found, more) = take_alone(alloc, disk, block, length, area, records)?;
     Ok((found, more))
 }
 

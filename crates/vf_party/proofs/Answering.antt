@@ -26,12 +26,12 @@ use Rattle.vf_filestore.proofs.Kept.{breaks_keep}
 use Rattle.vf_locks.specs.Table.{IsAsBefore}
 use Rattle.vf_filestore.proofs.Parties.{found_at, located, with_at}
 use Rattle.vf_filestore.proofs.Same.{entry_same, taken_same, with_parties, with_trace}
-use Rattle.vf_party.specs.declared.step.Step.{Step}
+use Rattle.vf_party_steps.specs.declared.step.Step.{Step}
 use Rattle.vf_party.specs.Answers.{GoesOn, IsAnswered}
-use Rattle.vf_party.specs.Leaving.{LeavesHolders}
-use Rattle.vf_party.specs.Steps.{Concludes, HoldersOfFiles, Represents, StandsIn, history_by}
+use Rattle.vf_party_steps.specs.Leaving.{LeavesHolders}
+use Rattle.vf_party_steps.specs.Steps.{Concludes, HoldersOfFiles, Represents, StandsIn, history_by}
 use Rattle.vf_party.proofs.Heard.{heard_alike, tables_heard}
-use Rattle.vf_party.proofs.Kept.{no_change}
+use Rattle.vf_party_steps.proofs.Kept.{no_change}
 use Rattle.vf_tables.specs.declared.tables.Tables.{Tables}
 
 -- ---- parties

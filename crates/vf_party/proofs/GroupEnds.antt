@@ -22,13 +22,13 @@ use Rattle.vf_filestore.proofs.Parties.{found_at, located, with_at}
 use Rattle.vf_party.specs.GroupEnds.{HasEnded, IsPerformed, changes_at_end, end_message}
 use Rattle.vf_party.specs.Items.{AreItems}
 use Rattle.vf_party.specs.Quiets.{IsQuiet}
-use Rattle.vf_party.specs.Steps.{HoldersOfFiles, StandsIn}
+use Rattle.vf_party_steps.specs.Steps.{HoldersOfFiles, StandsIn}
 use Rattle.vf_party.specs.Trials.{AreTried, AreTriedIn}
 use Rattle.vf_party.specs.declared.quiet.Quiet.{Quiet}
-use Rattle.vf_party.specs.declared.step.Step.{Step}
+use Rattle.vf_party_steps.specs.declared.step.Step.{Step}
 use Rattle.vf_party.specs.declared.trying.Trial.{Trial}
 use Rattle.vf_party.proofs.Heard.{tables_heard}
-use Rattle.vf_party.proofs.Kept.{no_change}
+use Rattle.vf_party_steps.proofs.Kept.{no_change}
 use Rattle.vf_party.proofs.NoChanges.{any_unless_same}
 use Rattle.vf_tables.specs.declared.change.Change.{Change}
 use Rattle.vf_tables.specs.declared.tables.Tables.{Tables}

@@ -20,7 +20,7 @@ use Rattle.vf_filestore.proofs.Lists.{all_append}
 use Rattle.vf_locks.specs.Table.{IsAsBefore}
 use Rattle.vf_party.specs.GroupTurns.{IsAdded, IsInGroup}
 use Rattle.vf_party.specs.Items.{is_item}
-use Rattle.vf_party.specs.Steps.{HoldersOfFiles, StandsIn}
+use Rattle.vf_party_steps.specs.Steps.{HoldersOfFiles, StandsIn}
 use Rattle.vf_party.specs.Turns.{EndsSaying, IsEnded, IsGrouped, IsNext, IsTaken, IsTurnIn}
 use Rattle.vf_party.specs.declared.party.Grouping.{Grouping}
 use Rattle.vf_party.specs.declared.party.Outcome.{Outcome}

@@ -18,7 +18,7 @@ use Rattle.vf_filestore.proofs.Decisions.{left_same, put_again}
 use Rattle.vf_filestore.proofs.Parties.{located}
 use Rattle.vf_filestore.proofs.Same.{with_trace}
 use Rattle.vf_locks.specs.declared.held.Held.{Held}
-use Rattle.vf_party.proofs.Kept.{rows_stay}
+use Rattle.vf_party_steps.proofs.Kept.{rows_stay}
 
 -- the same is kept, and each file has the same holders
 pub record AreKeptAlike (one other : State) : Type 0 where

@@ -12,17 +12,17 @@ use Rattle.vf_filestore.specs.Stage.{grouping, regime_stage}
 use Rattle.vf_filestore.specs.Transition.{met, with_message}
 use Rattle.vf_locks.specs.Table.{IsAsBefore}
 use Rattle.vf_party.specs.Refusals.{refusal_numbered}
-use Rattle.vf_party.specs.Represents.{IsAssociated, IsIdle}
-use Rattle.vf_party.specs.Steps.{HoldersOfFiles, IsStep, MeetsStep, StandsIn}
+use Rattle.vf_party_steps.specs.Represents.{IsAssociated, IsIdle}
+use Rattle.vf_party_steps.specs.Steps.{HoldersOfFiles, IsStep, MeetsStep, StandsIn}
 use Rattle.vf_party.specs.Turns.{Associates, IsEnded, IsTurnIn, IsTurnOf}
-use Rattle.vf_party.specs.declared.idle.Idle.{Idle}
+use Rattle.vf_party_steps.specs.declared.idle.Idle.{Idle}
 use Rattle.vf_party.specs.declared.party.Outcome.{Outcome}
 use Rattle.vf_party.specs.declared.party.Party.{Party}
 use Rattle.vf_party.specs.declared.party.Party.TheVariants as parties
-use Rattle.vf_party.specs.declared.states.Associated.{Associated}
-use Rattle.vf_party.specs.declared.step.Step.{Step}
-use Rattle.vf_party.specs.declared.step.StepError.{StepError}
-use Rattle.vf_party.specs.declared.step.StepError.TheVariants as errors
+use Rattle.vf_party_steps.specs.declared.states.Associated.{Associated}
+use Rattle.vf_party_steps.specs.declared.step.Step.{Step}
+use Rattle.vf_party_steps.specs.declared.step.StepError.{StepError}
+use Rattle.vf_party_steps.specs.declared.step.StepError.TheVariants as errors
 use Rattle.vf_party.proofs.Answering.{IsAsked, asked_decides}
 use Rattle.vf_party.proofs.Bars.{idle_stage}
 use Rattle.vf_party.proofs.Turning.{associated_enters, associated_party, ended_turn, good_turn, refuses}

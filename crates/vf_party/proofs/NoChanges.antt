@@ -6,7 +6,7 @@ use Rattle.vf_attr.specs.declared.file.File.{File}
 use Rattle.vf_base.specs.declared.element.Element.{Element}
 use Rattle.vf_filestore.specs.Changes.{all_piece_changes, change_of, common, delta, docket_changes, file_changes, is_same_file, is_same_open, is_same_regime, piece_changes}
 use Rattle.vf_filestore.specs.Records.{where_any}
-use Rattle.vf_party.specs.Sameness.{are_same_tables, is_same_docket, keeps_pieces, unless_same}
+use Rattle.vf_party_steps.specs.Sameness.{are_same_tables, is_same_docket, keeps_pieces, unless_same}
 use Rattle.vf_tables.specs.Changes.{staged_in}
 use Rattle.vf_tables.specs.Snapshot.{stages_after}
 use Rattle.vf_tables.specs.declared.change.Change.{Change}

@@ -20,7 +20,7 @@ use Rattle.vf_filestore.proofs.Parties.{located}
 use Rattle.vf_filestore.proofs.Preserved.{IsAny, answered_stays}
 use Rattle.vf_filestore.proofs.StaysKept.{histories_stay}
 use Rattle.vf_party.specs.GoingOn.{StandsAs}
-use Rattle.vf_party.specs.Steps.{HoldersOfFiles, StandsIn}
+use Rattle.vf_party_steps.specs.Steps.{HoldersOfFiles, StandsIn}
 use Rattle.vf_party.specs.Turns.{IsTaken}
 use Rattle.vf_party.specs.declared.party.Outcome.{Outcome}
 use Rattle.vf_party.specs.declared.party.Party.{Party}

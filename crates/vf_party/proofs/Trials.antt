@@ -32,15 +32,15 @@ use Rattle.vf_locks.specs.Table.{IsAsBefore}
 use Rattle.vf_party.specs.Items.{AreItems, is_item}
 use Rattle.vf_party.specs.Quiets.{IsQuiet, stage_of}
 use Rattle.vf_party.specs.Refusals.{refusal_numbered}
-use Rattle.vf_party.specs.Steps.{Concludes, HoldersOfFiles, MeetsStep, StandsIn, history_by}
+use Rattle.vf_party_steps.specs.Steps.{Concludes, HoldersOfFiles, MeetsStep, StandsIn, history_by}
 use Rattle.vf_party.specs.Trials.{AreTried, AreTriedIn, ComesOf, HasTried, IsGoodItem, IsJoined, IsBadItem, taken_in}
 use Rattle.vf_party.specs.declared.quiet.Quiet.{Quiet}
 use Rattle.vf_party.specs.declared.quiet.Quiet.TheVariants as quiets
-use Rattle.vf_party.specs.declared.step.Step.{Step}
-use Rattle.vf_party.specs.declared.step.StepError.{StepError}
-use Rattle.vf_party.specs.declared.step.StepError.TheVariants as errors
+use Rattle.vf_party_steps.specs.declared.step.Step.{Step}
+use Rattle.vf_party_steps.specs.declared.step.StepError.{StepError}
+use Rattle.vf_party_steps.specs.declared.step.StepError.TheVariants as errors
 use Rattle.vf_party.specs.declared.trying.Trial.{Trial}
-use Rattle.vf_party.proofs.Kept.{no_change, nothing_due}
+use Rattle.vf_party_steps.proofs.Kept.{no_change, nothing_due}
 use Rattle.vf_party.proofs.Refused.{refused_by_number}
 use Rattle.vf_pdu.specs.PduNumbers.{number_of}
 use Rattle.vf_pdu.specs.declared.pdu.Pdu.{Pdu}

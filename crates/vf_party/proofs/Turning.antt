@@ -26,22 +26,22 @@ use Rattle.vf_filestore.specs.Transition.{answered, associates, met, with_messag
 use Rattle.vf_filestore.specs.Transition.{leaves as leaves_with}
 use Rattle.vf_locks.specs.Table.{IsAsBefore}
 use Rattle.vf_party.specs.Answers.{IsAnswered}
-use Rattle.vf_party.specs.Recoveries.{IsKeptStep, IsRecovered}
+use Rattle.vf_party_steps.specs.Recoveries.{IsKeptStep, IsRecovered}
 use Rattle.vf_party.specs.Refusals.{refusal_numbered}
-use Rattle.vf_party.specs.Steps.{Concludes, HoldersOfFiles, IsStep, MeetsStep, Represents, StandsIn}
+use Rattle.vf_party_steps.specs.Steps.{Concludes, HoldersOfFiles, IsStep, MeetsStep, Represents, StandsIn}
 use Rattle.vf_party.specs.Turns.{ComesOn, ComesTo, EndsSaying, IsAlone, IsEnded, IsNext, IsOutcomeOf, IsParty, IsRefused, IsTaken, IsTurnIn, IsTurnOf, party_of_recovered}
 use Rattle.vf_party.specs.declared.party.Outcome.{Outcome}
 use Rattle.vf_party.specs.declared.party.Party.{Party}
 use Rattle.vf_party.specs.declared.party.Party.TheVariants as parties
 use Rattle.vf_party.specs.declared.quiet.Quiet.TheVariants as quiets
-use Rattle.vf_party.specs.declared.recovering.Recovered.TheVariants as recovered
-use Rattle.vf_party.specs.declared.states.Associated.{Associated}
-use Rattle.vf_party.specs.declared.states.Open.{Open}
+use Rattle.vf_party_steps.specs.declared.recovering.Recovered.TheVariants as recovered
+use Rattle.vf_party_steps.specs.declared.states.Associated.{Associated}
+use Rattle.vf_party_steps.specs.declared.states.Open.{Open}
 use Rattle.vf_party.specs.Quiets.{IsQuiet}
-use Rattle.vf_party.specs.Represents.{IsAssociated, IsOpen}
-use Rattle.vf_party.specs.declared.step.Step.{Step}
-use Rattle.vf_party.specs.declared.step.StepError.{StepError}
-use Rattle.vf_party.specs.declared.step.StepError.TheVariants as errors
+use Rattle.vf_party_steps.specs.Represents.{IsAssociated, IsOpen}
+use Rattle.vf_party_steps.specs.declared.step.Step.{Step}
+use Rattle.vf_party_steps.specs.declared.step.StepError.{StepError}
+use Rattle.vf_party_steps.specs.declared.step.StepError.TheVariants as errors
 use Rattle.vf_party.proofs.Answering.{IsAsked, asked_decides, end_answers, found_heard, refusal_answers, step_answers, step_ends, waits_answers}
 use Rattle.vf_tables.specs.declared.tables.Tables.{Tables}
 

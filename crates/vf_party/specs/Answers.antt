@@ -8,7 +8,7 @@ use Rattle.vf_filestore.specs.HoldersAfter.{Keeps}
 use Rattle.vf_filestore.specs.Stage.{pending}
 use Rattle.vf_filestore.specs.State.{State, StandingParty, party_of}
 use Rattle.vf_filestore.specs.Tables.{tables_of}
-use Rattle.vf_party.specs.Steps.{HoldersOfFiles, Represents}
+use Rattle.vf_party_steps.specs.Steps.{HoldersOfFiles, Represents}
 use Rattle.vf_tables.specs.declared.change.Change.{Change}
 use Rattle.vf_tables.specs.declared.tables.Tables.{Tables}
 

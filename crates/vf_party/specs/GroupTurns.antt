@@ -6,7 +6,7 @@ use Rattle.vf_filestore.specs.Aborts.{Setting}
 use Rattle.vf_filestore.specs.History.{History}
 use Rattle.vf_filestore.specs.State.{State, StandingParty}
 use Rattle.vf_party.specs.Quiets.{IsQuiet}
-use Rattle.vf_party.specs.Steps.{HoldersOfFiles, StandsIn}
+use Rattle.vf_party_steps.specs.Steps.{HoldersOfFiles, StandsIn}
 use Rattle.vf_party.specs.Turns.{IsGrouped, IsTurnIn}
 use Rattle.vf_party.specs.declared.party.Grouping.{Grouping}
 use Rattle.vf_party.specs.declared.party.Outcome.{Outcome}

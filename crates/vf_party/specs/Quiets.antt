@@ -3,11 +3,11 @@ use Rattle.std.specs.Prelude.{ℕ, Result, Ok, Err}
 use Rattle.vf_elements.specs.declared.stage.Stage.{Stage}
 use Rattle.vf_elements.specs.declared.stage.Stage.TheVariants as stages
 use Rattle.vf_filestore.specs.History.{History}
-use Rattle.vf_party.specs.Represents.{IsAssociated, IsOpen, IsSelected}
+use Rattle.vf_party_steps.specs.Represents.{IsAssociated, IsOpen, IsSelected}
 use Rattle.vf_party.specs.declared.quiet.Quiet.{Quiet}
 use Rattle.vf_party.specs.declared.quiet.Quiet.TheVariants as quiets
-use Rattle.vf_party.specs.declared.step.Step.{Step}
-use Rattle.vf_party.specs.declared.step.StepError.{StepError}
+use Rattle.vf_party_steps.specs.declared.step.Step.{Step}
+use Rattle.vf_party_steps.specs.declared.step.StepError.{StepError}
 
 abbrev pub IsQuiet : Quiet → (link : ℕ) → History → Type 0
 IsQuiet (quiets.Associated associated) link history = IsAssociated associated link history

@@ -15,11 +15,11 @@ use Rattle.vf_filestore.specs.State.{State, StandingParty}
 use Rattle.vf_party.specs.Items.{AreItems, is_item}
 use Rattle.vf_party.specs.Quiets.{IsQuiet}
 use Rattle.vf_party.specs.Refusals.{refusal_numbered}
-use Rattle.vf_party.specs.Steps.{HoldersOfFiles, StandsIn}
+use Rattle.vf_party_steps.specs.Steps.{HoldersOfFiles, StandsIn}
 use Rattle.vf_party.specs.declared.quiet.Quiet.{Quiet}
-use Rattle.vf_party.specs.declared.step.Step.{Step}
-use Rattle.vf_party.specs.declared.step.StepError.{StepError}
-use Rattle.vf_party.specs.declared.step.StepError.TheVariants as errors
+use Rattle.vf_party_steps.specs.declared.step.Step.{Step}
+use Rattle.vf_party_steps.specs.declared.step.StepError.{StepError}
+use Rattle.vf_party_steps.specs.declared.step.StepError.TheVariants as errors
 use Rattle.vf_party.specs.declared.trying.Trial.{Trial}
 use Rattle.vf_pdu.specs.declared.pdu.Pdu.{Pdu}
 use Rattle.vf_tables.specs.Changes.{after_all}

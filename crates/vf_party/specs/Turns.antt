@@ -18,26 +18,26 @@ use Rattle.vf_filestore.specs.State.{State, StandingParty, party_of}
 use Rattle.vf_filestore.specs.Transition.{answered}
 use Rattle.vf_locks.specs.Table.{IsAsBefore}
 use Rattle.vf_party.specs.Items.{is_item}
-use Rattle.vf_party.specs.Leaving.{LeavesHolders}
+use Rattle.vf_party_steps.specs.Leaving.{LeavesHolders}
 use Rattle.vf_party.specs.Quiets.{IsQuiet}
-use Rattle.vf_party.specs.Reads.{IsReading}
+use Rattle.vf_party_steps.specs.Reads.{IsReading}
 use Rattle.vf_party.specs.Refusals.{refusal_numbered}
-use Rattle.vf_party.specs.Represents.{IsAssociated, IsIdle}
-use Rattle.vf_party.specs.Steps.{HoldersOfFiles, Represents, StandsIn}
-use Rattle.vf_party.specs.Writes.{IsWriting}
+use Rattle.vf_party_steps.specs.Represents.{IsAssociated, IsIdle}
+use Rattle.vf_party_steps.specs.Steps.{HoldersOfFiles, Represents, StandsIn}
+use Rattle.vf_party_steps.specs.Writes.{IsWriting}
 use Rattle.vf_party.specs.declared.party.Grouping.{Grouping}
 use Rattle.vf_party.specs.declared.party.Outcome.{Outcome}
 use Rattle.vf_party.specs.declared.party.Party.{Party}
 use Rattle.vf_party.specs.declared.party.Party.TheVariants as parties
-use Rattle.vf_party.specs.declared.idle.Idle.{Idle}
-use Rattle.vf_party.specs.declared.recovering.Recovered.{Recovered}
-use Rattle.vf_party.specs.declared.recovering.Recovered.TheVariants as recovered
+use Rattle.vf_party_steps.specs.declared.idle.Idle.{Idle}
+use Rattle.vf_party_steps.specs.declared.recovering.Recovered.{Recovered}
+use Rattle.vf_party_steps.specs.declared.recovering.Recovered.TheVariants as recovered
 use Rattle.vf_party.specs.declared.quiet.Quiet.{Quiet}
 use Rattle.vf_party.specs.declared.quiet.Quiet.TheVariants as quiets
-use Rattle.vf_party.specs.declared.states.Associated.{Associated}
-use Rattle.vf_party.specs.declared.step.Step.{Step}
-use Rattle.vf_party.specs.declared.step.StepError.{StepError}
-use Rattle.vf_party.specs.declared.step.StepError.TheVariants as errors
+use Rattle.vf_party_steps.specs.declared.states.Associated.{Associated}
+use Rattle.vf_party_steps.specs.declared.step.Step.{Step}
+use Rattle.vf_party_steps.specs.declared.step.StepError.{StepError}
+use Rattle.vf_party_steps.specs.declared.step.StepError.TheVariants as errors
 use Rattle.vf_tables.specs.declared.tables.Tables.{Tables}
 
 -- PARTIES. One outside of a group, and one in a group that isn't ended.

@@ -1,17 +1,15 @@
 //! What aborts a request before anything else is asked (profile): an abort has no diagnostic, and ends the association.
-ghost use Rattle.std.specs.Prelude.{◌≡◌, ◌&&◌, [], ◌∷◌, nat_le, not};
-ghost use Rattle.vf_files.specs.Rows.{includes as includes_meant};
+ghost use Rattle.std.specs.Prelude.{◌≡◌, ◌+◌, ◌-◌, ◌&&◌, [], ◌∷◌, nat_le, not};
 ghost use Rattle.vf_filestore.specs.Aborts.{abort_where, first_abort, passes_serials as passes_serials_meant};
 ghost use Rattle.vf_filestore.specs.Diagnostics.{numbers_spent, wrong_state};
 ghost use Rattle.vf_filestore.specs.Units.{has_checks as has_checks_meant};
+ghost use Rattle.vf_tables.specs.Validity.{includes as includes_meant};
 ghost use Rattle.vf_transfer.specs.Checks.{offered};
 ghost use Rattle.vf_party.specs.Aborting.{aborts_of_open, aborts_of_quiet, aborts_of_reading, aborts_of_restart, aborts_of_units, aborts_of_writing, passes_with as passes_with_meant, spent_aborts};
 
-use crate::states::OpenRegime;
 use crate::{Message, Quiet, Reading, Writing};
 use vf_base::Element;
 use vf_pdu::Pdu;
-use vf_regime_refusals::Association;
 use vf_tree::octets_of;
 
 /// The number of the abort of what the stage doesn't take, or may not come in it.
@@ -49,13 +47,10 @@ pub(crate) fn aborted_in_quiet(quiet: &Quiet, request: &Pdu, token: bool) -> Opt
     ensures { result ≡ first_abort (aborts_of_quiet quiet.now token request.now) }
 {
     match quiet {
-        Quiet::Associated(associated) => aborted_by_units(associated.association.units, request),
-        Quiet::Selected(selected) => {
-            aborted_by_units(selected.associated.association.units, request)
-        }
+        Quiet::Associated(associated) => aborted_by_units(associated.association().units, request),
+        Quiet::Selected(selected) => aborted_by_units(selected.association().units, request),
         Quiet::Open(regimes) => {
-            let association = &regimes.selected.associated.association;
-            aborted_in_open(association, &regimes.regime, request, token)
+            aborted_in_open(regimes.association().units, regimes.done(), request, token)
         }
     }
 }
@@ -75,24 +70,19 @@ fn aborted_by_units(units: u16, request: &Pdu) -> Option<u16>
     }
 }
 
-/// What aborts a request in an open regime in which no transfer is under way.
-fn aborted_in_open(
-    association: &Association,
-    regime: &OpenRegime,
-    request: &Pdu,
-    token: bool,
-) -> Option<u16>
-    ensures { result ≡ first_abort (aborts_of_open association.now.units regime.now.done token request.now) }
+/// What aborts a request in an open regime in which so many transfers are concluded and none is under way.
+fn aborted_in_open(units: u16, done: u32, request: &Pdu, token: bool) -> Option<u16>
+    ensures { result ≡ first_abort (aborts_of_open units done token request.now) }
 {
     match request {
         Pdu::ReadRequest { .. } => {
-            if has_checks(association.units) && !token {
+            if has_checks(units) && !token {
                 return Some(WRONG_STATE);
             }
-            spent(regime.done)
+            spent(done)
         }
-        Pdu::WriteRequest { .. } => spent(regime.done),
-        _ => aborted_by_units(association.units, request),
+        Pdu::WriteRequest { .. } => spent(done),
+        _ => aborted_by_units(units, request),
     }
 }
 
@@ -125,7 +115,7 @@ pub(crate) fn aborted_in_reading(reading: &Reading, message: &Message, serial: u
     ensures { result ≡ first_abort (aborts_of_reading reading.now serial message.now) }
 {
     match message {
-        Message::Acknowledge { point } => unknown(reading.start, reading.check, *point),
+        Message::Acknowledge { point } => unknown(reading.is_known(*point)),
         Message::Restart { point } => aborted_read_restart(reading, serial, *point),
         Message::Pdu(Pdu::RestartRequest { point }) => {
             aborted_read_restart(reading, serial, *point)
@@ -138,15 +128,21 @@ pub(crate) fn aborted_in_reading(reading: &Reading, message: &Message, serial: u
 fn aborted_read_restart(reading: &Reading, serial: u32, point: u32) -> Option<u16>
     ensures { result ≡ first_abort (aborts_of_restart reading.now.opened.selected.associated.association.units reading.now.start reading.now.check serial point) }
 {
-    let units = reading.opened.selected.associated.association.units;
-    aborted_restart(units, reading.start, reading.check, serial, point)
+    let units = reading.association().units;
+    aborted_restart(
+        units,
+        reading.is_known(point),
+        reading.check_number(),
+        serial,
+        point,
+    )
 }
 
-/// What aborts the acknowledgement of a check that isn't one of these.
-fn unknown(start: u32, last: u32, check: u32) -> Option<u16>
-    ensures { result ≡ first_abort (abort_where (not (nat_le start check && nat_le check last)) wrong_state ∷ []) }
+/// What aborts the acknowledgement of a check that doesn't stand, where it isn't known.
+fn unknown(known: bool) -> Option<u16>
+    ensures { result ≡ first_abort (abort_where (not known) wrong_state ∷ []) }
 {
-    if !is_known(start, last, check) {
+    if !known {
         return Some(WRONG_STATE);
     }
     None
@@ -168,13 +164,13 @@ pub(crate) fn aborted_in_writing(writing: &Writing, message: &Message, serial: u
 {
     match message {
         Message::Element(element) => {
-            if passes_with(writing.octets, writing.received.values().len(), element) {
+            if passes_with(writing.octets(), writing.values().len(), element) {
                 return Some(TOO_LONG);
             }
             None
         }
         Message::Check => {
-            if !has_checks(writing.regimes.selected.associated.association.units) {
+            if !has_checks(writing.association().units) {
                 return Some(WRONG_STATE);
             }
             None
@@ -198,38 +194,31 @@ fn passes_with(octets: u64, count: usize, element: &Element) -> bool
 fn aborted_write_restart(writing: &Writing, serial: u32, point: u32) -> Option<u16>
     ensures { result ≡ first_abort (aborts_of_restart writing.now.regimes.selected.associated.association.units writing.now.start (offered writing.now.received.checks) serial point) }
 {
-    let units = writing.regimes.selected.associated.association.units;
+    let units = writing.association().units;
     aborted_restart(
         units,
-        writing.start,
-        writing.received.point(),
+        writing.is_known(point),
+        writing.check_number(),
         serial,
         point,
     )
 }
 
-/// What aborts a restart at a check under these functional units, of a transfer that began at the check `start` and whose
-/// last is `check`, where the session's next check has this number.
-fn aborted_restart(units: u16, start: u32, check: u32, serial: u32, point: u32) -> Option<u16>
-    ensures { result ≡ first_abort (aborts_of_restart units start check serial point) }
+/// What aborts a restart at a check under these functional units, where it is known whether that check stands, of a
+/// transfer whose last is `check`, where the session's next check has this number.
+fn aborted_restart(units: u16, known: bool, check: u32, serial: u32, point: u32) -> Option<u16>
+    ensures { result ≡ first_abort (abort_where (not (has_checks_meant units)) wrong_state ∷ abort_where (not known) wrong_state ∷ abort_where (passes_serials_meant ((serial + point) - check)) numbers_spent ∷ []) }
 {
     if !has_checks(units) {
         return Some(WRONG_STATE);
     }
-    if !is_known(start, check, point) {
+    if !known {
         return Some(WRONG_STATE);
     }
     if passes_serials((u64::from(serial) + u64::from(point)).saturating_sub(u64::from(check))) {
         return Some(NUMBERS_SPENT);
     }
     None
-}
-
-/// Whether a check is one of these.
-fn is_known(start: u32, last: u32, check: u32) -> bool
-    ensures { result ≡ (nat_le start check && nat_le check last) }
-{
-    start <= check && check <= last
 }
 
 /// Whether this is no number of a session.

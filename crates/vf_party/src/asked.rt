@@ -1,32 +1,22 @@
 //! What is asked of a party.
 ghost use Rattle.std.specs.Prelude.{◌≡◌, option_copied, option_map};
 ghost use Rattle.vf_filestore.specs.History.{association};
+ghost use Rattle.vf_filestore.specs.Opening.{is_at as is_at_meant};
 ghost use Rattle.vf_filestore.specs.Stage.{stage as stage_meant};
-ghost use Rattle.vf_filestore.specs.State.{StandingParty, activity_of};
+ghost use Rattle.vf_filestore.specs.State.{StandingParty};
 ghost use Rattle.vf_filestore.specs.Transfers.{last_check as last_check_meant, under_way};
 ghost use Rattle.vf_party.specs.Turns.{IsParty};
 
-use crate::{Associated, Party, Quiet, taking_writing};
+use crate::{Party, Quiet};
 use vf_base::Name;
 use vf_elements::Stage;
 
-/// The association of a party in which no transfer is under way.
-fn associated_in(quiet: &Quiet) -> &Associated {
+/// The identity of an association in which no transfer is under way.
+fn identity_in(quiet: &Quiet) -> &Name {
     match quiet {
-        Quiet::Associated(associated) => associated,
-        Quiet::Selected(selected) => &selected.associated,
-        Quiet::Open(regimes) => &regimes.selected.associated,
-    }
-}
-
-/// The association of a party, if it has one.
-fn associated(party: &Party) -> Option<&Associated> {
-    match party {
-        Party::Idle(_) => None,
-        Party::Quiet(quiet) => Some(associated_in(quiet)),
-        Party::Reading(reading) => Some(&reading.opened.selected.associated),
-        Party::Writing(writing) => Some(&writing.regimes.selected.associated),
-        Party::Grouping(grouping) => Some(associated_in(&grouping.quiet)),
+        Quiet::Associated(associated) => &associated.association().identity,
+        Quiet::Selected(selected) => &selected.association().identity,
+        Quiet::Open(open) => &open.association().identity,
     }
 }
 
@@ -35,7 +25,18 @@ fn activity_in(quiet: &Quiet) -> Option<u32> {
     match quiet {
         Quiet::Associated(_) => None,
         Quiet::Selected(_) => None,
-        Quiet::Open(regimes) => regimes.regime.activity,
+        Quiet::Open(open) => open.activity(),
+    }
+}
+
+/// The activity of the open of a party, where it has one and that is recoverable.
+fn open_activity(party: &Party) -> Option<u32> {
+    match party {
+        Party::Idle(_) => None,
+        Party::Quiet(quiet) => activity_in(quiet),
+        Party::Reading(reading) => reading.activity(),
+        Party::Writing(writing) => writing.activity(),
+        Party::Grouping(grouping) => activity_in(&grouping.quiet),
     }
 }
 
@@ -48,7 +49,7 @@ impl Party {
             Party::Idle(_) => Stage::Idle,
             Party::Quiet(quiet) => quiet.stage(),
             Party::Reading(reading) => reading.stage(),
-            Party::Writing(writing) => taking_writing::stage(writing),
+            Party::Writing(writing) => writing.stage(),
             Party::Grouping(_) => Stage::Grouping,
         }
     }
@@ -57,20 +58,25 @@ impl Party {
     pub fn identity(&self) -> Option<&Name>
         ensures { (standing : StandingParty) → IsParty self.now standing → option_copied result ≡ option_map (λ association. association.identity) (association standing.history) }
     {
-        let associated = associated(self)?;
-        Some(&associated.association.identity)
-    }
-
-    /// The activity of its open regime; absent where none is open, or the open isn't recoverable.
-    pub fn activity(&self) -> Option<u32>
-        ensures { (standing : StandingParty) → IsParty self.now standing → result ≡ activity_of standing }
-    {
         match self {
             Party::Idle(_) => None,
-            Party::Quiet(quiet) => activity_in(quiet),
-            Party::Reading(reading) => reading.opened.regime.activity,
-            Party::Writing(writing) => writing.regimes.regime.activity,
-            Party::Grouping(grouping) => activity_in(&grouping.quiet),
+            Party::Quiet(quiet) => Some(identity_in(quiet)),
+            Party::Reading(reading) => Some(&reading.association().identity),
+            Party::Writing(writing) => Some(&writing.association().identity),
+            Party::Grouping(grouping) => Some(identity_in(&grouping.quiet)),
+        }
+    }
+
+    /// Whether the party has this identity and a recoverable open of this activity.
+    pub fn is_at(&self, identity: &Name, activity: u32) -> bool
+        ensures { (standing : StandingParty) → IsParty self.now standing → result ≡ is_at_meant identity.now activity standing }
+    {
+        if open_activity(self) != Some(activity) {
+            return false;
+        }
+        match self.identity() {
+            Some(own) => own == identity,
+            None => false,
         }
     }
 
@@ -81,8 +87,8 @@ impl Party {
         match self {
             Party::Idle(_) => None,
             Party::Quiet(_) => None,
-            Party::Reading(reading) => Some(reading.check),
-            Party::Writing(writing) => Some(writing.received.point()),
+            Party::Reading(reading) => Some(reading.check_number()),
+            Party::Writing(writing) => Some(writing.check_number()),
             Party::Grouping(_) => None,
         }
     }

@@ -5,10 +5,10 @@ ghost use Rattle.vf_party.specs.Turns.{EndsSaying, IsEnded};
 
 use crate::Said;
 use crate::party::{Outcome, Party, PartyState};
-use crate::step::one_said;
 use std::alloc::Global;
 use vf_base::NoMemory;
 use vf_locks::Locks;
+use vf_party_steps::one_said;
 use vf_tables::Changes;
 
 /// The party is gone, once this is said.

@@ -2,18 +2,17 @@
 ghost use Rattle.std.specs.Prelude.{◌≡◌, IfErr, IfOk};
 ghost use Rattle.vf_filestore.specs.Groups.{between as between_meant};
 ghost use Rattle.vf_party.specs.GroupEnds.{IsEnd, IsPerformed};
-ghost use Rattle.vf_party.specs.Sameness.{unless_same as unless_same_meant};
+ghost use Rattle.vf_party_steps.specs.Sameness.{unless_same as unless_same_meant};
 ghost use Rattle.vf_party.specs.Settings.{setting_of};
 ghost use Rattle.vf_party.specs.Trials.{AreTried};
-ghost use Rattle.vf_party.specs.declared.step.StepError.TheVariants as errors;
+ghost use Rattle.vf_party_steps.specs.declared.step.StepError.TheVariants as errors;
 
-use crate::sameness::are_same;
-use crate::step::one_said;
 use crate::trying::{Trial, said_before, try_items};
 use crate::{Quiet, Said, Setting, Step, StepError};
 use std::alloc::Global;
 use vf_base::NoMemory;
 use vf_locks::Locks;
+use vf_party_steps::{are_same, one_said};
 use vf_pdu::Pdu;
 use vf_tables::{Changes, Tables};
 

@@ -6,7 +6,7 @@ ghost use Rattle.vf_elements.specs.declared.stage.Stage.TheVariants as stages;
 ghost use Rattle.vf_party.specs.Items.{is_item as is_item_meant};
 ghost use Rattle.vf_party.specs.Quiets.{IsQuiet, stage_of};
 ghost use Rattle.vf_party.specs.Settings.{setting_of};
-ghost use Rattle.vf_party.specs.Steps.{IsStep};
+ghost use Rattle.vf_party_steps.specs.Steps.{IsStep};
 ghost use Rattle.vf_party.specs.declared.quiet.Quiet.TheVariants as quiets;
 
 use crate::quiet::quieted;

@@ -1,45 +1,19 @@
-//! One party of the filestore, in its innermost regime (ISO 8571-4): typed states, each of which owns the one around it,
-//! and steps from one to the next, over the store's tables and locks.
+//! One party of the filestore, in its innermost regime (ISO 8571-4): what comes of each message, by the step of its typed
+//! state that takes it.
 #![tactic(auto)]
 
 mod aborting;
 mod asked;
-mod associated;
-mod attributes;
-mod changing;
-mod checking;
 mod copies;
-mod creating;
-mod deleting;
 mod departing;
-mod dockets;
-mod due;
-mod ending;
-mod erasing;
-mod files;
 mod grouping;
-mod holding;
-mod idle;
 mod items;
 mod leaving;
-mod locating;
-mod opening;
 mod outcomes;
 mod party;
-mod positions;
 mod quiet;
-mod read_end;
-mod read_request;
-mod reading;
-mod received;
-mod recovering;
 mod refusals;
-mod regimes;
-mod sameness;
-mod selected;
 mod setting;
-mod states;
-mod step;
 mod taking_group;
 mod taking_idle;
 mod taking_quiet;
@@ -47,15 +21,10 @@ mod taking_reading;
 mod taking_regime;
 mod taking_writing;
 mod trying;
-mod writing;
 
-pub use idle::Idle;
 pub use party::{Grouping, Outcome, Party};
 pub use quiet::Quiet;
-pub use reading::Reading;
-pub use recovering::Recovered;
 pub use setting::Setting;
-pub use states::{Associated, Open, Selected};
-pub use step::{Step, StepError};
-pub use vf_elements::{Message, Said};
-pub use writing::Writing;
+pub use vf_party_steps::{
+    Associated, Idle, Message, Open, Reading, Recovered, Said, Selected, Step, StepError, Writing,
+};

@@ -1,19 +1,19 @@
 ghost use Rattle.std.specs.Prelude.{◌≡◌, ℕ};
 ghost use Rattle.vf_filestore.specs.History.{History};
 ghost use Rattle.vf_filestore.specs.State.{arrived as arrived_meant};
-ghost use Rattle.vf_party.specs.Leaving.{LeavesHolders};
+ghost use Rattle.vf_party_steps.specs.Leaving.{LeavesHolders};
 ghost use Rattle.vf_party.specs.Quiets.{IsQuiet};
-ghost use Rattle.vf_party.specs.Reads.{IsReading};
-ghost use Rattle.vf_party.specs.Recoveries.{IsRecovered};
+ghost use Rattle.vf_party_steps.specs.Reads.{IsReading};
+ghost use Rattle.vf_party_steps.specs.Recoveries.{IsRecovered};
 ghost use Rattle.vf_party.specs.Settings.{setting_of};
 ghost use Rattle.vf_party.specs.Turns.{IsParty, IsTurn, LeavesParty, party_of_recovered};
-ghost use Rattle.vf_party.specs.Represents.{IsAssociated, IsIdle, IsOpen};
-ghost use Rattle.vf_party.specs.Writes.{IsWriting};
+ghost use Rattle.vf_party_steps.specs.Represents.{IsAssociated, IsIdle, IsOpen};
+ghost use Rattle.vf_party_steps.specs.Writes.{IsWriting};
 ghost use Rattle.vf_party.specs.declared.party.Party.{Party as PartyMeant};
 ghost use Rattle.vf_party.specs.declared.party.Party.TheVariants as parties;
 ghost use Rattle.vf_party.specs.declared.quiet.Quiet.TheVariants as quiets;
 
-use crate::leaving::{leave, leave_quiet};
+use crate::leaving::leave_quiet;
 use crate::taking_group::take_grouping;
 use crate::taking_idle::take_idle;
 use crate::taking_quiet::take_quiet;
@@ -129,7 +129,9 @@ impl PartyState for Idle {
         Party::Idle(self)
     }
 
-    fn leave(self, locks: &mut Locks) {}
+    fn leave(self, locks: &mut Locks) {
+        Idle::leave(self, locks);
+    }
 }
 
 impl PartyState for Quiet {
@@ -156,7 +158,7 @@ impl PartyState for Reading {
     }
 
     fn leave(self, locks: &mut Locks) {
-        leave(self.opened.selected, self.opened.regime.activity, locks);
+        Reading::leave(self, locks);
     }
 }
 
@@ -170,7 +172,7 @@ impl PartyState for Writing {
     }
 
     fn leave(self, locks: &mut Locks) {
-        leave(self.regimes.selected, self.regimes.regime.activity, locks);
+        Writing::leave(self, locks);
     }
 }
 
@@ -184,7 +186,7 @@ impl PartyState for Associated {
     }
 
     fn leave(self, locks: &mut Locks) {
-        leave_quiet(Quiet::Associated(self), locks);
+        Associated::leave(self, locks);
     }
 }
 
@@ -198,7 +200,7 @@ impl PartyState for Open {
     }
 
     fn leave(self, locks: &mut Locks) {
-        leave_quiet(Quiet::Open(self), locks);
+        Open::leave(self, locks);
     }
 }
 

@@ -1,7 +1,7 @@
 ghost use Rattle.std.specs.Prelude.{◌≡◌, ℕ};
 ghost use Rattle.vf_filestore.specs.History.{History};
 ghost use Rattle.vf_party.specs.Quiets.{IsQuiet, stage_of as stage_meant, taken_as};
-ghost use Rattle.vf_party.specs.Represents.{IsAssociated, IsOpen, IsSelected};
+ghost use Rattle.vf_party_steps.specs.Represents.{IsAssociated, IsOpen, IsSelected};
 ghost use Rattle.vf_party.specs.declared.quiet.Quiet.{Quiet as QuietMeant};
 ghost use Rattle.vf_party.specs.declared.quiet.Quiet.TheVariants as quiets;
 

@@ -3,9 +3,9 @@ ghost use Rattle.std.specs.Prelude.{◌≡◌, IfOk};
 ghost use Rattle.vf_party.specs.Refusals.{refusal_numbered, response_numbered};
 
 use crate::Said;
-use crate::step::one_said;
 use std::alloc::Global;
 use vf_base::{Diagnostic, NoMemory};
+use vf_party_steps::one_said;
 use vf_pdu::{Boxed, Pdu};
 
 /// What is said to a request of this number (of its tag, ISO 8571-4) that the diagnostic refuses: its own response, and

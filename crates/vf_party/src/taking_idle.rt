@@ -3,7 +3,7 @@ ghost use Rattle.std.specs.Prelude.{◌≡◌, true};
 ghost use Rattle.vf_elements.specs.Stages.{takes};
 ghost use Rattle.vf_elements.specs.declared.message.Message.TheVariants as messages;
 ghost use Rattle.vf_elements.specs.declared.stage.Stage.TheVariants as stages;
-ghost use Rattle.vf_party.specs.Represents.{IsIdle};
+ghost use Rattle.vf_party_steps.specs.Represents.{IsIdle};
 ghost use Rattle.vf_party.specs.Settings.{setting_of};
 ghost use Rattle.vf_party.specs.Turns.{Associates, IsTurnOf};
 ghost use Rattle.vf_party.specs.declared.party.Party.TheVariants as parties;

@@ -4,7 +4,7 @@ ghost use Rattle.vf_elements.specs.Stages.{takes};
 ghost use Rattle.vf_elements.specs.declared.message.Message.TheVariants as messages;
 ghost use Rattle.vf_filestore.specs.Aborts.{first_abort};
 ghost use Rattle.vf_party.specs.Aborting.{aborts_of_reading};
-ghost use Rattle.vf_party.specs.Reads.{IsReading, stage_of};
+ghost use Rattle.vf_party_steps.specs.Reads.{IsReading, stage_of};
 ghost use Rattle.vf_party.specs.Settings.{setting_of};
 ghost use Rattle.vf_party.specs.Turns.{IsTurnOf};
 ghost use Rattle.vf_party.specs.declared.party.Party.TheVariants as parties;

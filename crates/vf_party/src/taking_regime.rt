@@ -8,7 +8,7 @@ ghost use Rattle.vf_filestore.specs.Aborts.{first_abort};
 ghost use Rattle.vf_party.specs.Aborting.{aborts_of_quiet};
 ghost use Rattle.vf_party.specs.Items.{is_item as is_item_meant};
 ghost use Rattle.vf_party.specs.Quiets.{IsQuiet, stage_of};
-ghost use Rattle.vf_party.specs.Represents.{IsAssociated};
+ghost use Rattle.vf_party_steps.specs.Represents.{IsAssociated};
 ghost use Rattle.vf_party.specs.Settings.{setting_of};
 ghost use Rattle.vf_party.specs.Turns.{EndsSaying, IsBegun, IsTurnOf};
 ghost use Rattle.vf_party.specs.declared.party.Party.TheVariants as parties;

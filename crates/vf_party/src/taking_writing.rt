@@ -4,8 +4,8 @@ ghost use Rattle.vf_elements.specs.Stages.{takes};
 ghost use Rattle.vf_elements.specs.declared.message.Message.TheVariants as messages;
 ghost use Rattle.vf_filestore.specs.Aborts.{first_abort};
 ghost use Rattle.vf_party.specs.Aborting.{aborts_of_writing};
-ghost use Rattle.vf_party.specs.Writes.{IsWriting};
-ghost use Rattle.vf_party.specs.Moving.{stage_of_writing};
+ghost use Rattle.vf_party_steps.specs.Writes.{IsWriting};
+ghost use Rattle.vf_party_steps.specs.Moving.{stage_of_writing};
 ghost use Rattle.vf_party.specs.Settings.{setting_of};
 ghost use Rattle.vf_party.specs.Turns.{IsTurnOf};
 ghost use Rattle.vf_party.specs.declared.party.Party.TheVariants as parties;
@@ -17,7 +17,6 @@ use crate::party::{Outcome, Party};
 use crate::{Message, Setting, Writing};
 use std::alloc::Global;
 use vf_base::NoMemory;
-use vf_elements::Stage;
 use vf_locks::Locks;
 use vf_pdu::Pdu;
 use vf_tables::Tables;
@@ -33,7 +32,7 @@ pub(crate) fn take_writing(
 ) -> Result<Outcome, (Party, NoMemory)>
     ensures { IsTurnOf IsWriting parties.Writing tables.now locks.old locks.new writing (setting_of setting) message result }
 {
-    if !stage(&writing).takes(&message) {
+    if !writing.stage().takes(&message) {
         return aborted(alloc, writing, WRONG_STATE, locks);
     }
     let bar = aborted_in_writing(&writing, &message, setting.serial);
@@ -133,14 +132,4 @@ fn take_request(
         Pdu::ProviderAbort { .. } => Ok(ended(alloc, writing, Vec::new(alloc), locks)),
         _ => unreachable!(),
     }
-}
-
-/// The innermost regime, and how far the write has come.
-pub(crate) fn stage(writing: &Writing) -> Stage
-    ensures { result ≡ stage_of_writing writing.now }
-{
-    if writing.ended.is_some() {
-        return Stage::Written;
-    }
-    Stage::Writing
 }

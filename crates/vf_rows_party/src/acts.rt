@@ -7,7 +7,7 @@ use std::alloc::Global;
 use std::test::Fail;
 use vf_base::{Actions, BaseError, Contents, FaduId, Moment, Name, Oid, Sequence};
 use vf_locks::Locks;
-use vf_party::{Open, Selected};
+use vf_party_steps::{Open, Selected};
 use vf_pdu::Pdu;
 use vf_tables::Tables;
 

@@ -4,7 +4,7 @@ use std::alloc::Global;
 use std::test::Fail;
 use vf_base::{Actions, BaseError, Moment, Name};
 use vf_locks::Locks;
-use vf_party::{Selected, Step};
+use vf_party_steps::{Selected, Step};
 use vf_pdu::Pdu;
 
 /// What a change of the permitted actions of `a`, and of its name where there is a new one, leaves.

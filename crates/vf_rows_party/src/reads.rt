@@ -4,7 +4,7 @@ use std::alloc::Global;
 use std::test::Fail;
 use vf_base::{Context, DataUnit, Element, FaduId, Moment, NoMemory, Octets, Sequence};
 use vf_locks::Locks;
-use vf_party::{Open, Reading};
+use vf_party_steps::{Open, Reading};
 use vf_pdu::Pdu;
 use vf_tables::{Change, Tables};
 

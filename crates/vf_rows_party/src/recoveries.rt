@@ -5,7 +5,7 @@ use std::alloc::Global;
 use std::test::Fail;
 use vf_base::{Control, Controls, Moment, Name};
 use vf_locks::{Holder, Locks};
-use vf_party::{Recovered, Step, StepError};
+use vf_party_steps::{Recovered, Step, StepError};
 use vf_pdu::Pdu;
 use vf_tables::Tables;
 

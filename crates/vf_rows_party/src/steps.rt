@@ -5,7 +5,7 @@ use std::alloc::Global;
 use std::test::Fail;
 use vf_base::{Actions, BaseError, Contents, Moment, Name, Oid, Sequence};
 use vf_locks::Locks;
-use vf_party::{Associated, Idle, Open, Selected, Step};
+use vf_party_steps::{Associated, Idle, Open, Selected, Step};
 use vf_pdu::Pdu;
 use vf_tables::{Change, Changes, Tables};
 

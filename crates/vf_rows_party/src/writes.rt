@@ -4,7 +4,7 @@ use std::alloc::Global;
 use std::test::Fail;
 use vf_base::{Element, FaduId, Moment, Name, Octets};
 use vf_locks::Locks;
-use vf_party::{Open, Step, Writing};
+use vf_party_steps::{Open, Step, Writing};
 use vf_pdu::{Pdu, WriteOperation};
 use vf_tables::Tables;
 

@@ -24,6 +24,6 @@ pub use session::Session;
 pub use state::SessionState;
 pub use units::{ResyncKind, SessionOut, SessionSay, TokenSide};
 pub use vf_session_spdu::{
-    Spdu, SpduError, SpduFields, fault_place, place_after_gt, read, read_shared, write,
+    Spdu, SpduError, SpduFields, fault_place, place_after_gt, read, read_shared, write, write_head,
     written_is_read_again,
 };

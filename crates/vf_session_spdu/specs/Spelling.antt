@@ -74,8 +74,12 @@ abbrev pub octets_after : Spdu → SpduKind → List ℕ
 octets_after spdu DT = spdu.octets
 octets_after spdu kind = []
 
+-- what stands before it: identifier, length and parameters
+abbrev pub heading : Spdu → List ℕ
+heading spdu = spelled (code_of spdu.kind) (spelled_parameters spdu)
+
 abbrev pub spelling : Spdu → List ℕ
-spelling spdu = spelled (code_of spdu.kind) (spelled_parameters spdu) ++ octets_after spdu spdu.kind
+spelling spdu = heading spdu ++ octets_after spdu spdu.kind
 
 -- The fields that an SPDU is written with. A proposal or an agreement of sync (0028, with duplex 002A) has the
 -- first serial number, and a token setting; without sync there is duplex alone (0002).

@@ -20,4 +20,4 @@ pub use limits::{LAST_SERIAL, MOST_CONNECT_OCTETS, MOST_PARAMETER_OCTETS};
 pub use numbers::digit_count;
 pub use reading::{fault_place, place_after_gt, read, read_shared};
 pub use spdu::{Spdu, SpduFields};
-pub use writing::write;
+pub use writing::{write, write_head};

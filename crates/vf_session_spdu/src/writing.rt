@@ -4,7 +4,7 @@ ghost use Rattle.std.specs.List.{flat_map};
 ghost use Rattle.std.specs.Option.{option_map};
 ghost use Rattle.vf_session_spdu.specs.declared.limits.TheConstants.{MOST_PARAMETER_OCTETS};
 ghost use Rattle.vf_session_spdu.specs.Numbers.{length_octets, digits};
-ghost use Rattle.vf_session_spdu.specs.Spelling.{IsWritten, spelling, spelled, spelled_if, spelled_row, spelled_group, spelled_parameters, octet, two_octets, first_data, second_data, reasoned, octets_after as data_after};
+ghost use Rattle.vf_session_spdu.specs.Spelling.{IsWritten, heading, spelling, spelled, spelled_if, spelled_row, spelled_group, spelled_parameters, octet, two_octets, first_data, second_data, reasoned, octets_after as data_after};
 
 use crate::Spdu;
 use crate::kinds::{code_of, is_dt};
@@ -20,11 +20,33 @@ pub fn write(alloc: Global, spdu: &Spdu, out: &mut Vec<u8>) -> Result<(), NoMemo
     ensures ok { OnOk result (out.new.items ≡ out.old.items ++ spelling spdu.now) }
     ensures err { OnErr result (out.new.items ≡ out.old.items) }
 {
+    let mut head = Vec::new(alloc);
+    put_head(alloc, spdu, &mut head)?;
+    append_both(head.as_slice(), data_of(spdu), out)?;
+    Ok(())
+}
+
+/// Appends the spelling of an SPDU up to the data of a DT, which is copied from where it stands by a caller that sends it;
+/// that of any other SPDU is whole. Without memory nothing is appended.
+pub fn write_head(alloc: Global, spdu: &Spdu, out: &mut Vec<u8>) -> Result<(), NoMemory>
+    requires { IsWritten spdu.now }
+    ensures ok { OnOk result (out.new.items ≡ out.old.items ++ heading spdu.now) }
+    ensures err { OnErr result (out.new.items ≡ out.old.items) }
+{
+    let mut head = Vec::new(alloc);
+    put_head(alloc, spdu, &mut head)?;
+    out.extend_from_slice(head.as_slice())?;
+    Ok(())
+}
+
+/// Appends what stands before the data of a DT.
+fn put_head(alloc: Global, spdu: &Spdu, out: &mut Vec<u8>) -> Result<(), NoMemory>
+    requires { IsWritten spdu.now }
+    ensures { OnOk result (out.new.items ≡ out.old.items ++ heading spdu.now) }
+{
     let mut parameters = Vec::new(alloc);
     put_parameters(alloc, spdu, &mut parameters)?;
-    let mut head = Vec::new(alloc);
-    put(code_of(spdu.kind), parameters.as_slice(), &mut head)?;
-    append_both(head.as_slice(), data_of(spdu), out)?;
+    put(code_of(spdu.kind), parameters.as_slice(), out)?;
     Ok(())
 }
 

@@ -18,3 +18,4 @@ pub mod CountLemmas
 pub mod RequestLemmas
 pub mod ValueLemmas
 pub mod ItselfLemmas
+pub mod HeadLemmas

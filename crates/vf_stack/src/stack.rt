@@ -185,8 +185,10 @@ impl Stack {
         ensures ok { OnOk result (out.new.items ≡ out.old.items ++ packets (most_of self.now.transport.connection.phase) (tsdu_of (side_of self.now) unit.now)) }
         ensures err { OnErr result (out.new.items ≡ out.old.items) }
     {
-        let tsdu = self.exchange.tsdu_of(alloc, unit)?;
-        self.transport.wrap(alloc, tsdu.as_slice(), out)
+        let mut head = Vec::new(alloc);
+        let tail = self.exchange.put_head(alloc, unit, &mut head)?;
+        self.transport
+            .wrap_joined(alloc, head.as_slice(), tail.as_slice(), out)
     }
 
     /// How many octets may be fed before something may be told or answered: those that a packet (RFC 1006) still lacks, as

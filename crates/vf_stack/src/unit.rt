@@ -5,7 +5,7 @@ ghost use Rattle.vf_pdu.specs.PduNumbers.{number_of};
 ghost use Rattle.vf_session.specs.Sending.{fits, holds_token, spdus};
 ghost use Rattle.vf_session.specs.Trace.{other as other_side};
 ghost use Rattle.vf_session.specs.Units.{parameters as parameters_in, user_data as data_in, with_data};
-ghost use Rattle.vf_session_spdu.specs.Spelling.{IsWritten as IsSpelled, spelling};
+ghost use Rattle.vf_session_spdu.specs.Spelling.{IsWritten as IsSpelled, octets_after, spelling};
 ghost use Rattle.vf_stack.specs.Contexts.{proposes};
 ghost use Rattle.vf_stack.specs.Represents.{standing_of};
 ghost use Rattle.vf_stack.specs.Requests.{answer_to, passes_from as passes_by, returns_token as returns};
@@ -21,7 +21,7 @@ use vf_base::{NoMemory, Octets, SpduKind};
 use vf_pdu::Pdu;
 use vf_session::{
     PendingResync, Phase, ResyncKind, SayParameters, Session, SessionSay, SessionState, Spdu,
-    TokenSide, write,
+    TokenSide, write, write_head,
 };
 use vf_upper::{Contexts, Offers};
 
@@ -123,6 +123,31 @@ fn put_all(alloc: Global, spdus: &[Spdu], tsdu: &mut Vec<u8>) -> Result<(), NoMe
         write(alloc, spdu, tsdu)?;
     }
     Ok(())
+}
+
+/// The data of an SPDU, which is spent; none but a DT has any.
+fn data_after(alloc: Global, spdu: Spdu) -> Result<Octets, NoMemory>
+    ensures { IfOk result (λ rest. rest ≡ octets_after spdu spdu.kind) }
+{
+    let Spdu { kind, octets, .. } = spdu;
+    if kind == SpduKind::DT {
+        return Ok(octets);
+    }
+    Octets::of(alloc, &[])
+}
+
+/// Appends the octets of SPDUs, one after the other, up to the data of the last one, and answers these.
+fn put_heads(alloc: Global, spdus: Vec<Spdu>, head: &mut Vec<u8>) -> Result<Octets, NoMemory>
+    requires { AllByRecursion IsSpelled spdus.items }
+    ensures { IfOk result (λ rest. head.new.items ++ rest ≡ head.old.items ++ flat_map spelling spdus.items) }
+{
+    let mut others = spdus;
+    let Some(last) = others.pop() else {
+        return Octets::of(alloc, &[]);
+    };
+    put_all(alloc, others.as_slice(), head)?;
+    write_head(alloc, &last, head)?;
+    data_after(alloc, last)
 }
 
 impl KeptExchange {
@@ -250,16 +275,19 @@ impl KeptExchange {
         self.session.spell(alloc, unit, out)
     }
 
-    /// The TSDU of a unit.
-    pub(crate) fn tsdu_of(&self, alloc: Global, unit: &SessionSay) -> Result<Vec<u8>, NoMemory>
+    /// Appends the TSDU of a unit up to the data of a DT, and answers these, shared.
+    pub(crate) fn put_head(
+        &self,
+        alloc: Global,
+        unit: &SessionSay,
+        head: &mut Vec<u8>,
+    ) -> Result<Octets, NoMemory>
         requires { IsPermitted self.now unit.now }
-        ensures { IfOk result (λ tsdu. tsdu.items ≡ tsdu_by self.now.session.side unit.now) }
+        ensures { IfOk result (λ rest. head.new.items ++ rest ≡ head.old.items ++ tsdu_by self.now.session.side unit.now) }
     {
         let mut spdus = Vec::new(alloc);
         self.put_spdus(alloc, unit, &mut spdus)?;
-        let mut tsdu = Vec::new(alloc);
-        put_all(alloc, spdus.as_slice(), &mut tsdu)?;
-        Ok(tsdu)
+        put_heads(alloc, spdus, head)
     }
 
     /// Where the connection stands after a unit of this end.

@@ -1,5 +1,5 @@
 -- Why a commit or opening fails.
-use Rattle.std.proofs.Common.{◌≡◌, ℕ, ◌<◌, ◌≤◌, List, Result, Ok, Err, refl, arith}
+use Rattle.std.proofs.Common.{◌≡◌, ℕ, ◌≤◌, List, Result, Ok, Err, refl, arith}
 use Rattle.vf_base.specs.Faults.{HasRisen}
 use Rattle.vf_journal.specs.Answers.{AppendAnswers, FaultAlone, OpenAnswers as JournalAnswers, OpenCauses, is_fault}
 use Rattle.vf_journal.specs.declared.error.JournalError.{JournalError}

@@ -1,12 +1,11 @@
 -- What is built for a commit can be written, leads to the tables after it, and ends where it was planned.
-use Rattle.std.proofs.Common.{◌≡◌, ℕ, ◌+◌, ◌≤◌, Bool, true, false, List, [], ◌∷◌, length, Option, None, Some, refl, sym, ◌∙◌, ap, subst, arith}
+use Rattle.std.proofs.Common.{◌≡◌, ℕ, ◌+◌, ◌≤◌, true, false, List, [], ◌∷◌, ◌++◌, length, take, drop, Option, None, Some, refl, sym, ◌∙◌, ap, arith}
 use Rattle.std.specs.Prelude.{IfSome}
 use Rattle.std.specs.Option.{option_map}
 use Rattle.vf_journal.proofs.Lengths.{length-area_with, length-entry_of}
 use Rattle.vf_journal.proofs.Planned.{planned, unplanned}
 use Rattle.vf_journal.specs.JournalState.{JournalState, is_due, new_start, placing}
 use Rattle.vf_journal.specs.Records.{IsArea, area_with, entry_of, longest}
-use Rattle.vf_journal.specs.declared.placing.Placing.{Placing}
 use Rattle.vf_store_record.specs.Records.{changes_of, record_of}
 use Rattle.vf_tables.specs.Changes.{after_all}
 use Rattle.vf_tables.specs.Laws.{SnapshotMakes}
@@ -72,6 +71,13 @@ writable journal tables changes area entry short area_is entry_is within = recor
   entry_form = (record_of changes, short, entry_is);
   within = omega (arith, end_built journal tables changes area entry area_is entry_is, within);
 }
+
+-- a record that was put after the octets of its length, and in an area, is built when it is ended
+pub entry_ended : (old new item : List ℕ) → old ≡ (0 ∷ 0 ∷ 0 ∷ 0 ∷ []) ++ item → new ≡ take 0 old ++ entry_of (drop 4 old) → new ≡ entry_of item
+entry_ended old new item is ended = ended ∙ ap (λ (octets : List ℕ). take 0 octets ++ entry_of (drop 4 octets)) is
+
+pub area_ended : (old new item : List ℕ) → old ≡ (1 ∷ 0 ∷ 0 ∷ 0 ∷ 0 ∷ []) ++ item → new ≡ take 1 old ++ entry_of (drop 5 old) → new ≡ area_with item
+area_ended old new item is ended = ended ∙ ap (λ (octets : List ℕ). take 1 octets ++ entry_of (drop 5 octets)) is
 
 -- what is said of an area that is there holds of its octets
 pub some_mapped : {A B : Type 0} (f : A → B) (given : Option A) (P : Type 0) → IfSome given (λ x. P) → IfSome (option_map f given) (λ y. P)

@@ -1,5 +1,5 @@
 -- What images and disks represent, from what a journal says of them.
-use Rattle.std.proofs.Common.{◌≡◌, ◌⊎◌, inl, inr, ⊎_elim, ℕ, List, [], ◌∷◌, ◌++◌, Option, Some, refl, sym}
+use Rattle.std.proofs.Common.{◌≡◌, inl, inr, ⊎_elim, ℕ, List, [], ◌∷◌, ◌++◌, Option, Some, refl, sym}
 use Rattle.vf_disk.specs.Disk.{LeavesOnly}
 use Rattle.vf_disk.proofs.Runs.{leaves_at_first, leaves_octets, weaker}
 use Rattle.vf_journal.specs.Image.{Holds, HoldsEither, IsNoneOrNew as IsNoneOrEmpty}

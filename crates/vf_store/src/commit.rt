@@ -1,10 +1,10 @@
 //! A commit: all that it needs is made before the first call of the disk.
-ghost use Rattle.std.specs.Prelude.{◌≡◌, ◌≤◌, ◌<◌, ◌^◌, ℕ, List, true, IsTrue, Some, IfOk, IfSome, OnOk, OnErr, is_err, length};
+ghost use Rattle.std.specs.Prelude.{◌≡◌, ◌+◌, ◌≤◌, ◌<◌, ◌^◌, [], ◌∷◌, ◌++◌, ℕ, List, true, IsTrue, Some, IfOk, IfSome, OnOk, OnErr, is_err, length};
 ghost use Rattle.std.specs.List.{list_all};
 ghost use Rattle.std.specs.Option.{option_map};
 ghost use Rattle.vf_disk.specs.Disk.{LeavesOnly};
 ghost use Rattle.vf_journal.specs.JournalState.{IsWithin, JournalState, placing};
-ghost use Rattle.vf_journal.specs.Records.{area_with, longest};
+ghost use Rattle.vf_journal.specs.Records.{area_with, entry_of, longest};
 ghost use Rattle.vf_journal.specs.Writes.{Shows};
 ghost use Rattle.vf_store_record.specs.Records.{changes_of, record_of};
 ghost use Rattle.vf_store.specs.Answers.{CommitAnswers, CommitSteps};
@@ -18,11 +18,12 @@ ghost use Rattle.vf_tables.specs.Snapshot.{HasFewPieces, snapshot as snapshot_me
 ghost use Rattle.vf_tables.specs.declared.tables.Tables.{Tables as TablesMeant};
 
 use crate::StoreError;
+use crate::room::room_for;
 use crate::writing::write;
 use std::alloc::Global;
 use vf_base::NoMemory;
 use vf_disk::Disk;
-use vf_journal::{Journal, MOST_RECORD_OCTETS, built_area, built_entry};
+use vf_journal::{Journal, end_record};
 use vf_tables::{Changes, Doubled, Tables, kept_stay, snapshot_makes};
 
 /// What a commit makes before its first call of the disk.
@@ -36,14 +37,46 @@ struct Built {
     end: u64,
 }
 
-/// The record of changes.
-fn spelled(alloc: Global, changes: &Changes) -> Result<Vec<u8>, NoMemory>
-    ensures octets { IfOk result (λ octets. octets.items ≡ record_of changes.now) }
+/// The record of changes after these octets. The room for all of it is taken at once, so that the contents of files are
+/// copied once.
+fn spelled(alloc: Global, before: &[u8], changes: &Changes) -> Result<Vec<u8>, NoMemory>
+    ensures octets { IfOk result (λ octets. octets.items ≡ before.now ++ record_of changes.now) }
     ensures read { list_all is_in_range changes.now ≡ true → length (record_of changes.now) < 2 ^ 32 → OnOk result (changes_of (record_of changes.now) ≡ Some changes.now) }
 {
-    let mut octets = Vec::new(alloc);
+    let mut octets = Vec::with_capacity(alloc, room_for(changes.as_slice()))?;
+    octets.extend_from_slice(before)?;
     vf_store_record::write(changes.as_slice(), &mut octets)?;
     Ok(octets)
+}
+
+/// The record of changes in its built form, and its length.
+fn entry_of_changes(alloc: Global, changes: &Changes) -> Result<(Vec<u8>, u64), NoMemory>
+    ensures octets { IfOk result (λ entry. entry.0.items ≡ entry_of (record_of changes.now)) }
+    ensures count { IfOk result (λ entry. entry.1 ≡ length (record_of changes.now)) }
+    ensures short { OnOk result (length (record_of changes.now) ≤ longest) }
+    ensures read { list_all is_in_range changes.now ≡ true → OnOk result (changes_of (record_of changes.now) ≡ Some changes.now) }
+{
+    let mut octets = spelled(alloc, &[0, 0, 0, 0], changes)?;
+    let count = octets.len() as u64 - 4;
+    end_record(&mut octets, 0)?;
+    Ok((octets, count))
+}
+
+/// An area of one record, which makes the tables, and the length of that record. It isn't ended: the four octets for the
+/// length hold nothing yet.
+fn area_begun(alloc: Global, tables: &Tables) -> Result<(Vec<u8>, u64), NoMemory>
+    ensures octets { IfOk result (λ area. area.0.items ≡ (1 ∷ 0 ∷ 0 ∷ 0 ∷ 0 ∷ []) ++ record_of (snapshot_meant tables.now)) }
+    ensures count { IfOk result (λ area. area.1 ≡ length (record_of (snapshot_meant tables.now))) }
+    ensures read { list_all is_in_range (snapshot_meant tables.now) ≡ true → length (record_of (snapshot_meant tables.now)) < 2 ^ 32
+        → OnOk result (changes_of (record_of (snapshot_meant tables.now)) ≡ Some (snapshot_meant tables.now)) }
+{
+    if !has_few_pieces(tables) {
+        return Err(NoMemory);
+    }
+    let changes = tables.snapshot(alloc)?;
+    let octets = spelled(alloc, &[1, 0, 0, 0, 0], &changes)?;
+    let count = octets.len() as u64 - 5;
+    Ok((octets, count))
 }
 
 /// Whether a snapshot can number the pieces of each docket and each task.
@@ -77,17 +110,12 @@ fn place(
         let placing = journal.plan(count, 0);
         return Ok((None, placing.end));
     }
-    let tables = tables.tables();
-    if !has_few_pieces(tables) {
-        return Err(NoMemory);
-    }
-    let changes = tables.snapshot(alloc)?;
-    let octets = spelled(alloc, &changes)?;
-    let placing = journal.plan(count, octets.len() as u64);
+    let (mut area, snapshot) = area_begun(alloc, tables.tables())?;
+    let placing = journal.plan(count, snapshot);
     if placing.switch.is_none() {
         return Ok((None, placing.end));
     }
-    let area = built_area(alloc, octets.as_slice())?;
+    end_record(&mut area, 1)?;
     Ok((Some(area), placing.end))
 }
 
@@ -105,12 +133,8 @@ fn build(
 {
     kept_stay();
     snapshot_makes();
-    let octets = spelled(alloc, changes)?;
-    if octets.len() as u64 > MOST_RECORD_OCTETS {
-        return Err(NoMemory);
-    }
-    let (area, end) = place(alloc, journal, tables, octets.len() as u64)?;
-    let entry = built_entry(alloc, octets.as_slice())?;
+    let (entry, count) = entry_of_changes(alloc, changes)?;
+    let (area, end) = place(alloc, journal, tables, count)?;
     Ok(Built { area, entry, end })
 }
 

@@ -4,6 +4,7 @@
 mod commit;
 mod counts;
 mod reading;
+mod room;
 mod store;
 mod writing;
 

@@ -1,5 +1,5 @@
 //! TSDUs as DT TPDUs.
-ghost use Rattle.std.specs.Prelude.{◌≡◌, ◌≤◌, ◌++◌, ◌∷◌, length, OnOk, OnErr};
+ghost use Rattle.std.specs.Prelude.{◌≡◌, ◌≤◌, ◌+◌, ◌++◌, ◌∷◌, length, OnOk, OnErr};
 ghost use Rattle.vf_tpkt.specs.Pieces.{Extends};
 ghost use Rattle.vf_tpkt.specs.Sending.{sent};
 ghost use Rattle.vf_tpkt.specs.Tpdu.{packet};
@@ -21,6 +21,57 @@ pub(crate) fn write_tsdu(most: usize, tsdu: &[u8], out: &mut Vec<u8>) -> Result<
         rest = others;
     }
     write_dt(LAST, rest, out)
+}
+
+/// Appends the packets of a TSDU that stands in two parts.
+pub(crate) fn write_joined(
+    most: usize,
+    head: &[u8],
+    tail: &[u8],
+    out: &mut Vec<u8>,
+) -> Result<(), NoMemory>
+    requires some { 1 ≤ most }
+    requires fits { most ≤ 65528 }
+    ensures ok { OnOk result (out.new.items ≡ out.old.items ++ sent most (head.now ++ tail.now)) }
+    ensures err { OnErr result (Extends out.old.items out.new.items) }
+{
+    let mut rest = head;
+    while rest.len() > most {
+        let (prefix, others) = rest.split_at(most);
+        write_dt(MORE, prefix, out)?;
+        rest = others;
+    }
+    write_rest(most, rest, tail, out)
+}
+
+/// The same where the first part is no longer than a DT.
+fn write_rest(most: usize, head: &[u8], tail: &[u8], out: &mut Vec<u8>) -> Result<(), NoMemory>
+    requires some { 1 ≤ most }
+    requires fits { most ≤ 65528 }
+    requires short { length head.now ≤ most }
+    ensures ok { OnOk result (out.new.items ≡ out.old.items ++ sent most (head.now ++ tail.now)) }
+    ensures err { OnErr result (Extends out.old.items out.new.items) }
+{
+    let room = most - head.len();
+    if tail.len() <= room {
+        return write_two(LAST, head, tail, out);
+    }
+    let (prefix, others) = tail.split_at(room);
+    write_two(MORE, head, prefix, out)?;
+    write_tsdu(most, others, out)
+}
+
+/// Appends one DT in its packet, whose octets stand in two parts.
+fn write_two(mark: u8, head: &[u8], tail: &[u8], out: &mut Vec<u8>) -> Result<(), NoMemory>
+    requires { length head.now + length tail.now ≤ 65528 }
+    ensures ok { OnOk result (out.new.items ≡ out.old.items ++ packet (2 ∷ 240 ∷ mark ∷ (head.now ++ tail.now))) }
+    ensures err { OnErr result (Extends out.old.items out.new.items) }
+{
+    let size = head.len() + tail.len() + 7;
+    out.extend_from_slice(&[3, 0, (size / 256) as u8, (size % 256) as u8, 2, 0xF0, mark])?;
+    out.extend_from_slice(head)?;
+    out.extend_from_slice(tail)?;
+    Ok(())
 }
 
 /// Appends one DT in its packet.

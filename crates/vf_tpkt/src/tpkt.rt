@@ -10,7 +10,7 @@ ghost use Rattle.vf_tpkt.specs.Tpdu.{packet, request};
 ghost use Rattle.vf_tpkt.specs.declared.limits.TheConstants.{MOST_PACKET_OCTETS};
 
 use crate::connection::Connection;
-use crate::data::write_tsdu;
+use crate::data::write_joined;
 use crate::packet::{HEADER, wanted};
 use crate::{Side, TpktError, Unit};
 use std::alloc::Global;
@@ -125,15 +125,32 @@ impl Tpkt {
 
     /// Appends the packets of this TSDU, cut by the size that was agreed: TPDUs of that size or of the most octets,
     /// with 3 octets of header each. Without memory nothing is appended.
-    pub fn wrap(&self, _alloc: Global, tsdu: &[u8], out: &mut Vec<u8>) -> Result<(), NoMemory>
+    pub fn wrap(&self, alloc: Global, tsdu: &[u8], out: &mut Vec<u8>) -> Result<(), NoMemory>
         requires stands { IsTrue (stands_now self.now) }
         requires some { 1 ≤ length tsdu.now }
         requires fits { length tsdu.now ≤ MOST_VALUE_OCTETS }
         ensures ok { OnOk result (out.new.items ≡ out.old.items ++ sent (most_of self.now.connection.phase) tsdu.now) }
         ensures err { OnErr result (out.new.items ≡ out.old.items) }
     {
+        self.wrap_joined(alloc, tsdu, &[], out)
+    }
+
+    /// Appends the packets of a TSDU that stands in two parts, as `wrap` does of one that stands in one; of an empty one a
+    /// DT without data. Without memory nothing is appended.
+    pub fn wrap_joined(
+        &self,
+        _alloc: Global,
+        head: &[u8],
+        tail: &[u8],
+        out: &mut Vec<u8>,
+    ) -> Result<(), NoMemory>
+        requires stands { IsTrue (stands_now self.now) }
+        requires fits { length head.now + length tail.now ≤ MOST_VALUE_OCTETS }
+        ensures ok { OnOk result (out.new.items ≡ out.old.items ++ sent (most_of self.now.connection.phase) (head.now ++ tail.now)) }
+        ensures err { OnErr result (out.new.items ≡ out.old.items) }
+    {
         let before = out.len();
-        match write_tsdu(self.connection.most(), tsdu, out) {
+        match write_joined(self.connection.most(), head, tail, out) {
             Ok(()) => Ok(()),
             Err(wanting) => {
                 out.truncate(before);

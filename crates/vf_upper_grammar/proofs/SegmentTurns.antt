@@ -144,3 +144,8 @@ none-place false at end o = nothing-place end false o
 
 pub none_held-place : (text : Text) (end o : ℕ) → place_of (none_held text end) o ≡ (if no_segment text.octets then text.at else end)
 none_held-place text end o = none-place (no_segment text.octets) text.at end o
+
+-- octets of which there are none
+pub no_octets : (octets : List ℕ) → length octets ≡ 0 → octets ≡ []
+no_octets [] is = refl
+no_octets (octet ∷ octets) is = absurd (omega (arith, is))

@@ -1,5 +1,5 @@
 -- Octets that stand at a place among all: those of a text, and so those of its parts.
-use Rattle.std.proofs.Common.{◌≡◌, ℕ, zero, suc, ◌+◌, ◌-◌, ◌<◌, ◌≤◌, Bool, true, false, List, [], ◌∷◌, length, take, drop, refl, ap, subst, sym, ◌∙◌, arith, inl, inr, length-drop, drop-drop, length-take-le, take_all}
+use Rattle.std.proofs.Common.{◌≡◌, ℕ, zero, suc, ◌+◌, ◌-◌, ◌≤◌, Bool, true, false, List, [], ◌∷◌, length, take, drop, refl, ap, subst, sym, ◌∙◌, arith, inl, inr, length-drop, drop-drop, length-take-le, take_all}
 use Rattle.std.specs.Prelude.{nat_eq, nat_le, nat_lt, Option, None, Some, if◌then◌else◌}
 use Rattle.std.specs.Option.{option_and_then}
 use Rattle.std.proofs.lemmas.Bool.{cases_lt}
@@ -9,7 +9,7 @@ use Rattle.vf_ber.specs.Reader.{reading}
 use Rattle.vf_ber.specs.Reading.{Reading, Read, Short, Bad, Deep, Long}
 use Rattle.vf_upper_grammar.specs.HeldViews.{IsIn, Stands}
 use Rattle.vf_upper_grammar.specs.Parts.{after_contents, after_end, after_end_in, after_identifier, after_length, after_number, after_one, after_value, cut_piece, ended_piece, FirstPart, first_part, first_part_at, first_part_by, Header, header_at, long_form, number_of, part_with, Piece, piece_of, Text}
-use Rattle.vf_upper_grammar.specs.Texts.{explicit_in, is_begun_end, without_end}
+use Rattle.vf_upper_grammar.specs.Texts.{cut_to, explicit_in, is_begun_end, without_end}
 
 -- ---- octets
 
@@ -235,3 +235,26 @@ end-in all place octets (Long at) s = s
 pub explicit-in : (all : List ℕ) (text : Text) → IsIn all text → Stands all text.at (explicit_in text)
 explicit-in all text s =
     stands-if all text.at text.whole text.octets (without_end text.octets (reading text.octets)) s (end-in all text.at text.octets (reading text.octets) s)
+
+-- ---- segments
+
+-- a text without its first octets
+cut-in : (all : List ℕ) (text : Text) (rest : List ℕ) → IsIn all text → EndsWith text.octets rest → IsIn all (cut_to text rest)
+cut-in all text rest s e = stands-end all text.at text.octets rest s e
+
+some-ends : (octets : List ℕ) (h : Option Header) (header : Header) → Some header ≡ h → HeaderEnds octets h → EndsWith octets header.rest
+some-ends octets None header is e = absurd cc
+some-ends octets (Some other) header is e = let same : header ≡ other = cc in subst (λ (x : Header). EndsWith octets x.rest) (sym same) e
+
+-- after the identifier and the length of a segment that has segments
+pub header-in : (all : List ℕ) (text : Text) (header : Header) → IsIn all text → Some header ≡ header_at text.octets → IsIn all (cut_to text header.rest)
+header-in all text header s is = cut-in all text header.rest s (some-ends text.octets (header_at text.octets) header is (header-ends text.octets))
+
+-- after the end of contents of one
+pub ended-in : (all : List ℕ) (text : Text) (first : ℕ) (after : List ℕ) → IsIn all text → text.octets ≡ first ∷ after → IsIn all (cut_to text (drop 1 after))
+ended-in all text first after s is =
+    let e : EndsWith (first ∷ after) (drop 1 after) = ends_more (first ∷ after) after (drop 1 after) (ends_after first after) (ends_drop after 1) in
+    cut-in all text (drop 1 after) s (subst (λ (o : List ℕ). EndsWith o (drop 1 after)) (sym is) e)
+
+pub none-in : (all : List ℕ) (text : Text) → IsIn all text → Stands all text.at []
+none-in all text s = (refl, omega (arith, s.1))

@@ -1,10 +1,11 @@
 -- What stands among segments, in the words of texts.
-use Rattle.std.specs.Prelude.{◌≡◌, ℕ, ◌+◌, ◌<◌, Bool, true, false, not, ◌&&◌, nat_eq, List, [], ◌∷◌, length, Option, None, Some, if◌then◌else◌}
+use Rattle.std.specs.Prelude.{◌≡◌, ℕ, ◌+◌, ◌<◌, Bool, true, false, not, ◌&&◌, nat_eq, List, [], ◌∷◌, ◌++◌, length, Option, None, Some, if◌then◌else◌}
 use Rattle.vf_upper_grammar.specs.declared.segments.Segment.{Segment}
 use Rattle.vf_upper_grammar.specs.declared.segments.Segment.TheVariants.{Octets, Bound, Nothing}
 use Rattle.vf_upper_grammar.specs.declared.text.Text as declared
+use Rattle.vf_upper_grammar.specs.HeldViews.{IsIn}
 use Rattle.vf_upper_grammar.specs.Parts.{header_at, first_part, Text}
-use Rattle.vf_upper_grammar.specs.Texts.{constructed_segment, Held, nothing_held, primitive_segment, segment, then_held}
+use Rattle.vf_upper_grammar.specs.Texts.{constructed_segment, Held, nothing_held, primitive_segment, segment, segments, then_held}
 use Rattle.vf_upper_grammar.specs.Views.{text_of}
 
 -- no segment begins or ends with the first octet
@@ -41,3 +42,17 @@ Shortens n Nothing = Unit {0}
 abbrev pub IsPiece : Text → Option (declared.Text × declared.Text) → Type 0
 IsPiece text (Some x) = (others : Text → Held) (end : ℕ) → segment others text end text.octets ≡ then_held (text_of x.0) (others (text_of x.1))
 IsPiece text None = (others : Text → Held) (end : ℕ) → segment others text end text.octets ≡ none_held text end
+
+-- what it has and what is after it stand among all at their places
+abbrev pub AreIn : List ℕ → Segment → Type 0
+AreIn all (Octets contents rest) = IsIn all (text_of contents) × IsIn all (text_of rest)
+AreIn all (Bound rest) = IsIn all (text_of rest)
+AreIn all Nothing = Unit {0}
+
+-- the octets of all segments are these and those after them
+abbrev pub AreFirst : Text → Text → Text → Type 0
+AreFirst text first after = (end : ℕ) → (segments end text).octets ≡ first.octets ++ (segments end after).octets
+
+-- no segment has octets
+abbrev pub NoneHas : Text → Type 0
+NoneHas text = (end : ℕ) → (segments end text).octets ≡ []

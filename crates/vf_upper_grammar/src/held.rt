@@ -1,14 +1,14 @@
 //! The octets that a part with tag \[0\] or \[1\] holds.
 ghost use Rattle.std.specs.Prelude.{◌≡◌, ◌<◌, ◌≤◌, ◌^◌, IfOk, IfSome, List, length, ℕ};
 ghost use Rattle.std.specs.Option.{option_map};
-ghost use Rattle.vf_upper_grammar.specs.HeldViews.{BreaksHeld, IsIn, IsKept, IsLocated, octets_in, octets_of, PlacesHeld, Stands};
+ghost use Rattle.vf_upper_grammar.specs.HeldViews.{AreGathered, BreaksHeld, IsIn, IsKept, IsLocated, octets_in, octets_of, PlacesHeld, Stands};
 ghost use Rattle.vf_upper_grammar.specs.Parts.{number_of as number_in};
 ghost use Rattle.vf_upper_grammar.specs.Texts.{explicit_in as explicit_octets, held as held_by, is_begun_end as begun_end};
 ghost use Rattle.vf_upper_grammar.specs.Views.{part_of, text_of};
 
 use crate::marks::Stop;
 use crate::parts::is_constructed;
-use crate::segments::{gathered, place_among, wrong_among};
+use crate::segments::{gathered, leading, place_among, wrong_among};
 use crate::text::{Part, Text};
 use std::alloc::Global;
 use vf_base::{NoMemory, Octets};
@@ -17,9 +17,10 @@ use vf_ber_scan::whole_in;
 /// What a part holds.
 #[derive(Drop)]
 pub(crate) enum Held<'a> {
-    /// Octets of its contents, of which the first has this place among all that are read.
+    /// Octets of its contents, or of the only segment that has any, of which the first has this place among all that are
+    /// read.
     Contents { at: u32, octets: &'a [u8] },
-    /// Those that its segments gave.
+    /// Those that its segments gave, joined.
     Segments(Octets),
 }
 
@@ -111,8 +112,26 @@ pub(crate) fn octets_held<'a>(alloc: Global, part: &Part<'a>) -> Result<Option<H
             octets: contents.octets,
         }));
     }
-    let octets = Octets::from_vec(gathered(alloc, contents)?)?;
-    Ok(Some(Held::Segments(octets)))
+    let held = segments_held(alloc, contents)?;
+    Ok(Some(held))
+}
+
+/// What segments hold: octets of the only one that has any are left where they stand, those of more are joined.
+fn segments_held<'a>(alloc: Global, text: Text<'a>) -> Result<Held<'a>, NoMemory>
+    ensures octets { IfOk result (λ held. AreGathered (text_of text.entry) (octets_of held)) }
+    ensures small { IfOk result (λ held. length (octets_of held) < 2 ^ 32) }
+    ensures kept { (all : List ℕ) → IsIn all (text_of text.entry) → IfOk result (λ held. IsKept all held) }
+{
+    let (first, others) = leading(text);
+    let (second, _) = leading(others);
+    if second.octets.is_empty() {
+        return Ok(Held::Contents {
+            at: first.at,
+            octets: first.octets,
+        });
+    }
+    let octets = Octets::from_vec(gathered(alloc, text)?)?;
+    Ok(Held::Segments(octets))
 }
 
 /// The place of an octet of what a part holds, by its offset; after the last the place where they end.

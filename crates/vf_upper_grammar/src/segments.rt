@@ -1,7 +1,7 @@
 //! Octets in segments (ISO 8825, 8.7.3) with their places.
-ghost use Rattle.std.specs.Prelude.{◌≡◌, ◌+◌, ◌<◌, ◌≤◌, ◌^◌, [], false, ◌++◌, IfOk, IfSome, OnOk, drop, length};
-ghost use Rattle.vf_upper_grammar.specs.HeldViews.{AreGathered, Breaks};
-ghost use Rattle.vf_upper_grammar.specs.SegmentViews.{IsConstructed, IsPiece, IsPrimitive, IsStep, no_segment, Shortens};
+ghost use Rattle.std.specs.Prelude.{◌≡◌, ◌+◌, ◌<◌, ◌≤◌, ◌^◌, [], ◌∷◌, false, ◌++◌, IfOk, IfSome, List, OnOk, drop, length, ℕ};
+ghost use Rattle.vf_upper_grammar.specs.HeldViews.{AreGathered, Breaks, IsIn};
+ghost use Rattle.vf_upper_grammar.specs.SegmentViews.{AreFirst, AreIn, IsConstructed, IsPiece, IsPrimitive, IsStep, no_segment, NoneHas, Shortens};
 ghost use Rattle.vf_upper_grammar.specs.Texts.{cut_to as cut, place_of, segments};
 ghost use Rattle.vf_upper_grammar.specs.Views.{text_of};
 
@@ -45,6 +45,7 @@ fn without_first(octets: &[u8]) -> &[u8]
 fn next_segment(text: Text<'_>) -> Segment<'_>
     ensures step { IsStep (text_of text.entry) result }
     ensures shorter { Shortens (length text.entry.octets.now) result }
+    ensures stands { (all : List ℕ) → IsIn all (text_of text.entry) → AreIn all result }
 {
     let Some((first, after)) = first_of(text.octets) else {
         return Segment::Nothing;
@@ -65,6 +66,7 @@ fn primitive(text: Text<'_>) -> Segment<'_>
     requires { no_segment text.octets.now ≡ false }
     ensures step { IsPrimitive (text_of text.entry) result }
     ensures shorter { Shortens (length text.entry.octets.now) result }
+    ensures stands { (all : List ℕ) → IsIn all (text_of text.entry) → AreIn all result }
 {
     match first_part(text) {
         Some((part, rest)) => Segment::Octets(part.contents, rest),
@@ -76,6 +78,7 @@ fn constructed(text: Text<'_>) -> Segment<'_>
     requires { no_segment text.octets.now ≡ false }
     ensures step { IsConstructed (text_of text.entry) result }
     ensures shorter { Shortens (length text.entry.octets.now) result }
+    ensures stands { (all : List ℕ) → IsIn all (text_of text.entry) → AreIn all result }
 {
     match header_at(text.octets) {
         Some(header) => Segment::Bound(cut_to(text, header.rest)),
@@ -88,6 +91,7 @@ fn constructed(text: Text<'_>) -> Segment<'_>
 fn next_octets(text: Text<'_>) -> Option<(Text<'_>, Text<'_>)>
     ensures piece { IsPiece (text_of text.entry) result }
     ensures shorter { IfSome result (λ x. length x.0.octets.now + length x.1.octets.now < length text.entry.octets.now) }
+    ensures stands { (all : List ℕ) → IsIn all (text_of text.entry) → IfSome result (λ x. IsIn all (text_of x.0) × IsIn all (text_of x.1)) }
 {
     match next_segment(text) {
         Segment::Octets(contents, rest) => Some((contents, rest)),
@@ -122,6 +126,22 @@ fn append(out: &mut Vec<u8>, octets: &[u8]) -> Result<(), NoMemory>
 {
     out.extend_from_slice(octets)?;
     Ok(())
+}
+
+/// The octets of the first segment that has any, and what is after it; no octets where none has.
+pub(crate) fn leading(text: Text<'_>) -> (Text<'_>, Text<'_>)
+    ensures first { AreFirst (text_of text.entry) (text_of result.0) (text_of result.1) }
+    ensures none { result.0.octets.now ≡ [] → NoneHas (text_of text.entry) }
+    ensures stands { (all : List ℕ) → IsIn all (text_of text.entry) → IsIn all (text_of result.0) × IsIn all (text_of result.1) }
+{
+    let mut rest = text;
+    while let Some((contents, after)) = next_octets(rest) {
+        if !contents.octets.is_empty() {
+            return (contents, after);
+        }
+        rest = after;
+    }
+    (empty(rest), rest)
 }
 
 /// The octets of the segments of a text, in turn.

@@ -4,6 +4,7 @@ use Rattle.vf_ber.specs.Views.{tree_of}
 use Rattle.vf_elements.specs.Messages.{message_in}
 use Rattle.vf_cli_dialogue.specs.declared.conversation.After.{After}
 use Rattle.vf_cli_dialogue.specs.Conversation.{Appends, IsFault}
+use Rattle.vf_cli_dialogue.proofs.MessageLemmas.{message_read}
 use Rattle.vf_cli_dialogue.proofs.ReadingLemmas.{Takes, reading-takes}
 use Rattle.vf_cli_dialogue.proofs.TakenLemmas.{takes_fault, takes_message}
 use Rattle.vf_cli_dialogue.proofs.conversation.take_value.Goals as goal
@@ -29,3 +30,6 @@ returns-in_ok-first-in-Err-clause-took c = λ octets state read holds.
     let found = subst (λ (r : Reading). IsFault r place) (sym read) (c.in_ok-place-in-Err.ensures (message_in (tree_of c.args.value.now)) c.in-Err.ensures) in
     subst (λ (a : After). Appends state octets old new c.args.filestore.now a rest) (sym told.0)
     (takes_fault state c.args.filestore.now octets old new holds place rest found told.2)
+
+pub take_message-requires : goal.take_message-requires
+take_message-requires c = record { stands = c.requires; read = message_read (tree_of c.args.value.now) c.in-Ok.message c.in-Ok.ensures }

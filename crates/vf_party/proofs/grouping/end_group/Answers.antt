@@ -1,6 +1,6 @@
 use Rattle.vf_filestore.specs.Stage.{Group}
 use Rattle.vf_party.specs.Settings.{setting_of}
-use Rattle.vf_party.specs.declared.step.Step.{Step}
+use Rattle.vf_party_steps.specs.declared.step.Step.{Step}
 use Rattle.vf_party.specs.declared.quiet.Quiet.{Quiet}
 use Rattle.std.proofs.Common.{refl}
 use Rattle.vf_party.proofs.GroupEnds.{performed_ends, unperformed_ends}

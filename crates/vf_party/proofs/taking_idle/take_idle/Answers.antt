@@ -1,6 +1,6 @@
 use Rattle.std.proofs.Common.{ap, sym, ◌∙◌}
 use Rattle.vf_elements.specs.Stages.{takes}
-use Rattle.vf_party.specs.Represents.{IsIdle}
+use Rattle.vf_party_steps.specs.Represents.{IsIdle}
 use Rattle.vf_party.specs.Settings.{setting_of}
 use Rattle.vf_party.specs.declared.party.Party.TheVariants as parties
 use Rattle.vf_party.proofs.Bars.{idle_stage}

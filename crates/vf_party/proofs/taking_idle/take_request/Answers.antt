@@ -1,8 +1,8 @@
 use Rattle.std.proofs.Common.{subst, sym}
 use Rattle.vf_elements.specs.declared.message.Message.TheVariants as messages
-use Rattle.vf_party.specs.Represents.{IsAssociated, IsIdle}
+use Rattle.vf_party_steps.specs.Represents.{IsAssociated, IsIdle}
 use Rattle.vf_party.specs.Settings.{setting_of}
-use Rattle.vf_party.specs.Steps.{IsStep}
+use Rattle.vf_party_steps.specs.Steps.{IsStep}
 use Rattle.vf_party.specs.Turns.{IsTurnOf}
 use Rattle.vf_party.specs.declared.party.Party.TheVariants as parties
 use Rattle.vf_party.proofs.IdleTurns.{idle_turn}

@@ -6,7 +6,7 @@ use Rattle.vf_filestore.specs.Decision.{Leaves, message_decision}
 use Rattle.vf_filestore.specs.HoldersAfter.{hearing}
 use Rattle.vf_filestore.specs.Transition.{met, with_message}
 use Rattle.vf_filestore.specs.Transition.{leaves as leaves_with}
-use Rattle.vf_party.specs.Represents.{IsIdle}
+use Rattle.vf_party_steps.specs.Represents.{IsIdle}
 use Rattle.vf_party.specs.Settings.{setting_of}
 use Rattle.vf_party.specs.declared.party.Party.TheVariants as parties
 use Rattle.vf_party.proofs.Bars.{idle_stage}

@@ -1,11 +1,11 @@
 use Rattle.std.proofs.Common.{ap, sym, ◌∙◌}
 use Rattle.vf_elements.specs.Stages.{takes}
 use Rattle.vf_filestore.specs.Aborts.{first_abort}
-use Rattle.vf_party.specs.Reads.{IsReading}
+use Rattle.vf_party_steps.specs.Reads.{IsReading}
 use Rattle.vf_party.specs.Settings.{setting_of}
 use Rattle.vf_party.specs.declared.party.Party.TheVariants as parties
 use Rattle.vf_party.proofs.Bars.{reading_bars}
-use Rattle.vf_party.proofs.ReadsOn.{reading_stage}
+use Rattle.vf_party_steps.proofs.ReadsOn.{reading_stage}
 use Rattle.vf_party.proofs.Turning.{barred_turn, untaken_turn}
 use Rattle.vf_party.proofs.taking_reading.take_reading.Goals as goal
 

@@ -8,14 +8,14 @@ use Rattle.vf_filestore.specs.Stage.{grouping}
 use Rattle.vf_filestore.specs.Transition.{met, with_message}
 use Rattle.vf_filestore.specs.Transition.{leaves as leaves_with}
 use Rattle.vf_party.specs.Aborting.{aborts_of_reading}
-use Rattle.vf_party.specs.Reads.{IsReading, stage_of}
+use Rattle.vf_party_steps.specs.Reads.{IsReading, stage_of}
 use Rattle.vf_party.specs.Settings.{setting_of}
 use Rattle.vf_party.specs.Turns.{IsTurnOf}
 use Rattle.vf_party.specs.declared.party.Party.TheVariants as parties
 use Rattle.vf_party.proofs.Bars.{reading_bars}
-use Rattle.vf_party.proofs.ReadsOn.{reading_stage}
-use Rattle.vf_party.specs.Represents.{IsOpen}
-use Rattle.vf_party.specs.Steps.{IsStep}
+use Rattle.vf_party_steps.proofs.ReadsOn.{reading_stage}
+use Rattle.vf_party_steps.specs.Represents.{IsOpen}
+use Rattle.vf_party_steps.specs.Steps.{IsStep}
 use Rattle.vf_party.proofs.Turning.{ended_turn, leaves, opened_enters, opened_party, step_turn, unbarred_decides}
 use Rattle.vf_pdu.specs.declared.pdu.Pdu.{Pdu}
 use Rattle.vf_pdu.specs.declared.pdu.Pdu.TheVariants.{TransferEndRequest, CancelRequest, RestartRequest}

@@ -7,7 +7,7 @@ use Rattle.vf_filestore.specs.Decision.{Ends, message_decision}
 use Rattle.vf_filestore.specs.HoldersAfter.{hearing}
 use Rattle.vf_filestore.specs.Transition.{met, with_message}
 use Rattle.vf_party.specs.Quiets.{IsQuiet}
-use Rattle.vf_party.specs.Represents.{IsAssociated}
+use Rattle.vf_party_steps.specs.Represents.{IsAssociated}
 use Rattle.vf_party.specs.Settings.{setting_of}
 use Rattle.vf_party.specs.declared.party.Party.TheVariants as parties
 use Rattle.vf_party.specs.declared.quiet.Quiet.TheVariants as quiets

@@ -3,10 +3,10 @@ use Rattle.vf_elements.specs.declared.message.Message.TheVariants as messages
 use Rattle.vf_elements.specs.declared.stage.Stage.TheVariants as stages
 use Rattle.vf_filestore.specs.Aborts.{first_abort}
 use Rattle.vf_filestore.specs.Stage.{grouping}
-use Rattle.vf_party.specs.Represents.{IsOpen}
-use Rattle.vf_party.specs.Reads.{IsReading}
+use Rattle.vf_party_steps.specs.Represents.{IsOpen}
+use Rattle.vf_party_steps.specs.Reads.{IsReading}
 use Rattle.vf_party.specs.Settings.{setting_of}
-use Rattle.vf_party.specs.Writes.{IsWriting}
+use Rattle.vf_party_steps.specs.Writes.{IsWriting}
 use Rattle.vf_party.specs.declared.party.Party.TheVariants as parties
 use Rattle.vf_party.specs.declared.quiet.Quiet.TheVariants as quiets
 use Rattle.vf_pdu.specs.PduNumbers.{number_of}

@@ -5,8 +5,8 @@ use Rattle.vf_elements.specs.declared.stage.Stage.TheVariants as stages
 use Rattle.vf_filestore.specs.Diagnostics.{wrong_state}
 use Rattle.vf_filestore.specs.Stage.{grouping}
 use Rattle.vf_party.specs.Quiets.{IsQuiet}
-use Rattle.vf_party.specs.Recoveries.{IsRecovered}
-use Rattle.vf_party.specs.Represents.{IsAssociated}
+use Rattle.vf_party_steps.specs.Recoveries.{IsRecovered}
+use Rattle.vf_party_steps.specs.Represents.{IsAssociated}
 use Rattle.vf_party.specs.Settings.{setting_of}
 use Rattle.vf_party.specs.Turns.{party_of_recovered}
 use Rattle.vf_party.specs.declared.party.Party.TheVariants as parties

@@ -8,8 +8,8 @@ use Rattle.vf_filestore.specs.HoldersAfter.{hearing}
 use Rattle.vf_filestore.specs.Transition.{met, with_message}
 use Rattle.vf_filestore.specs.Transition.{leaves as leaves_with}
 use Rattle.vf_party.specs.Aborting.{aborts_of_writing}
-use Rattle.vf_party.specs.Writes.{IsWriting}
-use Rattle.vf_party.specs.Moving.{stage_of_writing}
+use Rattle.vf_party_steps.specs.Writes.{IsWriting}
+use Rattle.vf_party_steps.specs.Moving.{stage_of_writing}
 use Rattle.vf_party.specs.Settings.{setting_of}
 use Rattle.vf_party.specs.Turns.{IsTurnOf}
 use Rattle.vf_party.specs.declared.party.Party.TheVariants as parties

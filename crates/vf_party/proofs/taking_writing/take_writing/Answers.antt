@@ -1,7 +1,7 @@
 use Rattle.std.proofs.Common.{ap, sym, ◌∙◌}
 use Rattle.vf_elements.specs.Stages.{takes}
 use Rattle.vf_filestore.specs.Aborts.{first_abort}
-use Rattle.vf_party.specs.Writes.{IsWriting}
+use Rattle.vf_party_steps.specs.Writes.{IsWriting}
 use Rattle.vf_party.specs.Settings.{setting_of}
 use Rattle.vf_party.specs.declared.party.Party.TheVariants as parties
 use Rattle.vf_party.proofs.Bars.{writing_bars, writing_stage}

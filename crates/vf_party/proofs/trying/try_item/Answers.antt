@@ -9,7 +9,7 @@ use Rattle.vf_filestore.specs.Stage.{regime_stage}
 use Rattle.vf_party.specs.Items.{is_item}
 use Rattle.vf_party.specs.Quiets.{IsQuiet, stage_of}
 use Rattle.vf_party.specs.Settings.{setting_of}
-use Rattle.vf_party.specs.Steps.{MeetsStep}
+use Rattle.vf_party_steps.specs.Steps.{MeetsStep}
 use Rattle.vf_party.specs.Trials.{ComesOf, IsBadItem}
 use Rattle.vf_party.proofs.Trials.{answered_item, left_decides, refused_item, stage_is, taken_none, taken_some}
 use Rattle.vf_party.proofs.trying.try_item.Goals as goal

@@ -1,4 +1,4 @@
-use Rattle.std.proofs.Common.{◌+◌, [], ◌∷◌, ◌++◌, length, Err}
+use Rattle.std.proofs.Common.{[], ◌∷◌, ◌++◌, Err}
 use Rattle.std.proofs.lemmas.Result.{err_from_is_err_and}
 use Rattle.vf_disk.proofs.Runs.{weaker}
 use Rattle.vf_journal.specs.Image.{HoldsEither}

@@ -1,9 +1,8 @@
-use Rattle.std.proofs.Common.{ℕ, List, sym, subst}
+use Rattle.std.proofs.Common.{sym, subst}
 use Rattle.vf_disk.proofs.Runs.{weaker}
 use Rattle.vf_tables.specs.declared.tables.Tables.{Tables}
 use Rattle.vf_store.specs.Represented.{Represents}
 use Rattle.vf_store.specs.StoreState.{TablesStand}
-use Rattle.vf_store.proofs.Causes.{causes_alike, is_fault_alike}
 use Rattle.vf_store.proofs.store.Store.open.Goals as goal
 
 pub returns-in-Ok-clause-represented : goal.returns-in-Ok-clause-represented

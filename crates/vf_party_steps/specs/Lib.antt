@@ -1,0 +1,17 @@
+pub mod Creations
+pub mod Dockets
+pub mod Dues
+pub mod Erasures
+pub mod Files
+pub mod Leaving
+pub mod Locations
+pub mod Moving
+pub mod Openings
+pub mod Reads
+pub mod Recoveries
+pub mod Regimes
+pub mod Renames
+pub mod Represents
+pub mod Sameness
+pub mod Steps
+pub mod Writes
