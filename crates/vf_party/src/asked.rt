@@ -1,10 +1,11 @@
 //! What is asked of a party.
-ghost use Rattle.std.specs.Prelude.{◌≡◌, option_copied, option_map};
-ghost use Rattle.vf_filestore.specs.History.{association};
+ghost use Rattle.std.specs.Prelude.{◌≡◌, ℕ, Some, option_copied, option_map};
+ghost use Rattle.vf_filestore.specs.History.{History, association, regime};
 ghost use Rattle.vf_filestore.specs.Opening.{is_at as is_at_meant};
 ghost use Rattle.vf_filestore.specs.Stage.{stage as stage_meant};
-ghost use Rattle.vf_filestore.specs.State.{StandingParty};
+ghost use Rattle.vf_filestore.specs.State.{StandingParty, activity_in as activity_meant, activity_of};
 ghost use Rattle.vf_filestore.specs.Transfers.{last_check as last_check_meant, under_way};
+ghost use Rattle.vf_party.specs.Quiets.{IsQuiet};
 ghost use Rattle.vf_party.specs.Turns.{IsParty};
 
 use crate::{Party, Quiet};
@@ -12,7 +13,9 @@ use vf_base::Name;
 use vf_elements::Stage;
 
 /// The identity of an association in which no transfer is under way.
-fn identity_in(quiet: &Quiet) -> &Name {
+fn identity_in(quiet: &Quiet) -> &Name
+    ensures { (link : ℕ) (history : History) → IsQuiet quiet.now link history → option_map (λ association. association.identity) (association history) ≡ Some result.now }
+{
     match quiet {
         Quiet::Associated(associated) => &associated.association().identity,
         Quiet::Selected(selected) => &selected.association().identity,
@@ -21,7 +24,9 @@ fn identity_in(quiet: &Quiet) -> &Name {
 }
 
 /// The activity of an open in which no transfer is under way.
-fn activity_in(quiet: &Quiet) -> Option<u32> {
+fn activity_in(quiet: &Quiet) -> Option<u32>
+    ensures { (link : ℕ) (history : History) → IsQuiet quiet.now link history → result ≡ activity_meant (regime history) }
+{
     match quiet {
         Quiet::Associated(_) => None,
         Quiet::Selected(_) => None,
@@ -30,7 +35,9 @@ fn activity_in(quiet: &Quiet) -> Option<u32> {
 }
 
 /// The activity of the open of a party, where it has one and that is recoverable.
-fn open_activity(party: &Party) -> Option<u32> {
+fn open_activity(party: &Party) -> Option<u32>
+    ensures { (standing : StandingParty) → IsParty party.now standing → result ≡ activity_of standing }
+{
     match party {
         Party::Idle(_) => None,
         Party::Quiet(quiet) => activity_in(quiet),

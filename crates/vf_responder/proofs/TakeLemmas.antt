@@ -14,7 +14,7 @@ use Rattle.vf_filestore.specs.Sound.{IsSound}
 use Rattle.vf_filestore.specs.State.{State, StandingParty, party_of}
 use Rattle.vf_filestore.specs.Tables.{tables_of}
 use Rattle.vf_filestore.specs.Transition.{Turn, answered, superseded_by, transition}
-use Rattle.vf_party.specs.Steps.{HoldersOfFiles, StandsIn}
+use Rattle.vf_party_steps.specs.Steps.{HoldersOfFiles, StandsIn}
 use Rattle.vf_party.specs.Turns.{IsNext, IsParty, IsTaken}
 use Rattle.vf_party.specs.declared.party.Outcome.{Outcome}
 use Rattle.vf_party.specs.declared.party.Party.{Party}

@@ -9,7 +9,7 @@ use Rattle.vf_filestore.specs.HoldersAfter.{Keeps}
 use Rattle.vf_filestore.specs.Ranges.{IsRead}
 use Rattle.vf_filestore.specs.State.{State, StandingParty, party_of}
 use Rattle.vf_locks.specs.declared.held.Held.{Held}
-use Rattle.vf_party.specs.Steps.{HoldersOfFiles, StandsIn}
+use Rattle.vf_party_steps.specs.Steps.{HoldersOfFiles, StandsIn}
 use Rattle.vf_party.specs.Turns.{LeavesParty}
 use Rattle.vf_session.specs.Trace.{next}
 use Rattle.vf_stack.specs.Association.{Association}

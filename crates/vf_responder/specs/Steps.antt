@@ -4,7 +4,7 @@ use Rattle.vf_elements.specs.declared.message.Message.{Message}
 use Rattle.vf_filestore.specs.Keeping.{AreHistoriesKept}
 use Rattle.vf_filestore.specs.Ranges.{IsRead}
 use Rattle.vf_filestore.specs.State.{State, StandingParty, party_of}
-use Rattle.vf_party.specs.Steps.{HoldersOfFiles, StandsIn}
+use Rattle.vf_party_steps.specs.Steps.{HoldersOfFiles, StandsIn}
 use Rattle.vf_party.specs.Turns.{IsParty, IsTaken}
 use Rattle.vf_party.specs.declared.party.Outcome.{Outcome}
 use Rattle.vf_session.specs.declared.units.TokenSide.TheVariants.{Responder}
