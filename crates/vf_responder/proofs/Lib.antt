@@ -7,3 +7,5 @@ mod SaysLemmas
 mod TakeLemmas
 mod TellLemmas
 mod StoreLemmas
+mod MoveLemmas
+mod ArriveLemmas

@@ -29,7 +29,7 @@ pub record IsOn {D : Type 0} (link : Link) (kept : Kept D) (serving : Serving) :
   pub is : IsLink party.link link party (serving.associations party.link)
   pub free : link_of party.link kept.links ≡ None
 
-stands-by : (number : ℕ) (link : Link) (found : Option StandingParty) (a : Association) → IsLinkOf number (Some link) found a → (party : StandingParty) × (found ≡ Some party) × IsLink number link party a
+pub stands-by : (number : ℕ) (link : Link) (found : Option StandingParty) (a : Association) → IsLinkOf number (Some link) found a → (party : StandingParty) × (found ≡ Some party) × IsLink number link party a
 stands-by number link None a is = absurd is
 stands-by number link (Some party) a is = (party, refl, is)
 
@@ -54,28 +54,28 @@ on-link link kept serving represents =
 
 -- ---- one link's part
 
-at-none : (number : ℕ) (l : Option Link) (p : Option StandingParty) (a : Association) → l ≡ None → p ≡ None → IsLinkOf number l p a
+pub at-none : (number : ℕ) (l : Option Link) (p : Option StandingParty) (a : Association) → l ≡ None → p ≡ None → IsLinkOf number l p a
 at-none number None None a e f = tt
 at-none number None (Some party) a e f = cc
 at-none number (Some link) p a e f = cc
 
-at-other : (number : ℕ) (l l' : Option Link) (p p' : Option StandingParty) (a a' : Association) → l' ≡ l → p' ≡ p → a' ≡ a → IsLinkOf number l p a → IsLinkOf number l' p' a'
+pub at-other : (number : ℕ) (l l' : Option Link) (p p' : Option StandingParty) (a a' : Association) → l' ≡ l → p' ≡ p → a' ≡ a → IsLinkOf number l p a → IsLinkOf number l' p' a'
 at-other number l l' p p' a a' el ep ea is =
     subst (λ (one : Option Link). IsLinkOf number one p' a') (sym el)
     (subst (λ (one : Option StandingParty). IsLinkOf number l one a') (sym ep) (subst (λ (one : Association). IsLinkOf number l p one) (sym ea) is))
 
-at-some : (number : ℕ) (l : Option Link) (p : Option StandingParty) (a a' : Association) (link : Link) (party : StandingParty) → l ≡ Some link → p ≡ Some party → a' ≡ a → IsLink number link party a → IsLinkOf number l p a'
+pub at-some : (number : ℕ) (l : Option Link) (p : Option StandingParty) (a a' : Association) (link : Link) (party : StandingParty) → l ≡ Some link → p ≡ Some party → a' ≡ a → IsLink number link party a → IsLinkOf number l p a'
 at-some number l p a a' link party el ep ea is = at-other number (Some link) l (Some party) p a a' el ep ea is
 
-with-own : (number : ℕ) (a : Association) (serving : Serving) → (with_association number a serving).associations number ≡ a
+pub with-own : (number : ℕ) (a : Association) (serving : Serving) → (with_association number a serving).associations number ≡ a
 with-own number a serving = ap (λ (b : Bool). if b then a else serving.associations number) (nat_eq_equiv.refl number)
 
-with-other : (q number : ℕ) (a : Association) (serving : Serving) → nat_eq q number ≡ false → (with_association number a serving).associations q ≡ serving.associations q
+pub with-other : (q number : ℕ) (a : Association) (serving : Serving) → nat_eq q number ≡ false → (with_association number a serving).associations q ≡ serving.associations q
 with-other q number a serving other = ap (λ (b : Bool). if b then a else serving.associations q) other
 
 -- ---- the state after something of the link
 
-one-more : (links : List (ℕ × Link)) (one : ℕ × Link) → length (links ++ one ∷ []) ≡ length links + 1
+pub one-more : (links : List (ℕ × Link)) (one : ℕ × Link) → length (links ++ one ∷ []) ≡ length links + 1
 one-more links one = length-append links (one ∷ [])
 
 less-one : (before links now all : ℕ) → before ≡ links + 1 → before ≡ all → now + 1 ≡ all → links ≡ now

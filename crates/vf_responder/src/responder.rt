@@ -125,7 +125,7 @@ impl<D: Disk> Responder<D> {
 
     /// The disk.
     pub fn close(self) -> D
-        ensures { result ≡ self.kept.store.disk }
+        ensures { result ≡ self.store.disk }
     {
         self.kept.store.close()
     }
