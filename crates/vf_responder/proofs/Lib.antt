@@ -9,3 +9,5 @@ mod TellLemmas
 mod StoreLemmas
 mod MoveLemmas
 mod ArriveLemmas
+mod GiveLemmas
+mod LoopLemmas

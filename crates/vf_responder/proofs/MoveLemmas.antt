@@ -79,7 +79,7 @@ put-again number q serving true e =
     ap (λ (n : ℕ). serving.associations n) (eqb-true q number e) ∙ sym (ap (λ (b : Bool). if b then serving.associations number else serving.associations q) e)
 put-again number q serving false e = sym (with-other q number (serving.associations number) serving e)
 
-none-by : (number : ℕ) (p : Option StandingParty) (a : Association) → IsLinkOf number None p a → p ≡ None
+pub none-by : (number : ℕ) (p : Option StandingParty) (a : Association) → IsLinkOf number None p a → p ≡ None
 none-by number None a is = refl
 none-by number (Some party) a is = absurd is
 

@@ -3,6 +3,8 @@ use Rattle.std.proofs.Common.{◌≡◌, ◌≢◌, ℕ, ◌+◌, Bool, true, fa
 use Rattle.std.specs.Prelude.{IfSome, is_some, not, if◌then◌else◌}
 use Rattle.vf_elements.specs.declared.message.Said.{Said}
 use Rattle.vf_stack.specs.Association.{Association}
+use Rattle.vf_disk.proofs.Runs.{weaker}
+use Rattle.vf_disk.specs.Disk.{LeavesOnly}
 use Rattle.vf_elements.specs.declared.message.Message.{Message}
 use Rattle.vf_filestore.proofs.RangedStates.{messages_reached, read_messages_fit, read_messages_make}
 use Rattle.vf_filestore.specs.Aborts.{Setting}
@@ -35,7 +37,7 @@ use Rattle.vf_responder.specs.Along.{RepresentsAlong}
 use Rattle.vf_responder.specs.Answers.{Answer, answering, at_end, giving_way, says, setting_at}
 use Rattle.vf_responder.specs.Meanings as run
 use Rattle.vf_responder.specs.Replies.{sending_all}
-use Rattle.vf_responder.specs.Represents.{Answers, IsLink, Kept, Represents, put_back, way_by, way_of, with_link}
+use Rattle.vf_responder.specs.Represents.{Answers, Does, GivesWay, IsLink, Kept, Represents, put_back, way_by, way_of, with_link}
 use Rattle.vf_responder.specs.Run.{tables_in}
 use Rattle.vf_responder.specs.Serving.{Serving, stands}
 use Rattle.vf_responder.specs.Steps.{IsAsked, IsCalled, IsSaid, TakesOn, taking, taking_by}
@@ -264,3 +266,34 @@ answers-so link link' kept mid_kept kept' serving moment indication asked messag
         said-gone link link' mid_kept kept' (now_of serving so.party message) so.party moment indication asked message kept'.locks kept'.locks outcome so.way.represents so.linked so.alone read so.taken tables links [] none
     by so called (Some next) some is =
         said-on link link' mid_kept kept' (now_of serving so.party message) so.party moment indication asked message kept'.locks kept'.locks outcome so.way.represents so.linked so.alone read so.taken tables links next some numbered is called
+
+pub take-answers : {D : Type 0} (link link' : Link) (kept mid_kept kept' : Kept D) (moment : ℕ) (indication : Indication) (asked : Asked) (message : Message) (outcome : Outcome) (old mid new : List Reply) (goes : Bool)
+    → IsRead message → IsAsked asked indication → GivesWay link message kept old mid_kept mid → TakesOn mid_kept.store.tables mid_kept.locks kept'.locks link moment asked message outcome
+    → kept'.store.tables ≡ after_all mid_kept.store.tables outcome.changes → kept'.links ≡ mid_kept.links
+    → ((a : Association) (i : Indication) → IsCalled link.stack a → IsAsked asked i → IsSaid link.number (sending_all i a outcome.said.items) (not (is_some outcome.party)) mid link'.stack new)
+    → goes ≡ is_some outcome.party → IfSome outcome.party (λ next. link'.party ≡ next) → link'.number ≡ link.number
+    → Does (λ serving. taking moment link.number serving indication message) (with_link link kept) old (put_back goes link' kept') new
+take-answers link link' kept mid_kept kept' moment indication asked message outcome old mid new goes read ask way turn tables links says_so is_goes is_party numbered = λ serving represents.
+    answers-so link link' kept mid_kept kept' serving moment indication asked message outcome old mid new goes read ask
+    (taken-so link kept mid_kept kept'.locks serving moment indication asked message outcome old mid represents ask (way serving represents) turn)
+    tables links says_so is_goes is_party numbered
+
+-- the changes fit
+pub take-fits : {D : Type 0} (link : Link) (kept mid_kept : Kept D) (locks : HoldersOfFiles) (moment : ℕ) (indication : Indication) (asked : Asked) (message : Message) (outcome : Outcome) (old mid : List Reply) (serving : Serving)
+    → IsRead message → IsAsked asked indication → Represents (with_link link kept) serving → GivesWay link message kept old mid_kept mid
+    → TakesOn mid_kept.store.tables mid_kept.locks locks link moment asked message outcome → AreFitting mid_kept.store.tables outcome.changes
+take-fits link kept mid_kept locks moment indication asked message outcome old mid serving read ask represents way turn =
+    (made-so link kept mid_kept locks serving moment indication message outcome old mid read
+        (taken-so link kept mid_kept locks serving moment indication asked message outcome old mid represents ask (way serving represents) turn)).fitting
+
+-- and what the disk represents meanwhile is along the answers
+pub take-run : {D : Type 0} (clock : D → ℕ) (left_since : D → ℕ → List ℕ → Type 0) (before after : D)
+    (link : Link) (kept mid_kept : Kept D) (locks : HoldersOfFiles) (moment : ℕ) (indication : Indication) (asked : Asked) (message : Message) (outcome : Outcome) (old mid : List Reply) (serving : Serving)
+    → IsRead message → IsAsked asked indication → Represents (with_link link kept) serving → GivesWay link message kept old mid_kept mid
+    → TakesOn mid_kept.store.tables mid_kept.locks locks link moment asked message outcome → mid_kept.store.tables ≡ kept.store.tables
+    → LeavesOnly clock left_since before after (RepresentsEither mid_kept.store.tables (after_all mid_kept.store.tables outcome.changes))
+    → LeavesOnly clock left_since before after (RepresentsAlong serving (taking moment link.number serving indication message))
+take-run clock left_since before after link kept mid_kept locks moment indication asked message outcome old mid serving read ask represents way turn same leaves =
+    weaker clock left_since before after (RepresentsEither mid_kept.store.tables (after_all mid_kept.store.tables outcome.changes)) (RepresentsAlong serving (taking moment link.number serving indication message)) leaves
+    (along-so link kept mid_kept locks serving moment indication message outcome old mid read represents same
+        (taken-so link kept mid_kept locks serving moment indication asked message outcome old mid represents ask (way serving represents) turn))

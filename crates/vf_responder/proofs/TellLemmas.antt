@@ -15,14 +15,17 @@ use Rattle.vf_session.specs.Trace.{next}
 use Rattle.vf_stack.specs.Association.{Association}
 use Rattle.vf_stack.specs.declared.indication.Indication.{Indication}
 use Rattle.vf_stack.specs.declared.indication.Indication.TheVariants as indications
+use Rattle.vf_disk.specs.Disk.{LeavesOnly}
+use Rattle.vf_journal.specs.declared.error.JournalError.{JournalError}
 use Rattle.vf_responder.proofs.ChainLemmas.{at_end-join}
+use Rattle.vf_responder.specs.Along.{RepresentsAlong}
 use Rattle.vf_responder.proofs.SaysLemmas.{abort-alone, says-gone, says-nothing, told-on}
 use Rattle.vf_responder.proofs.StandLemmas.{IsOn, on-link}
 use Rattle.vf_responder.specs.Answers.{Answer, answering, answering_on, at_end, octet_heard, octets_heard, speaking, told, told_all}
 use Rattle.vf_responder.specs.Meanings as run
 use Rattle.vf_responder.specs.Meanings.{transfer_check}
 use Rattle.vf_responder.specs.Replies.{sending_all}
-use Rattle.vf_responder.specs.Represents.{Answers, Does, Kept, Represents, with_link}
+use Rattle.vf_responder.specs.Represents.{Answers, Does, Kept, Represents, put_back, with_link}
 use Rattle.vf_responder.specs.Serving.{Serving, stands}
 use Rattle.vf_responder.specs.Steps.{IsCalled, IsReadMeaning, IsReadTold, IsSaid, taking, taking_by}
 use Rattle.vf_responder.specs.declared.event.Reply.{Reply}
@@ -125,3 +128,22 @@ pub heard-cut : (moment number : ℕ) (front more : List ℕ) (serving : Serving
     → octets_heard moment number serving (front ++ more) ≡ octets_heard moment number serving front ++ octets_heard moment number (at_end serving (octets_heard moment number serving front)) more
 heard-cut moment number [] more serving = refl
 heard-cut moment number (octet ∷ front) more serving = cut-by moment number serving octet front more (stands number serving.filestore) refl (heard-cut moment number front more)
+
+-- ---- what telling owes
+
+pub tell-takes : {D : Type 0} (moment : ℕ) (link link' : Link) (kept kept' : Kept D) (indication : Indication) (serial : ℕ) (last : Option ℕ) (message : Message) (old new : List Reply) (result : Result Bool JournalError)
+    → run.Takes message ≡ run.meaning serial last indication → ((serving : Serving) → AsksSo link kept serving serial last)
+    → IfOk result (λ goes. Does (λ serving. taking moment link.number serving indication message) (with_link link kept) old (put_back goes link' kept') new)
+    → IfOk result (λ goes. Does (λ serving. told moment link.number serving indication) (with_link link kept) old (put_back goes link' kept') new)
+tell-takes moment link link' kept kept' indication serial last message old new (Ok goes) is asks does = λ serving represents.
+    subst (λ (all : List Answer). Answers all serving old (put_back goes link' kept') new)
+    (sym (told-takes moment link kept serving indication serial last message represents (asks serving) is)) (does serving represents)
+tell-takes moment link link' kept kept' indication serial last message old new (Err error) is asks does = tt
+
+pub run-takes : {D : Type 0} (before after : D) (clock : D → ℕ) (left_since : D → ℕ → List ℕ → Type 0) (moment : ℕ) (link : Link) (kept : Kept D) (serving : Serving) (indication : Indication) (serial : ℕ) (last : Option ℕ) (message : Message)
+    → Represents (with_link link kept) serving → AsksSo link kept serving serial last → run.Takes message ≡ run.meaning serial last indication
+    → LeavesOnly clock left_since before after (RepresentsAlong serving (taking moment link.number serving indication message))
+    → LeavesOnly clock left_since before after (RepresentsAlong serving (told moment link.number serving indication))
+run-takes before after clock left_since moment link kept serving indication serial last message represents asks is leaves =
+    subst (λ (all : List Answer). LeavesOnly clock left_since before after (RepresentsAlong serving all))
+    (sym (told-takes moment link kept serving indication serial last message represents asks is)) leaves

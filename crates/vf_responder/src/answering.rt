@@ -1,5 +1,5 @@
 //! What is answered to octets, one thing that they tell after the other.
-ghost use Rattle.std.specs.Prelude.{◌≡◌, ◌+◌, ◌≤◌, ◌∷◌, [], ℕ, IfNone, IfOk, IfSome, None, OnOk, Some, false, length, true};
+ghost use Rattle.std.specs.Prelude.{◌≡◌, ◌+◌, ◌<◌, ◌≤◌, ◌∷◌, [], ℕ, IfNone, IfOk, IfSome, None, OnOk, Some, false, length, true};
 ghost use Rattle.vf_elements.specs.declared.message.Said.TheVariants as answers;
 ghost use Rattle.std.specs.List.{AllByRecursion};
 ghost use Rattle.vf_filestore.specs.Ranges.{IsRead};
@@ -122,6 +122,7 @@ impl<D: Disk> Keeping<D> {
         ensures limit { self.new.store.journal.limit ≡ self.old.store.journal.limit }
         ensures number { link.new.number ≡ link.old.number }
         ensures fewer { length self.new.links.entries ≤ length self.old.links.entries }
+        ensures apart { link_of link.old.number self.old.links.entries ≡ None → link_of link.old.number self.new.links.entries ≡ None }
     {
         let mut rest = octets;
         while !rest.is_empty() {
@@ -143,7 +144,8 @@ impl<D: Disk> Keeping<D> {
         octets: &[u8],
         replies: &mut Vec<Reply>,
     ) -> Result<bool, StoreError>
-        requires { length octets.now ≤ lacking link.old.stack.transport.packet }
+        requires some { 0 < length octets.now }
+        requires few { length octets.now ≤ lacking link.old.stack.transport.packet }
         ensures answers { IfOk result (λ goes. Does (λ serving. octets_heard moment link.old.number serving octets.now) (with_link link.old (kept_of self.old)) replies.old.items (put_back goes link.new (kept_of self.new)) replies.new.items) }
         ensures represented { (serving : Serving) → Represents (with_link link.old (kept_of self.old)) serving → IsRepresented D.shown D.may_leave self.old.store → OnOk result (IsRepresented D.shown D.may_leave self.new.store) }
         ensures any_moment { KeepsAlong (λ serving. octets_heard moment link.old.number serving octets.now) D.shown D.may_leave D.moment D.left_since (with_link link.old (kept_of self.old)) (kept_of self.new) }
@@ -151,6 +153,7 @@ impl<D: Disk> Keeping<D> {
         ensures limit { self.new.store.journal.limit ≡ self.old.store.journal.limit }
         ensures number { link.new.number ≡ link.old.number }
         ensures fewer { length self.new.links.entries ≤ length self.old.links.entries }
+        ensures apart { link_of link.old.number self.old.links.entries ≡ None → link_of link.old.number self.new.links.entries ≡ None }
     {
         let mut indications = Vec::new(alloc);
         let mut answers = Vec::new(alloc);
@@ -181,6 +184,7 @@ impl<D: Disk> Keeping<D> {
         ensures limit { self.new.store.journal.limit ≡ self.old.store.journal.limit }
         ensures number { link.new.number ≡ link.old.number }
         ensures fewer { length self.new.links.entries ≤ length self.old.links.entries }
+        ensures apart { link_of link.old.number self.old.links.entries ≡ None → link_of link.old.number self.new.links.entries ≡ None }
     {
         for indication in indications {
             if !self.tell(alloc, link, moment, indication, replies)? {
@@ -206,6 +210,7 @@ impl<D: Disk> Keeping<D> {
         ensures limit { self.new.store.journal.limit ≡ self.old.store.journal.limit }
         ensures number { link.new.number ≡ link.old.number }
         ensures fewer { length self.new.links.entries ≤ length self.old.links.entries }
+        ensures apart { link_of link.old.number self.old.links.entries ≡ None → link_of link.old.number self.new.links.entries ≡ None }
     {
         let asked = asked_by(&indication);
         let next = link.stack.next_serial();
@@ -237,6 +242,7 @@ impl<D: Disk> Keeping<D> {
         ensures limit { self.new.store.journal.limit ≡ self.old.store.journal.limit }
         ensures number { link.new.number ≡ link.old.number }
         ensures fewer { length self.new.links.entries ≤ length self.old.links.entries }
+        ensures apart { link_of link.old.number self.old.links.entries ≡ None → link_of link.old.number self.new.links.entries ≡ None }
     {
         if self.give_way(alloc, link, &message, replies).is_err() {
             drop(message);
@@ -285,6 +291,7 @@ impl<D: Disk> Keeping<D> {
         ensures way { OnOk result (GivesWay link.now message.now (kept_of self.old) replies.old.items (kept_of self.new) replies.new.items) }
         ensures store { self.new.store ≡ self.old.store }
         ensures fewer { length self.new.links.entries ≤ length self.old.links.entries }
+        ensures apart { link_of link.now.number self.old.links.entries ≡ None → link_of link.now.number self.new.links.entries ≡ None }
     {
         let Some(activity) = recovering(link, message) else {
             return Ok(());

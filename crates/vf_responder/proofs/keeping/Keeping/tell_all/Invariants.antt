@@ -1,10 +1,10 @@
-use Rattle.std.proofs.Common.{◌≡◌, ◌≤◌, ℕ, length}
+use Rattle.std.proofs.Common.{◌≡◌, ◌≤◌, ℕ, None, length}
 use Rattle.vf_disk.specs.Disk.{LeavesOnly}
 use Rattle.vf_store.specs.StoreState.{IsRepresented}
 use Rattle.vf_responder.proofs.ChainLemmas.{IsOnward}
 use Rattle.vf_responder.specs.Along.{RepresentsAlong}
 use Rattle.vf_responder.specs.Answers.{told_all}
-use Rattle.vf_responder.specs.Represents.{Represents, kept_of, with_link}
+use Rattle.vf_responder.specs.Represents.{Represents, kept_of, link_of, with_link}
 use Rattle.vf_responder.specs.Serving.{Serving}
 use Rattle.std.specs.List.{AllByRecursion}
 use Rattle.vf_responder.specs.Steps.{IsReadTold}
@@ -23,4 +23,5 @@ invariant-loop-indication g l = record {
   limit : l.self.store.journal.limit ≡ l.fn.self.store.journal.limit;
   number : l.link.number ≡ l.fn.link.number;
   fewer : length l.self.links.entries ≤ length l.fn.self.links.entries;
+  apart : link_of l.fn.link.number l.fn.self.links.entries ≡ None → link_of l.fn.link.number l.self.links.entries ≡ None;
 }
