@@ -11,3 +11,4 @@ mod MoveLemmas
 mod ArriveLemmas
 mod GiveLemmas
 mod LoopLemmas
+mod FewLemmas

@@ -1,5 +1,5 @@
 -- A link that is taken out of the others, one that ends, and one that arrives.
-use Rattle.std.proofs.Common.{◌≡◌, ◌≢◌, ℕ, ◌+◌, Bool, true, false, nat_eq, List, [], ◌∷◌, ◌++◌, length, Option, Some, None, refl, ap, sym, subst, ◌∙◌, eqb-true, arith}
+use Rattle.std.proofs.Common.{◌≡◌, ◌≢◌, ℕ, ◌+◌, Bool, true, false, cond, nat_eq, List, [], ◌∷◌, ◌++◌, length, Option, Some, None, refl, ap, sym, subst, ◌∙◌, eqb-true, arith}
 use Rattle.std.proofs.lemmas.Bool.{eqb-false}
 use Rattle.std.specs.Cmp.{nat_eq_equiv}
 use Rattle.std.specs.List.{IsDistinct}
@@ -123,3 +123,17 @@ module _ {D : Type 0} (number : ℕ) (link : Link) (kept kept' : Kept D) (servin
         distinct = subst (λ (all : List (ℕ × Link)). IsDistinct nat_eq (keys_of all)) (sym as-new) (distinct-last kept.links number link represents.distinct free);
         reached = ran.1;
       }
+
+-- as the map of links tells it
+pub out-by : {D : Type 0} (number : ℕ) (link : Link) (kept rest : Kept D) → rest.store ≡ kept.store → rest.locks ≡ kept.locks → link_of number kept.links ≡ Some link
+    → ((q : ℕ) → link_of q rest.links ≡ cond (nat_eq number q) None (link_of q kept.links)) → length rest.links + 1 ≡ length kept.links → IsDistinct nat_eq (keys_of rest.links)
+    → IsTakenOut number link kept rest
+out-by number link kept rest store locks value updates count distinct = record {
+  store = store;
+  locks = locks;
+  value = value;
+  none = updates number ∙ ap (λ (b : Bool). cond b None (link_of number kept.links)) (nat_eq_equiv.refl number);
+  others = λ q e. updates q ∙ ap (λ (b : Bool). cond b None (link_of q kept.links)) e;
+  count = count;
+  distinct = distinct;
+}

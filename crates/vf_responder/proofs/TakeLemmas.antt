@@ -198,7 +198,7 @@ taken-so link kept mid_kept locks serving moment indication asked message outcom
     let way' = subst (λ (answers : List Answer). Answers answers serving old (with_link link mid_kept) mid) way_is way in
     let now = now_of serving party message in
     let alone = answering-now serving party (setting_in moment indication serving party message) message represents.reached.sound on.found in
-    let as = on-as link mid_kept now party way'.represents on.linked alone.stands in
+    let stood = on-as link mid_kept now party way'.represents on.linked alone.stands in
     record {
       party = party;
       linked = on.linked;
@@ -206,10 +206,10 @@ taken-so link kept mid_kept locks serving moment indication asked message outcom
           ∙ ap (λ (found : Option StandingParty). taking_by moment indication serving found message) on.found;
       way = way';
       alone = alone;
-      is = as.is;
+      is = stood.is;
       taken = turn now.filestore party (now.associations party.link) indication
           (record { sound = way'.represents.reached.sound; kept = way'.represents.tables; held = way'.represents.held; stands = alone.stands })
-          way'.represents.reached.kept.histories as.is.represented as.is.called ask;
+          way'.represents.reached.kept.histories stood.is.represented stood.is.called ask;
     }
 
 pub made-so : {D : Type 0} (link : Link) (kept mid_kept : Kept D) (locks : HoldersOfFiles) (serving : Serving) (moment : ℕ) (indication : Indication) (message : Message) (outcome : Outcome) (old mid : List Reply)
