@@ -98,7 +98,7 @@ ended-one {D} number link kept rest kept' serving old represents out leaves link
     ap (λ (m : ℕ). ended serving (party_of m serving.filestore.parties)) (sym numbered ∙ on.linked) ∙ ap (λ (p : Option StandingParty). ended serving p) on.found in
     subst (λ (all : List Answer). Answers all serving old kept' old) (sym is)
     (record {
-        spoken = sym (append-nil old);
-        represents = same-associations kept' (with_association n (serving.associations n) (record serving { filestore = broken n serving.filestore })) serving.associations gone
-            (λ q. put-again n q serving (nat_eq q n) refl);
-      })
+      spoken = sym (append-nil old);
+      represents = same-associations kept' (with_association n (serving.associations n) (record serving { filestore = broken n serving.filestore })) serving.associations gone
+          (λ q. put-again n q serving (nat_eq q n) refl);
+    })

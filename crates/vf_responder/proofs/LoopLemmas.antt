@@ -44,7 +44,7 @@ pub heard-end : {D : Type 0} (moment number : ℕ) (all : List Answer) (serving 
 heard-end moment number all serving old new kept rest o free =
     onward-all all serving old new kept (λ s. octets_heard moment number s rest) o
     (heard-gone moment number (at_end serving o.done) rest
-        (ap (λ (p : Option StandingParty). is_some p) (nobody-by number kept (at_end serving o.done) o.answers.represents free)))
+    (ap (λ (p : Option StandingParty). is_some p) (nobody-by number kept (at_end serving o.done) o.answers.represents free)))
 
 -- a piece is cut into its front and the rest
 pub cut-onward : {D : Type 0} (moment number : ℕ) (all : List Answer) (serving : Serving) (old new : List Reply) (kept : Kept D) (whole front more : List ℕ) → whole ≡ front ++ more

@@ -88,7 +88,6 @@ none-by number (Some party) a is = absurd is
 module _ {D : Type 0} (number : ℕ) (link : Link) (kept kept' : Kept D) (serving : Serving) (represents : Represents kept serving)
     (free : link_of number kept.links ≡ None) (numbered : link.number ≡ number) (is : IsLink number link (arrived number) beginning)
     (links : kept'.links ≡ kept.links ++ (link.number, link) ∷ []) (tables : kept'.store.tables ≡ kept.store.tables) (locks : kept'.locks ≡ kept.locks) where
-
   nobody : party_of number serving.filestore.parties ≡ None
   nobody = none-by number (party_of number serving.filestore.parties) (serving.associations number)
       (subst (λ (l : Option Link). IsLinkOf number l (party_of number serving.filestore.parties) (serving.associations number)) free (represents.links number))
@@ -105,8 +104,8 @@ module _ {D : Type 0} (number : ℕ) (link : Link) (kept kept' : Kept D) (servin
       let P : ℕ → Type 0 = λ n. IsLinkOf n (link_of n kept'.links) (party_of n (arrives number serving.filestore).parties) (then_serving.associations n) in
       subst P (sym same)
       (at-some number (link_of number kept'.links) (party_of number (arrives number serving.filestore).parties) beginning (then_serving.associations number) link (arrived number)
-          (ap (λ (all : List (ℕ × Link)). link_of number all) as-new ∙ link_of-own number kept.links link free)
-          (arrivals_stand serving.filestore number nobody) (with-own number beginning (record serving { filestore = arrives number serving.filestore })) is)
+      (ap (λ (all : List (ℕ × Link)). link_of number all) as-new ∙ link_of-own number kept.links link free)
+      (arrivals_stand serving.filestore number nobody) (with-own number beginning (record serving { filestore = arrives number serving.filestore })) is)
   new-at q false e =
       at-other q (link_of q kept.links) (link_of q kept'.links) (party_of q serving.filestore.parties) (party_of q (arrives number serving.filestore).parties) (serving.associations q) (then_serving.associations q)
       (ap (λ (all : List (ℕ × Link)). link_of q all) as-new ∙ link_of-other q number kept.links link e)

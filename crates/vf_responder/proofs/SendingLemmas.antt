@@ -102,7 +102,7 @@ pub was-left : (kept : stack.Kept) (a : Association) (serial : ℕ) (answer : Bo
 was-left kept a serial answer old called never may =
     let side : stack.side_of kept ≡ Responder = called.called in
     let refused : May Responder (stack.offer_of kept) a (Check serial) → ⊥ =
-        λ due. (let is_true : answer ≡ true = may.1 (subst (λ (own : TokenSide). May own (stack.offer_of kept) a (Check serial)) (sym side) due) in cc) in
+    λ due. (let is_true : answer ≡ true = may.1 (subst (λ (own : TokenSide). May own (stack.offer_of kept) a (Check serial)) (sym side) due) in cc) in
     at-left (is_left_out a (Check serial)) a (Check serial) old kept (left-in (stack.offer_of kept) a serial refused) called
 
 -- ONE AFTER THE OTHER. So much was sent, and the rest is what is left to send.

@@ -49,7 +49,7 @@ on-link link kept serving represents =
     let free : link_of n kept.links ≡ None = last-free kept.links n link represents.distinct in
     let own : link_of n (kept.links ++ (n, link) ∷ []) ≡ Some link = link_of-own n kept.links link free in
     let stands = stands-by n link (party_of n serving.filestore.parties) (serving.associations n)
-        (subst (λ (l : Option Link). IsLinkOf n l (party_of n serving.filestore.parties) (serving.associations n)) own (represents.links n)) in
+    (subst (λ (l : Option Link). IsLinkOf n l (party_of n serving.filestore.parties) (serving.associations n)) own (represents.links n)) in
     on-by link kept serving n stands.0 (located n serving.filestore.parties stands.0 stands.1).same refl stands.1 stands.2 free
 
 -- ---- one link's part
@@ -85,7 +85,6 @@ module _ {D : Type 0} (number : ℕ) (link : Link) (kept : Kept D) (serving : Se
     (kept' : Kept D) (state : State) (a : Association) (same_links : kept'.links ≡ kept.links)
     (others : (q : ℕ) → q ≢ number → party_of q state.parties ≡ party_of q serving.filestore.parties)
     (tables : tables_of state ≡ kept'.store.tables) (held : Keeps kept'.locks state) (reached : IsReached state) where
-
   abbrev next : Serving
   next = with_association number a (record serving { filestore = state })
 
@@ -119,8 +118,8 @@ module _ {D : Type 0} (number : ℕ) (link : Link) (kept : Kept D) (serving : Se
       let P : ℕ → Type 0 = λ n. IsLinkOf n (link_of n (kept'.links ++ (link'.number, link') ∷ [])) (party_of n state.parties) (next.associations n) in
       subst P (sym same)
       (at-some number (link_of number (kept'.links ++ (link'.number, link') ∷ [])) (party_of number state.parties) a (next.associations number) link' party'
-          (ap (λ (links : List (ℕ × Link)). link_of number links) (as-then link' numbered') ∙ link_of-own number kept.links link' off)
-          found (with-own number a (record serving { filestore = state })) is)
+      (ap (λ (links : List (ℕ × Link)). link_of number links) (as-then link' numbered') ∙ link_of-own number kept.links link' off)
+      found (with-own number a (record serving { filestore = state })) is)
   some-at q false e link' party' numbered' found is =
       other-at q e (link_of q (kept'.links ++ (link'.number, link') ∷ []))
       (ap (λ (links : List (ℕ × Link)). link_of q links) (as-then link' numbered') ∙ link_of-other q number kept.links link' e)

@@ -126,7 +126,6 @@ module _ {D : Type 0} (link link' : Link) (kept kept' : Kept D) (now : Serving) 
     (alone : Answering now.filestore party (setting_at moment (now.associations party.link) indication) message) (read : IsRead message)
     (taken : IsTaken kept.store.tables kept'.locks now.filestore party (setting_at moment (now.associations party.link) indication) message outcome)
     (tables : kept'.store.tables ≡ after_all kept.store.tables outcome.changes) (links : kept'.links ≡ kept.links) where
-
   abbrev setting : Setting
   setting = setting_at moment (now.associations party.link) indication
 
@@ -232,9 +231,9 @@ along-so link kept mid_kept locks serving moment indication message outcome old 
     let ends : tables_in (at_end serving (first ++ last ∷ [])) ≡ tables_of (given_in moment indication serving so.party message).state = ap (λ (s : Serving). tables_in s) (at_end-join serving first (last ∷ [])) in
     subst (λ (answers : List Answer). RepresentsAlong serving answers image) (sym so.trail)
     (⊎_elim
-        (λ before. along-none serving (first ++ last ∷ []) image (subst (λ (t : Tables). ImageRepresents image t) (same ∙ sym represents.tables) before))
-        (λ after. along-all serving (first ++ last ∷ []) image (subst (λ (t : Tables). ImageRepresents image t) (made.made ∙ sym ends) after))
-        either)
+    (λ before. along-none serving (first ++ last ∷ []) image (subst (λ (t : Tables). ImageRepresents image t) (same ∙ sym represents.tables) before))
+    (λ after. along-all serving (first ++ last ∷ []) image (subst (λ (t : Tables). ImageRepresents image t) (made.made ∙ sym ends) after))
+    either)
 
 -- WHAT IT COMES TO
 pub answers-so : {D : Type 0} (link link' : Link) (kept mid_kept kept' : Kept D) (serving : Serving) (moment : ℕ) (indication : Indication) (asked : Asked) (message : Message) (outcome : Outcome) (old mid new : List Reply) (goes : Bool)
@@ -254,7 +253,7 @@ answers-so link link' kept mid_kept kept' serving moment indication asked messag
     let represented : Represents (put_back goes link' kept') (says so.party.link indication now given).state =
     subst (λ (b : Bool). Represents (put_back b link' kept') (says so.party.link indication now given).state) (sym is_goes) (ends outcome.party refl is_party) in
     let second = said-once now so.party.link link.number indication given (sending_all indication a outcome.said.items) (not (is_some outcome.party)) mid new (put_back goes link' kept') so.linked
-        (ap (λ (all : List Said). sending_all indication a all) so.taken.says) (goes-by outcome.party (party_of so.party.link given.state.parties) so.taken.next) said.spoken represented in
+    (ap (λ (all : List Said). sending_all indication a all) so.taken.says) (goes-by outcome.party (party_of so.party.link given.state.parties) so.taken.next) said.spoken represented in
     subst (λ (answers : List Answer). Answers answers serving old (put_back goes link' kept') new) (sym so.trail)
     (joined-answers serving first (says so.party.link indication now given ∷ []) old mid new (with_link link mid_kept) (put_back goes link' kept') so.way second)
   where
@@ -284,7 +283,7 @@ pub take-fits : {D : Type 0} (link : Link) (kept mid_kept : Kept D) (locks : Hol
     → TakesOn mid_kept.store.tables mid_kept.locks locks link moment asked message outcome → AreFitting mid_kept.store.tables outcome.changes
 take-fits link kept mid_kept locks moment indication asked message outcome old mid serving read ask represents way turn =
     (made-so link kept mid_kept locks serving moment indication message outcome old mid read
-        (taken-so link kept mid_kept locks serving moment indication asked message outcome old mid represents ask (way serving represents) turn)).fitting
+    (taken-so link kept mid_kept locks serving moment indication asked message outcome old mid represents ask (way serving represents) turn)).fitting
 
 -- and what the disk represents meanwhile is along the answers
 pub take-run : {D : Type 0} (clock : D → ℕ) (left_since : D → ℕ → List ℕ → Type 0) (before after : D)
@@ -296,4 +295,4 @@ pub take-run : {D : Type 0} (clock : D → ℕ) (left_since : D → ℕ → List
 take-run clock left_since before after link kept mid_kept locks moment indication asked message outcome old mid serving read ask represents way turn same leaves =
     weaker clock left_since before after (RepresentsEither mid_kept.store.tables (after_all mid_kept.store.tables outcome.changes)) (RepresentsAlong serving (taking moment link.number serving indication message)) leaves
     (along-so link kept mid_kept locks serving moment indication message outcome old mid read represents same
-        (taken-so link kept mid_kept locks serving moment indication asked message outcome old mid represents ask (way serving represents) turn))
+    (taken-so link kept mid_kept locks serving moment indication asked message outcome old mid represents ask (way serving represents) turn))

@@ -55,7 +55,7 @@ told-takes moment link kept serving indication serial last message represents as
     let on = on-link link kept serving represents in
     told-on moment link kept serving on indication (run.Takes message) (meant-so link kept serving on serial last indication (run.Takes message) asks is)
     ∙ sym (ap (λ (n : ℕ). taking_by moment indication serving (party_of n serving.filestore.parties) message) on.linked
-        ∙ ap (λ (found : Option StandingParty). taking_by moment indication serving found message) on.found)
+    ∙ ap (λ (found : Option StandingParty). taking_by moment indication serving found message) on.found)
 
 pub read-so : (indication : Indication) (serial : ℕ) (last : Option ℕ) (message : Message) → IsReadTold indication → run.Takes message ≡ run.meaning serial last indication → IsRead message
 read-so indication serial last message read is = subst IsReadMeaning (sym is) (read serial last)
@@ -71,11 +71,11 @@ told-faults moment link kept kept' serving indication serial last number place o
     let a = serving.associations on.party.link in
     let trail = told-on moment link kept serving on indication (run.Faults number place) (meant-so link kept serving on serial last indication (run.Faults number place) asks is) in
     let held : Keeps kept'.locks (broken on.party.link serving.filestore) =
-        leaves kept.store.tables serving.filestore on.party (record { sound = represents.reached.sound; kept = represents.tables; held = represents.held; stands = on.found }) on.is.represented in
+    leaves kept.store.tables serving.filestore on.party (record { sound = represents.reached.sound; kept = represents.tables; held = represents.held; stands = on.found }) on.is.represented in
     subst (λ (all : List Answer). Answers all serving old kept' new) (sym trail)
     (says-gone link kept kept' serving represents on indication (answers.Abort number place ∷ []) (sending_all (indications.Abort None) a (answers.Abort number place ∷ [])) old new
-        (abort-alone (indications.Abort None) indication a number place)
-        (spoken a on.is.called ∙ ap (λ (all : List Said). old ++ speaking_of link a all) is_abort) links tables held)
+    (abort-alone (indications.Abort None) indication a number place)
+    (spoken a on.is.called ∙ ap (λ (all : List Said). old ++ speaking_of link a all) is_abort) links tables held)
 
 -- and else nothing comes of it.
 pub told-nothing : {D : Type 0} (moment : ℕ) (link : Link) (kept : Kept D) (serving : Serving) (indication : Indication) (serial : ℕ) (last : Option ℕ) (old : List Reply)
@@ -122,7 +122,7 @@ cut-by moment number serving octet front more true e rest =
 cut-by moment number serving octet front more false e rest =
     heard-gone moment number serving ((octet ∷ front) ++ more) e
     ∙ sym (ap (λ (all : List Answer). all ++ octets_heard moment number (at_end serving all) more) (heard-gone moment number serving (octet ∷ front) e)
-        ∙ heard-gone moment number serving more e)
+    ∙ heard-gone moment number serving more e)
 
 pub heard-cut : (moment number : ℕ) (front more : List ℕ) (serving : Serving)
     → octets_heard moment number serving (front ++ more) ≡ octets_heard moment number serving front ++ octets_heard moment number (at_end serving (octets_heard moment number serving front)) more

@@ -19,10 +19,10 @@ ghost use Rattle.vf_tpkt.specs.Wanting.{lacking};
 ghost use Rattle.vf_stack.specs.declared.indication.Indication.{Indication as IndicationMeant};
 
 use crate::event::Reply;
+use crate::keeping::{Keeping, put};
 use crate::link::Link;
 use crate::meaning::{Asked, Meaning, SUPERSEDED, asked_by, meaning_of};
 use crate::replies::speak;
-use crate::keeping::{Keeping, put};
 use std::alloc::Global;
 use vf_base::{Moment, Name, NoMemory};
 use vf_disk::Disk;

@@ -19,4 +19,4 @@ returns-in-Check c = λ association called.
     let Q : Request → Type 0 = λ request. IsTrue c.may.result ↔ May (side_of c.args.stack.now) (offer_of c.args.stack.now) association request in
     subst P (sym c.in-Check.is)
     (was-left c.args.stack.now association c.in-Check.serial c.may.result c.args.out.now.items called c.if-may.false
-        (subst Q c.in-Check.is (c.may.ensures.association association called.represents)))
+    (subst Q c.in-Check.is (c.may.ensures.association association called.represents)))

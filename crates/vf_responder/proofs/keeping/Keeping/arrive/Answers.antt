@@ -18,7 +18,7 @@ pub returns-clause-answers : goal.returns-clause-answers
 returns-clause-answers g c = λ serving represents.
     let few : length c.args.self.now.links.entries < 64 = omega (arith, c.len.ensures.len) in
     let free : link_of c.in_ok-link.link.number c.args.self.now.links.entries ≡ None =
-        subst (λ (n : ℕ). link_of n c.args.self.now.links.entries ≡ None) (sym c.in_ok-link.ensures.numbered)
-        (is-none (link_of c.args.number c.args.self.now.links.entries) (sym c.contains_key.ensures ∙ c.if-contains_key.false)) in
+    subst (λ (n : ℕ). link_of n c.args.self.now.links.entries ≡ None) (sym c.in_ok-link.ensures.numbered)
+    (is-none (link_of c.args.number c.args.self.now.links.entries) (sym c.contains_key.ensures ∙ c.if-contains_key.false)) in
     arrived-new c.args.number c.in_ok-link.link (kept_of c.args.self.now) (record (kept_of c.args.self.now) { links = c.put.new.links.entries }) serving c.args.replies.now.items represents
     (sym c.contains_key.ensures ∙ c.if-contains_key.false) few c.in_ok-link.ensures.numbered c.in_ok-link.ensures (c.in_ok-put.ensures.entries free) refl refl

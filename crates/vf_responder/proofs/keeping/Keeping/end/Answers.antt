@@ -25,7 +25,7 @@ returns-clause-answers g c = λ replies serving represents.
     let kept = kept_of c.args.self.now in
     let rest = record (kept_of c.args.self.now) { links = c.swap_remove.new.self.entries } in
     let count : length c.swap_remove.new.self.entries + 1 ≡ length c.args.self.now.links.entries =
-        sym (ap (λ (o : Option Link). length c.swap_remove.new.self.entries + (if is_some o then 1 else 0)) c.in-Some.is) ∙ c.swap_remove.ensures.len in
+    sym (ap (λ (o : Option Link). length c.swap_remove.new.self.entries + (if is_some o then 1 else 0)) c.in-Some.is) ∙ c.swap_remove.ensures.len in
     let out = out-by c.args.number c.in-Some.link kept rest refl refl (sym c.swap_remove.ensures.value ∙ c.in-Some.is) c.swap_remove.ensures.updates.0 count c.swap_remove.ensures.unique in
     ended-one c.args.number c.in-Some.link kept rest (record rest { locks = c.end.new.locks }) serving replies represents out c.end.ensures refl refl
     (out-numbered c.args.number c.in-Some.link kept rest serving represents out)

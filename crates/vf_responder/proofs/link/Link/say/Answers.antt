@@ -10,4 +10,4 @@ returns-clause-said c = λ association indication called asked.
     let out = sending_all indication association c.args.said.items in
     subst (λ (kept : Kept). IsSaid c.args.self.now.number out (not (is_some c.args.next)) c.args.replies.now.items kept c.speak-spoken.new.replies.items) (sym c.go_on.ensures.stack)
     (subst (λ (b : Bool). IsSaid c.args.self.now.number out (not b) c.args.replies.now.items c.speak-spoken.new.self.stack c.speak-spoken.new.replies.items) c.is_some-goes.ensures
-        (c.in_ok-spoken.ensures.said association indication called asked))
+    (c.in_ok-spoken.ensures.said association indication called asked))
