@@ -99,12 +99,12 @@ same-party : (state : State) (one other : StandingParty) → one.link ≡ other.
 same-party state one other linked a b =
     let e : Some one ≡ Some other = sym a ∙ ap (λ (n : ℕ). party_of n state.parties) linked ∙ b in cc
 
-pub record IsOnAs {D : Type 0} (link : Link) (serving : Serving) (party : StandingParty) : Type 0 where
+pub record IsOnAs (link : Link) (serving : Serving) (party : StandingParty) : Type 0 where
   pub linked : link.number ≡ party.link
   pub is : IsLink party.link link party (serving.associations party.link)
 
 pub on-as : {D : Type 0} (link : Link) (kept : Kept D) (now : Serving) (party : StandingParty) → Represents (with_link link kept) now → link.number ≡ party.link
-    → party_of party.link now.filestore.parties ≡ Some party → IsOnAs {D = D} link now party
+    → party_of party.link now.filestore.parties ≡ Some party → IsOnAs link now party
 on-as link kept now party represents linked found =
     let on = on-link link kept now represents in
     let same : on.party ≡ party = same-party now.filestore on.party party (sym on.linked ∙ linked) on.found found in

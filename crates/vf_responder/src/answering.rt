@@ -244,10 +244,10 @@ impl<D: Disk> Keeping<D> {
         ensures fewer { length self.new.links.entries ≤ length self.old.links.entries }
         ensures apart { link_of link.old.number self.old.links.entries ≡ None → link_of link.old.number self.new.links.entries ≡ None }
     {
-        if self.give_way(alloc, link, &message, replies).is_err() {
+        let Ok(()) = self.give_way(alloc, link, &message, replies) else {
             drop(message);
             return Err(StoreError::NoMemory);
-        }
+        };
         let tables = self.store.tables();
         let Outcome {
             party,
