@@ -8,4 +8,6 @@ pub mod Along
 pub mod Represents
 pub mod Steps
 pub mod Served
+pub mod Sends
 pub mod Examples
+pub mod Sends

@@ -1,5 +1,5 @@
 -- What serving links gives, where the links tell their traffic (profile).
-use Rattle.std.specs.Prelude.{◌≡◌, ℕ, ◌+◌, ◌&&◌, Bool, false, nat_eq, List, [], ◌∷◌, ◌++◌, count_by, length, min, Option, None, Some, Result, Ok, Err, if◌then◌else◌}
+use Rattle.std.specs.Prelude.{◌≡◌, ℕ, ◌<◌, ◌+◌, ◌&&◌, Bool, false, nat_eq, List, [], ◌∷◌, ◌++◌, count_by, length, min, Option, None, Some, Result, Ok, Err, if◌then◌else◌}
 use Rattle.std.specs.List.{flat_map, list_any}
 use Rattle.vf_base.specs.Faults.{HasRisen, last_count}
 use Rattle.vf_base.specs.Links.{Traffic, has_note}
@@ -89,14 +89,18 @@ abbrev pub RepresentsServed : Serving → Option Traffic → List ℕ → Type 0
 RepresentsServed serving None image = ⊥
 RepresentsServed serving (Some traffic) image = RepresentsAlong serving (run (lived traffic) serving) image
 
--- CAUSES. No count rises without a fault of its kind, and none is told without one.
-abbrev pub RespondCauses : (disk_before disk_after : ℕ) → JournalError → Type 0
-RespondCauses before after errors.DiskFault = HasRisen before after
-RespondCauses before after (errors.Full length limit) = after ≡ before
-RespondCauses before after error = Unit {0}
+-- CAUSES. No count rises without a fault of its kind, and none is told without one. That the disk has no store comes by its image alone,
+-- and that it is full by both numbers.
+abbrev pub RespondCauses : (image : Option (List ℕ)) → (limit disk_before disk_after : ℕ) → JournalError → Type 0
+RespondCauses image limit before after errors.DiskFault = HasRisen before after
+RespondCauses image limit before after (errors.Full length bound) = (limit < length) × (bound ≡ limit) × (after ≡ before)
+RespondCauses image limit before after (errors.NotAStore at found expected) =
+    ((octets : List ℕ) → image ≡ Some octets → refusal octets ≡ Some (record { place = at; found = found; expected = expected })) × (after ≡ before)
+RespondCauses image limit before after errors.NoMemory = after ≡ before
 
-abbrev pub ServeCauses : (disk_before disk_after links_before links_after : ℕ) → Result Served ServeError → Type 0
-ServeCauses disk_before disk_after links_before links_after (Ok served) = (disk_after ≡ disk_before) × (links_after ≡ links_before)
-ServeCauses disk_before disk_after links_before links_after (Err (Respond error)) = RespondCauses disk_before disk_after error × (links_after ≡ links_before)
-ServeCauses disk_before disk_after links_before links_after (Err LinksFault) = (disk_after ≡ disk_before) × HasRisen links_before links_after
-ServeCauses disk_before disk_after links_before links_after (Err NoMemory) = (disk_after ≡ disk_before) × (links_after ≡ links_before)
+abbrev pub ServeCauses : (image : Option (List ℕ)) → (limit disk_before disk_after links_before links_after : ℕ) → Result Served ServeError → Type 0
+ServeCauses image limit disk_before disk_after links_before links_after (Ok served) = (disk_after ≡ disk_before) × (links_after ≡ links_before)
+ServeCauses image limit disk_before disk_after links_before links_after (Err (Respond error)) =
+    RespondCauses image limit disk_before disk_after error × (links_after ≡ links_before)
+ServeCauses image limit disk_before disk_after links_before links_after (Err LinksFault) = (disk_after ≡ disk_before) × HasRisen links_before links_after
+ServeCauses image limit disk_before disk_after links_before links_after (Err NoMemory) = (disk_after ≡ disk_before) × (links_after ≡ links_before)

@@ -1,10 +1,10 @@
 //! Many associations over one store.
-ghost use Rattle.std.specs.Prelude.{◌≡◌, ◌<◌, ◌≤◌, ◌++◌, ℕ, List, Some, IfOk, OnOk, length};
+ghost use Rattle.std.specs.Prelude.{◌≡◌, ◌<◌, ◌≤◌, ◌++◌, ℕ, List, Some, true, IfOk, IsOk, OnOk, length};
 ghost use Rattle.vf_disk.specs.Disk.{LeavesOnly};
 ghost use Rattle.vf_disk.specs.Plans.{sooner};
 ghost use Rattle.vf_journal.specs.Answers.{OpenCauses};
 ghost use Rattle.vf_responder.specs.Answers.{arrival, ended};
-ghost use Rattle.vf_responder.specs.Events.{event_meant};
+ghost use Rattle.vf_responder.specs.Events.{event_meant, is_end};
 ghost use Rattle.vf_responder.specs.Represents.{AnswerCauses, Does, KeepsAlong, Represents, answer_of, disk_of};
 ghost use Rattle.vf_responder.specs.Run.{trail};
 ghost use Rattle.vf_responder.specs.Serving.{IsBegun, Serving};
@@ -98,6 +98,7 @@ impl<D: Disk> Responder<D> {
         ensures any_moment { KeepsAlong (trail (event_meant event.entry)) D.shown D.may_leave D.moment D.left_since self.old self.new }
         ensures causes { AnswerCauses self.old.store.journal.limit (D.fault_count self.old.store.disk) (D.fault_count self.new.store.disk) result }
         ensures limit { self.new.store.journal.limit ≡ self.old.store.journal.limit }
+        ensures ends { is_end (event_meant event.entry) ≡ true → IsOk result }
     {
         match event {
             Event::Arrived { link } => {
