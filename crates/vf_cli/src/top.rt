@@ -15,9 +15,10 @@ ghost use Rattle.vf_cli.specs.Words.{command_of};
 use crate::command::Command;
 use crate::words::parse;
 use std::alloc::Global;
-use vf_base::{Sink, Source};
+use vf_base::{Links, Sink, Source};
 use vf_cli_dialogue::dialogue;
 use vf_cli_printing::{USAGE, print};
+use vf_cli_serve::serve;
 use vf_disk::Disk;
 use vf_store_commands::{init, list};
 
@@ -27,9 +28,10 @@ use vf_store_commands::{init, list};
 /// outside the grammar leave alone. The statuses: 0 the command came to its end; 2 the words are outside the grammar; 3 the
 /// input failed; 4 the output failed; 5 the disk failed; 7 an abort was said; 8 the disk has no store, or isn't empty where
 /// one is to be made; 9 memory is wanting; 11 a line of the input is bad; 12 the store is full.
-pub fn ftam<D: Disk, I: Source, O: Sink>(
+pub fn ftam<L: Links, D: Disk, I: Source, O: Sink>(
     alloc: Global,
     words: &Vec<String>,
+    links: &mut L,
     disk: D,
     input: &mut I,
     out: &mut O,
@@ -60,6 +62,7 @@ pub fn ftam<D: Disk, I: Source, O: Sink>(
         }
         Some(Command::InitStore) => init(alloc, disk, input, out),
         Some(Command::ListFiles) => list(alloc, disk, out),
+        Some(Command::Serve) => serve(alloc, links, disk, out),
         None => {
             let status = usage(out);
             (disk, status)

@@ -17,6 +17,17 @@ pub enum WordsError {
     NoMemory,
 }
 
+/// The idle rounds after which serving ends, where the words don't tell.
+const USUAL_IDLE: u64 = 1_000_000;
+
+/// The options that words give, each with its value.
+#[derive(Clone, Copy)]
+struct Options<'a> {
+    store: Option<&'a [u8]>,
+    port: Option<&'a [u8]>,
+    idle: Option<&'a [u8]>,
+}
+
 /// What the command line wants of the outside; `Usage` exactly where its words ask for no command.
 pub fn wanted(alloc: Global, words: &Vec<String>) -> Result<Wanted, WordsError>
     ensures ok { IfOk result (λ wanted. wanted_of (map string_bytes words.now.items) ≡ Some wanted) }
@@ -25,14 +36,17 @@ pub fn wanted(alloc: Global, words: &Vec<String>) -> Result<Wanted, WordsError>
     let Some(_command) = parse(words) else {
         return Err(WordsError::Usage);
     };
-    let Ok(store) = octets_of(alloc, store_of(words)) else {
+    let Some(options) = options_of(words) else {
+        return Err(WordsError::Usage);
+    };
+    let Ok(store) = octets_of(alloc, options.store) else {
         return Err(WordsError::NoMemory);
     };
     Ok(Wanted {
         store,
         host: None,
-        port: None,
-        idle: 1_000_000,
+        port: port_in(options.port),
+        idle: idle_in(options.idle).unwrap_or(USUAL_IDLE),
     })
 }
 
@@ -52,79 +66,140 @@ pub fn parse(words: &Vec<String>) -> Option<Command>
 {
     match words.as_slice() {
         [] => None,
-        [name, options @ ..] => command_named(name.as_str(), options),
+        [name, options @ ..] => command_named(name.as_str(), options_in(options)?),
+    }
+}
+
+/// The options of the words, where they are options.
+fn options_of(words: &Vec<String>) -> Option<Options<'_>> {
+    match words.as_slice() {
+        [] => None,
+        [_name, options @ ..] => options_in(options),
     }
 }
 
 /// The command of a name, where these are its options.
-fn command_named(name: &str, options: &[String]) -> Option<Command>
-    ensures { result ≡ command_meant name.now (map string_bytes options.now) }
-{
+fn command_named(name: &str, options: Options<'_>) -> Option<Command> {
     if name == "dialogue" {
-        return without_options(Command::Dialogue, options);
+        return if_these(Command::Dialogue, has_none(options));
     }
     if name == "init" {
-        return with_store(Command::InitStore, options);
+        return if_these(Command::InitStore, has_store_alone(options));
     }
     if name == "list" {
-        return with_store(Command::ListFiles, options);
+        return if_these(Command::ListFiles, has_store_alone(options));
+    }
+    if name == "serve" {
+        return if_these(Command::Serve, has_place_to_serve(options));
     }
     None
 }
 
-/// A command that has no options.
-fn without_options(command: Command, options: &[String]) -> Option<Command>
-    ensures { result ≡ without_options_meant command (map string_bytes options.now) }
-{
-    match options {
-        [] => Some(command),
-        _ => None,
-    }
+fn if_these(command: Command, are_its: bool) -> Option<Command> {
+    if are_its { Some(command) } else { None }
 }
 
-/// A command whose one option is the path of its store.
-fn with_store(command: Command, options: &[String]) -> Option<Command>
-    ensures { result ≡ with_store_meant command (store_meant (map string_bytes options.now)) }
-{
-    match store_in(options) {
-        Some(_) => Some(command),
+/// The command `dialogue` has no option.
+fn has_none(options: Options<'_>) -> bool {
+    options.store.is_none() && options.port.is_none() && options.idle.is_none()
+}
+
+/// The path of a store is the one option.
+fn has_store_alone(options: Options<'_>) -> bool {
+    options.store.is_some() && options.port.is_none() && options.idle.is_none()
+}
+
+/// The command `serve` has a store and a port. How long it waits may be left out.
+fn has_place_to_serve(options: Options<'_>) -> bool {
+    let waits = options.idle.is_none() || idle_in(options.idle).is_some();
+    options.store.is_some() && port_in(options.port).is_some() && waits
+}
+
+fn port_in(value: Option<&[u8]>) -> Option<u16> {
+    match number_in(value?, 65_535) {
+        Some(port) => Some(port as u16),
         None => None,
     }
 }
 
-/// The path of the store, where it is the one option of the words.
-fn store_of(words: &Vec<String>) -> Option<&[u8]>
-    ensures { option_copied result ≡ store_named (map string_bytes words.now.items) }
-{
-    match words.as_slice() {
-        [] => None,
-        [_name, options @ ..] => store_in(options),
-    }
+fn idle_in(value: Option<&[u8]>) -> Option<u64> {
+    number_in(value?, 1_000_000_000)
 }
 
-/// The path of the store, where it is the one option: `--store=PATH`, or `--store` and PATH.
-fn store_in(options: &[String]) -> Option<&[u8]>
-    ensures { option_copied result ≡ store_meant (map string_bytes options.now) }
-{
-    match options {
-        [word] => store_after_equals(word.as_bytes()),
-        [name, value] => {
-            if name.as_str() == "--store" {
-                value_in(value.as_bytes())
-            } else {
-                None
-            }
+/// The number from 1 to this one whose decimal digits, without leading zeros, these are.
+fn number_in(digits: &[u8], most: u64) -> Option<u64> {
+    if digits.first() == Some(&b'0') || digits.is_empty() {
+        return None;
+    }
+    let mut number = 0_u64;
+    for digit in digits {
+        if !digit.is_ascii_digit() {
+            return None;
         }
-        _ => None,
+        number = number
+            .saturating_mul(10)
+            .saturating_add((*digit - b'0') as u64);
+        if number > most {
+            return None;
+        }
+    }
+    Some(number)
+}
+
+/// The options that these words are, each once at most.
+fn options_in(words: &[String]) -> Option<Options<'_>> {
+    let mut options = Options {
+        store: None,
+        port: None,
+        idle: None,
+    };
+    let mut rest = words;
+    while let [word, later @ ..] = rest {
+        let (name, value, later) = first_option(word.as_bytes(), later)?;
+        options = with_option(options, name, value)?;
+        rest = later;
+    }
+    Some(options)
+}
+
+/// The first option: its name, its value and the words after it.
+fn first_option<'a>(
+    word: &'a [u8],
+    later: &'a [String],
+) -> Option<(&'a [u8], &'a [u8], &'a [String])> {
+    if let Some(place) = word.iter().position(|octet| *octet == b'=') {
+        let (name, value) = word.split_at(place);
+        let (_, value) = value.split_at(1);
+        return Some((name, value, later));
+    }
+    match later {
+        [] => None,
+        [value, later @ ..] => Some((word, value.as_bytes(), later)),
     }
 }
 
-/// The path of the store in a word that names the option too.
-fn store_after_equals(word: &[u8]) -> Option<&[u8]>
-    ensures { option_copied result ≡ store_after_equals_meant word.now }
-{
-    let value = word.strip_prefix(b"--store=".as_slice())?;
-    value_in(value)
+/// One option more, which didn't stand before.
+fn with_option<'a>(options: Options<'a>, name: &[u8], value: &'a [u8]) -> Option<Options<'a>> {
+    let value = value_in(value)?;
+    if name == b"--store".as_slice() && options.store.is_none() {
+        return Some(Options {
+            store: Some(value),
+            ..options
+        });
+    }
+    if name == b"--port".as_slice() && options.port.is_none() {
+        return Some(Options {
+            port: Some(value),
+            ..options
+        });
+    }
+    if name == b"--idle".as_slice() && options.idle.is_none() {
+        return Some(Options {
+            idle: Some(value),
+            ..options
+        });
+    }
+    None
 }
 
 /// A text, where it is a value.
