@@ -25,7 +25,7 @@ abbrev pub strings_after : (most left : ℕ) → List ℕ → List ℕ × List (
 strings_after most left [] = ([], [])
 strings_after most left (octet ∷ octets) =
     if nat_eq left 0 then
-      (let rest = strings_after most (most - 1) octets in ([], (octet ∷ rest.0) ∷ rest.1))
+    (let rest = strings_after most (most - 1) octets in ([], (octet ∷ rest.0) ∷ rest.1))
     else (let rest = strings_after most (left - 1) octets in (octet ∷ rest.0, rest.1))
 
 abbrev pub strings_of : (most : ℕ) → List ℕ → List (List ℕ)

@@ -61,7 +61,7 @@ abbrev pub kept_with : Way → (number point : ℕ) → Phase → (outcome : ℕ
 kept_with way number point phase outcome staged =
     record {
       plan = record { activity = 7; way = way; kind = 3; every = 1; file = name; identity = guest; number = number; point = point; phase = phase; outcome = outcome };
-      staged = staged
+      staged = staged;
     }
 
 abbrev pub put_kept : (number point : ℕ) → Phase → (outcome : ℕ) → kept.Task
@@ -161,27 +161,27 @@ put_forgotten = at 1 (heard.Accepted None 207 4) ∷ at 1 (heard.Recovered (Some
 
 pub record Puts : Type 0 where
   pub without_activity :
-    run (plan_with 2 None) None put_plain
-    ≡ put_to (create ∷ item (OpenRequest 4 None None None) ∷ replace ∷ value first ∷ value second ∷ value third ∷ data_end ∷ transfer_end ∷ close ∷ deselect ∷ terminate ∷ []) Ended None
+      run (plan_with 2 None) None put_plain
+      ≡ put_to (create ∷ item (OpenRequest 4 None None None) ∷ replace ∷ value first ∷ value second ∷ value third ∷ data_end ∷ transfer_end ∷ close ∷ deselect ∷ terminate ∷ []) Ended None
   pub begun :
-    run (plan_with 1 (Some 7)) None put_begun
-    ≡ put_to (create ∷ item (OpenRequest 4 None None (Some 7)) ∷ replace ∷ value first ∷ Check 1 ∷ []) Going (Some (put_kept 1 0 Open 0))
+      run (plan_with 1 (Some 7)) None put_begun
+      ≡ put_to (create ∷ item (OpenRequest 4 None None (Some 7)) ∷ replace ∷ value first ∷ Check 1 ∷ []) Going (Some (put_kept 1 0 Open 0))
   pub acknowledged :
-    run (plan_with 1 (Some 7)) None put_acknowledged
-    ≡ put_to (create ∷ item (OpenRequest 4 None None (Some 7)) ∷ replace ∷ value first ∷ Check 1 ∷ value second ∷ Check 2 ∷ []) Going (Some (put_kept 1 1 Open 0))
+      run (plan_with 1 (Some 7)) None put_acknowledged
+      ≡ put_to (create ∷ item (OpenRequest 4 None None (Some 7)) ∷ replace ∷ value first ∷ Check 1 ∷ value second ∷ Check 2 ∷ []) Going (Some (put_kept 1 1 Open 0))
   pub recovered :
-    run (plan_with 64 (Some 7)) (Some (put_kept 1 1 Open 0)) put_recovered
-    ≡ put_to (recover 1 1 ∷ value second ∷ Check 1 ∷ value third ∷ data_end ∷ transfer_end ∷ close ∷ deselect ∷ terminate ∷ []) Ended None
+      run (plan_with 64 (Some 7)) (Some (put_kept 1 1 Open 0)) put_recovered
+      ≡ put_to (recover 1 1 ∷ value second ∷ Check 1 ∷ value third ∷ data_end ∷ transfer_end ∷ close ∷ deselect ∷ terminate ∷ []) Ended None
   pub performed :
-    run (plan_with 1 (Some 7)) (Some (put_kept 1 1 Open 0)) (put_performed 0) ≡ put_to (recover 1 1 ∷ close ∷ deselect ∷ terminate ∷ []) Ended None
+      run (plan_with 1 (Some 7)) (Some (put_kept 1 1 Open 0)) (put_performed 0) ≡ put_to (recover 1 1 ∷ close ∷ deselect ∷ terminate ∷ []) Ended None
   pub refused_there :
-    run (plan_with 1 (Some 7)) (Some (put_kept 1 1 Open 0)) (put_performed 21)
-    ≡ put_to (recover 1 1 ∷ close ∷ deselect ∷ terminate ∷ []) (Failed (Refused (diagnostic 21))) None
+      run (plan_with 1 (Some 7)) (Some (put_kept 1 1 Open 0)) (put_performed 21)
+      ≡ put_to (recover 1 1 ∷ close ∷ deselect ∷ terminate ∷ []) (Failed (Refused (diagnostic 21))) None
   pub forgotten :
-    run (plan_with 1 (Some 7)) (Some (put_kept 3 1 Open 0)) put_forgotten ≡ put_to (recover 3 1 ∷ create ∷ []) Going (Some (put_kept 1 0 New 0))
+      run (plan_with 1 (Some 7)) (Some (put_kept 3 1 Open 0)) put_forgotten ≡ put_to (recover 3 1 ∷ create ∷ []) Going (Some (put_kept 1 0 New 0))
   pub forgotten_after_its_end :
-    run (plan_with 1 (Some 7)) (Some (put_kept 1 1 Concluded 23)) put_forgotten
-    ≡ put_to (recover 1 1 ∷ terminate ∷ []) Going (Some (put_kept 1 1 Concluded 23))
+      run (plan_with 1 (Some 7)) (Some (put_kept 1 1 Concluded 23)) put_forgotten
+      ≡ put_to (recover 1 1 ∷ terminate ∷ []) Going (Some (put_kept 1 1 Concluded 23))
 
 -- ---- a get of activity 7 in two connections
 
@@ -211,25 +211,25 @@ whole = get_kept 1 1 Whole ((first ∷ []) ∷ (second ∷ third ∷ []) ∷ [])
 
 pub record Gets : Type 0 where
   pub begun :
-    run (get_with 3 (Some 7)) None get_begun
-    ≡ record {
+      run (get_with 3 (Some 7)) None get_begun
+      ≡ record {
         said = select ∷ item (OpenRequest 1 None None (Some 7)) ∷ read ∷ Acknowledge 1 ∷ [];
         doing = Going;
         kept = Some (get_kept 1 1 Open ((first ∷ []) ∷ []));
-        elements = first ∷ second ∷ []
+        elements = first ∷ second ∷ [];
       }
   pub recovered :
-    run (get_with 3 (Some 7)) (Some (get_kept 1 1 Open ((first ∷ []) ∷ []))) get_recovered
-    ≡ record { said = Pass ∷ recover 1 1 ∷ transfer_end ∷ []; doing = Going; kept = Some whole; elements = first ∷ second ∷ third ∷ [] }
+      run (get_with 3 (Some 7)) (Some (get_kept 1 1 Open ((first ∷ []) ∷ []))) get_recovered
+      ≡ record { said = Pass ∷ recover 1 1 ∷ transfer_end ∷ []; doing = Going; kept = Some whole; elements = first ∷ second ∷ third ∷ [] }
   pub ended :
-    run (get_with 3 (Some 7)) (Some whole) get_ended
-    ≡ record { said = Pass ∷ recover 1 1 ∷ close ∷ deselect ∷ terminate ∷ []; doing = Ended; kept = None; elements = first ∷ second ∷ third ∷ [] }
+      run (get_with 3 (Some 7)) (Some whole) get_ended
+      ≡ record { said = Pass ∷ recover 1 1 ∷ close ∷ deselect ∷ terminate ∷ []; doing = Ended; kept = None; elements = first ∷ second ∷ third ∷ [] }
   pub behind :
-    run (get_with 3 (Some 7)) (Some (get_kept 1 1 Open ((first ∷ []) ∷ []))) (at 1 (heard.Accepted None 207 4) ∷ at 1 (heard.Recovered None 2 0 false 0) ∷ [])
-    ≡ record { said = Pass ∷ recover 1 1 ∷ read ∷ []; doing = Going; kept = Some (get_kept 2 0 Open []); elements = [] }
+      run (get_with 3 (Some 7)) (Some (get_kept 1 1 Open ((first ∷ []) ∷ []))) (at 1 (heard.Accepted None 207 4) ∷ at 1 (heard.Recovered None 2 0 false 0) ∷ [])
+      ≡ record { said = Pass ∷ recover 1 1 ∷ read ∷ []; doing = Going; kept = Some (get_kept 2 0 Open []); elements = [] }
   pub of_records :
-    run (get_with 2 None) None (plain (heard.Accepted None 15 4) ∷ plain (heard.Selected None) ∷ plain (heard.Opened None) ∷ [])
-    ≡ record { said = select ∷ item (OpenRequest 1 None None None) ∷ item (ReadRequest Begin FA) ∷ []; doing = Going; kept = None; elements = [] }
+      run (get_with 2 None) None (plain (heard.Accepted None 15 4) ∷ plain (heard.Selected None) ∷ plain (heard.Opened None) ∷ [])
+      ≡ record { said = select ∷ item (OpenRequest 1 None None None) ∷ item (ReadRequest Begin FA) ∷ []; doing = Going; kept = None; elements = [] }
 
 -- ---- refusals, and what is out of place
 
@@ -250,17 +250,17 @@ pub record Refusals : Type 0 where
   pub in_acceptance : run (plan_with 1 (Some 7)) None (plain (heard.Accepted (Some (diagnostic 36)) 0 1) ∷ []) ≡ put_to (abort ∷ []) (refused 36) None
   pub without_diagnostic : run (plan_with 1 (Some 7)) None (plain (heard.Refused None) ∷ []) ≡ put_to [] (out_of_place 0) kept_new
   pub creation :
-    run (plan_with 1 None) None (accepted ∷ plain (heard.Created (Some (diagnostic 24))) ∷ []) ≡ put_to (create ∷ terminate ∷ []) (refused 24) None
+      run (plan_with 1 None) None (accepted ∷ plain (heard.Created (Some (diagnostic 24))) ∷ []) ≡ put_to (create ∷ terminate ∷ []) (refused 24) None
   pub opening :
-    run (plan_with 1 None) None (accepted ∷ plain (heard.Created None) ∷ plain (heard.Opened (Some (diagnostic 16))) ∷ [])
-    ≡ put_to (create ∷ item (OpenRequest 4 None None None) ∷ abort ∷ []) (refused 16) None
+      run (plan_with 1 None) None (accepted ∷ plain (heard.Created None) ∷ plain (heard.Opened (Some (diagnostic 16))) ∷ [])
+      ≡ put_to (create ∷ item (OpenRequest 4 None None None) ∷ abort ∷ []) (refused 16) None
   pub recovery :
-    run (plan_with 1 (Some 7)) (Some (put_kept 1 0 New 0)) (accepted ∷ plain (heard.Recovered (Some (diagnostic 29)) 1 0 false 0) ∷ [])
-    ≡ put_to (recover 1 0 ∷ terminate ∷ []) (refused 29) None
+      run (plan_with 1 (Some 7)) (Some (put_kept 1 0 New 0)) (accepted ∷ plain (heard.Recovered (Some (diagnostic 29)) 1 0 false 0) ∷ [])
+      ≡ put_to (recover 1 0 ∷ terminate ∷ []) (refused 29) None
   pub selection_of_another : run (plan_with 1 None) None (accepted ∷ plain (heard.Selected None) ∷ []) ≡ put_to (create ∷ []) (out_of_place 1) None
   pub early_end :
-    run (plan_with 1 (Some 7)) None (put_begun_and (heard.TransferEnded None))
-    ≡ put_to (create ∷ item (OpenRequest 4 None None (Some 7)) ∷ replace ∷ value first ∷ Check 1 ∷ []) (out_of_place 3) (Some (put_kept 1 0 Open 0))
+      run (plan_with 1 (Some 7)) None (put_begun_and (heard.TransferEnded None))
+      ≡ put_to (create ∷ item (OpenRequest 4 None None (Some 7)) ∷ replace ∷ value first ∷ Check 1 ∷ []) (out_of_place 3) (Some (put_kept 1 0 Open 0))
   pub fault : run (plan_with 1 (Some 7)) None (plain (heard.Faulty Transport Version 0) ∷ accepted ∷ []) ≡ put_to [] (Failed (PeerFault Transport Version 0)) kept_new
   pub abort_heard : run (plan_with 1 (Some 7)) None (plain (heard.Aborted 106) ∷ []) ≡ put_to [] (Failed (PeerAbort 106)) kept_new
 

@@ -1,7 +1,7 @@
 -- Which talks an initiator represents, and what its calls owe for each of them.
-use Rattle.std.specs.Prelude.{◌≡◌, ℕ, List, ◌++◌, Option, is_some}
+use Rattle.std.specs.Prelude.{◌≡◌, ℕ, false, List, ◌++◌, is_some, length}
 use Rattle.vf_initiator.specs.Keeping.{changes_since, mark_of}
-use Rattle.vf_initiator.specs.Rows.{Step}
+use Rattle.vf_initiator.specs.Rows.{is_over}
 use Rattle.vf_initiator.specs.Says.{doing_of}
 use Rattle.vf_initiator.specs.Talking.{Takes, Talk}
 use Rattle.vf_initiator.specs.declared.doing.Doing.{Doing}
@@ -17,7 +17,7 @@ pub record Represents (i : Initiator) (talk : Talk) : Type 0 where
   pub side : side_of i.stack ≡ sides.Initiator
   pub offer : offer_of i.stack ≡ is_some i.given.assignment.activity
   pub greeting : i.greeting ≡ talk.greeting
-  pub octets : i.octets ≡ talk.octets
+  pub octets : is_over talk.conduct.stage ≡ false → i.octets ≡ length talk.association.stream
   pub conduct : i.conduct ≡ talk.conduct
 
 -- The talk as a call begins: all pieces are kept.

@@ -1,6 +1,6 @@
 -- An initiator on its connection: what it sends after the octets that it received, one by one. Between them stand the four
 -- lower layers, by the definitions of the stack.
-use Rattle.std.specs.Prelude.{◌≡◌, ◌⊎◌, ℕ, ◌+◌, Bool, true, false, ◌&&◌, not, nat_le, List, [], ◌∷◌, ◌++◌, Option, None, Some, if◌then◌else◌}
+use Rattle.std.specs.Prelude.{◌≡◌, ◌⊎◌, ℕ, Bool, true, false, ◌&&◌, not, nat_le, List, [], ◌∷◌, ◌++◌, length, Option, None, Some, if◌then◌else◌}
 use Rattle.vf_initiator.specs.Hearing.{heard_in}
 use Rattle.vf_initiator.specs.Rows.{Step, ended, hears, is_over, out_of_place}
 use Rattle.vf_initiator.specs.declared.conduct.Conduct.{Conduct}
@@ -18,11 +18,10 @@ use Rattle.vf_stack.specs.Sending.{May, octets_sent, with_request}
 use Rattle.vf_stack.specs.declared.indication.Indication.{Indication}
 use Rattle.vf_stack.specs.declared.request.Request.{Request}
 
--- the association with the other end, F-INITIALIZE until it is sent, how many octets came, and how the initiator stands
+-- the association with the other end, F-INITIALIZE until it is sent, and how the initiator stands
 pub record Talk : Type 0 where
   pub association : Association
   pub greeting : Option Request
-  pub octets : ℕ
   pub conduct : Conduct
 
 -- what session says of the connection (ISO 8327)
@@ -47,7 +46,7 @@ abbrev pub Greets : (offer : Bool) → Talk → Option Request → (octets : Lis
 Greets offer talk None octets talk' = (octets ≡ []) × (talk' ≡ talk)
 Greets offer talk (Some request) octets talk' =
     (May Initiator offer talk.association request × (octets ≡ octets_sent Initiator talk.association request)
-      × (talk' ≡ record talk { association = with_request Initiator talk.association request; greeting = None }))
+    × (talk' ≡ record talk { association = with_request Initiator talk.association request; greeting = None }))
     ⊎ ((May Initiator offer talk.association request → ⊥) × (octets ≡ []) × (talk' ≡ talk))
 
 -- ---- what is sent to what was told
@@ -77,14 +76,13 @@ released talk =
 
 abbrev pub within_budget : Talk → Talk
 within_budget talk =
-    if not (is_over talk.conduct.stage) && nat_le BUDGET talk.octets then fails talk (ended (Failed Budget) talk.conduct) else talk
+    if not (is_over talk.conduct.stage) && nat_le BUDGET (length talk.association.stream) then fails talk (ended (Failed Budget) talk.conduct) else talk
 
 -- ---- octets, one by one
 
 -- what the lower layers tell of the next octet
 abbrev pub received_next : Talk → ℕ → Talk
-received_next talk octet =
-    record talk { association = (octets_received Initiator talk.association (octet ∷ [])).association; octets = talk.octets + 1 }
+received_next talk octet = record talk { association = (octets_received Initiator talk.association (octet ∷ [])).association }
 
 pub record TakesNext (given : Given) (offer : Bool) (talk : Talk) (octet : ℕ) (octets : List ℕ) (talk' : Talk) : Type 0 where
   pub greeted : Talk
@@ -111,4 +109,4 @@ Takes given offer talk (octet ∷ piece) octets talk' =
 -- ---- the beginning: the CR is sent, and F-INITIALIZE waits for its answer
 
 abbrev pub begun : Request → Conduct → Talk
-begun greeting c = record { association = no_association; greeting = Some greeting; octets = 0; conduct = c }
+begun greeting c = record { association = no_association; greeting = Some greeting; conduct = c }

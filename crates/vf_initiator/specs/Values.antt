@@ -1,7 +1,7 @@
 -- The values of a put as they are sent (ISO 8571-3, F-DATA and F-CHECK; the places of checks are profile): behind every so
 -- many values a check, where more follow and checks may be sent; nothing more once as many checks are open as the window
 -- has, until one of them is acknowledged; after the last value the end of the data and of the transfer.
-use Rattle.std.specs.Prelude.{◌≡◌, ℕ, ◌+◌, ◌%◌, Bool, true, ◌&&◌, nat_eq, nat_le, nat_lt, List, [], ◌∷◌, ◌++◌, None, if◌then◌else◌}
+use Rattle.std.specs.Prelude.{◌≡◌, ℕ, ◌+◌, ◌%◌, Bool, true, false, ◌&&◌, nat_eq, nat_le, nat_lt, List, [], ◌∷◌, ◌++◌, None, if◌then◌else◌}
 use Rattle.vf_base.specs.declared.element.Element.{Element}
 use Rattle.vf_initiator.specs.Asking.{item, value}
 use Rattle.vf_initiator.specs.declared.sending.Pace.{Pace}
@@ -41,15 +41,19 @@ all_sent sent = record { said = item (DataEnd None) ∷ item TransferEndRequest 
 abbrev pub unless_full : Pace → Sent → Saying → Saying
 unless_full pace sent later = if is_full pace sent then record { said = []; sent = sent } else later
 
+-- more follow
+abbrev pub is_more : List Element → Bool
+is_more [] = false
+is_more (element ∷ rest) = true
+
 -- the values that are left, where the next check has this serial number
 abbrev pub values : Pace → (serial : ℕ) → Sent → List Element → Saying
 values pace serial sent [] = all_sent sent
-values pace serial sent (element ∷ []) = before (value element ∷ []) (all_sent (with_value sent))
-values pace serial sent (element ∷ next ∷ rest) =
+values pace serial sent (element ∷ rest) =
     let now = with_value sent in
-    if is_check_due pace now serial
-    then before (value element ∷ Check serial ∷ []) (unless_full pace (with_check now) (values pace (serial + 1) (with_check now) (next ∷ rest)))
-    else before (value element ∷ []) (values pace serial now (next ∷ rest))
+    if is_more rest && is_check_due pace now serial
+    then before (value element ∷ Check serial ∷ []) (unless_full pace (with_check now) (values pace (serial + 1) (with_check now) rest))
+    else before (value element ∷ []) (values pace serial now rest)
 
 -- These requests were appended, and so much is sent.
 abbrev pub IsSaid : Saying → List Request → List Request → Sent → Type 0

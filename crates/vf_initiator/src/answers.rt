@@ -1,6 +1,6 @@
 //! What an initiator does with each message: one step of the table.
 ghost use Rattle.std.specs.Prelude.{◌≡◌, IfOk};
-ghost use Rattle.vf_initiator.specs.Rows.{ended, ended_so, hears, is_over as over, out_of_place, placed, refused_with, rows, told};
+ghost use Rattle.vf_initiator.specs.Rows.{ended, ended_so, hears, is_over as over, out_of_place, placed, refused_with, rows};
 ghost use Rattle.vf_initiator.specs.Steps.{Answers, Follows};
 
 use crate::conduct::{Conduct, Setting};
@@ -78,7 +78,9 @@ impl Conduct {
         setting: Setting,
         heard: Heard,
         said: &mut Vec<Request>,
-    ) -> Result<(), NoMemory> {
+    ) -> Result<(), NoMemory>
+        ensures { IfOk result (λ done. Follows (placed self.old (rows given.now setting self.old heard)) said.old.items said.new.items self.new) }
+    {
         let is_good = self.answer(alloc, given, setting, heard, said)?;
         if is_good {
             self.good = self.good.saturating_add(1);
@@ -89,7 +91,9 @@ impl Conduct {
     }
 
     /// A message wasn't in its place.
-    pub(crate) fn end_out_of_place(&mut self) {
+    pub(crate) fn end_out_of_place(&mut self)
+        ensures { self.new ≡ out_of_place self.old }
+    {
         let after = self.good;
         self.end(Doing::Failed(TaskError::OutOfPlace { after }));
     }

@@ -27,7 +27,7 @@ impl Assignment {
         plan: &Plan,
         kept: Option<&KeptTask>,
     ) -> Result<Assignment, NoMemory>
-        ensures { IfOk result (λ made. made ≡ assignment_of plan.now (option_copied kept)) }
+        ensures { IfOk result (λ made. made ≡ assignment_of plan.now (option_copied kept.entry)) }
     {
         let file = plan.task.file().copy(alloc)?;
         let identity = identity_of(plan, kept).copy(alloc)?;
@@ -48,13 +48,7 @@ impl Assignment {
     {
         match self.way {
             Way::Get => 1,
-            Way::Put => {
-                if self.kind == 2 {
-                    2
-                } else {
-                    4
-                }
-            }
+            Way::Put => { if self.kind == 2 { 2 } else { 4 } }
         }
     }
 
@@ -85,7 +79,7 @@ impl Assignment {
 }
 
 fn identity_of<'a>(plan: &'a Plan, kept: Option<&'a KeptTask>) -> &'a Name
-    ensures { result.now ≡ (assignment_of plan.now (option_copied kept)).identity }
+    ensures { result.now ≡ (assignment_of plan.now (option_copied kept.entry)).identity }
 {
     match kept {
         Some(task) => &task.plan.identity,
@@ -94,7 +88,7 @@ fn identity_of<'a>(plan: &'a Plan, kept: Option<&'a KeptTask>) -> &'a Name
 }
 
 fn every_of(plan: &Plan, kept: Option<&KeptTask>) -> u32
-    ensures { result ≡ (assignment_of plan.now (option_copied kept)).every }
+    ensures { result ≡ (assignment_of plan.now (option_copied kept.entry)).every }
 {
     match kept {
         Some(task) => task.plan.every,

@@ -1,6 +1,7 @@
 //! The changes by which a store keeps a task as it stands (profile).
 ghost use Rattle.std.specs.Prelude.{◌≡◌, ◌++◌, ◌≤◌, IfOk, length};
 ghost use Rattle.vf_initiator.specs.Says.{activity_kept};
+ghost use Rattle.vf_initiator.specs.Gathering.{marked};
 ghost use Rattle.vf_initiator.specs.Keeping.{changes_since, mark_of, stages_from};
 
 use crate::conduct::Conduct;
@@ -26,7 +27,8 @@ impl Conduct {
 
     /// How the task is kept now, from which on changes are told.
     pub(crate) fn mark(&mut self, given: &Given) -> Mark
-        ensures { result ≡ mark_of given.now self.old }
+        ensures mark { result ≡ mark_of given.now self.old }
+        ensures marked { self.new ≡ record self.old { gathered = marked self.old.gathered } }
     {
         self.gathered.mark();
         Mark {

@@ -13,9 +13,13 @@ pub enum TaskError {
         at: u64,
     },
     /// The other end aborted, with this number, or without one, which is 0.
-    PeerAbort { number: u16 },
+    PeerAbort {
+        number: u16,
+    },
     /// After so many messages that were in place, one wasn't, or the other end released the connection.
-    OutOfPlace { after: u32 },
+    OutOfPlace {
+        after: u32,
+    },
     /// The connection gave 1,073,741,824 octets.
     Budget,
 }

@@ -1,5 +1,5 @@
 //! What a get has received, in the pieces in which it is kept.
-ghost use Rattle.std.specs.Prelude.{◌≡◌, ◌<◌, ◌≤◌, ◌++◌, [], ◌∷◌, IfOk, length, min, slice_index};
+ghost use Rattle.std.specs.Prelude.{◌≡◌, ◌<◌, ◌≤◌, ◌++◌, [], ◌∷◌, IfOk, length, min, slice_get};
 ghost use Rattle.vf_tree.specs.FileTree.{octets_of_unit};
 ghost use Rattle.vf_initiator.specs.Gathering.{all_of, cut_to, has_room as room_meant, kept_whole, marked, started};
 
@@ -77,7 +77,7 @@ impl Gathered {
     /// A copy of a piece; its octets are shared.
     pub(crate) fn piece(&self, alloc: Global, place: usize) -> Result<Elements, NoMemory>
         requires { place < length self.now.pieces }
-        ensures { IfOk result (λ made. made ≡ slice_index self.now.pieces place) }
+        ensures { IfOk result (λ made. slice_get self.now.pieces place ≡ Some made) }
     {
         let start = self.before(place);
         let end = self.before(place + 1);

@@ -18,12 +18,8 @@ pub(crate) struct Given {
 }
 
 impl Given {
-    pub(crate) fn of(
-        alloc: Global,
-        plan: Plan,
-        kept: Option<&KeptTask>,
-    ) -> Result<Given, NoMemory>
-        ensures { IfOk result (λ made. made ≡ given_of plan (option_copied kept)) }
+    pub(crate) fn of(alloc: Global, plan: Plan, kept: Option<&KeptTask>) -> Result<Given, NoMemory>
+        ensures { IfOk result (λ made. made ≡ given_of plan (option_copied kept.entry)) }
     {
         let assignment = Assignment::of(alloc, &plan, kept)?;
         let kept_values = values_kept(alloc, assignment.way, kept)?;
@@ -54,7 +50,7 @@ fn values_kept(
     way: Way,
     kept: Option<&KeptTask>,
 ) -> Result<Option<Elements>, NoMemory>
-    ensures { IfOk result (λ made. made ≡ kept_values way (option_copied kept)) }
+    ensures { IfOk result (λ made. made ≡ kept_values way (option_copied kept.entry)) }
 {
     let Some(task) = kept else {
         return Ok(None);
@@ -80,7 +76,11 @@ pub(crate) fn join(alloc: Global, lists: &[Elements]) -> Result<Elements, NoMemo
 }
 
 /// Puts elements after others; their octets are shared.
-pub(crate) fn append(alloc: Global, elements: &[Element], all: &mut Elements) -> Result<(), NoMemory>
+pub(crate) fn append(
+    alloc: Global,
+    elements: &[Element],
+    all: &mut Elements,
+) -> Result<(), NoMemory>
     ensures { IfOk result (λ done. all.new ≡ all.old ++ elements.now) }
 {
     for element in elements {

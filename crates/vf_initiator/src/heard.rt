@@ -16,7 +16,9 @@ pub(crate) enum Heard {
         window: u16,
     },
     /// The association is refused.
-    Refused { diagnostic: Option<Diagnostic> },
+    Refused {
+        diagnostic: Option<Diagnostic>,
+    },
     /// F-RECOVER response; the number of the transfer is 1 where it is left out.
     Recovered {
         diagnostic: Option<Diagnostic>,
@@ -25,18 +27,38 @@ pub(crate) enum Heard {
         moving: bool,
         last: u16,
     },
-    Created { diagnostic: Option<Diagnostic> },
-    Selected { diagnostic: Option<Diagnostic> },
-    Opened { diagnostic: Option<Diagnostic> },
+    Created {
+        diagnostic: Option<Diagnostic>,
+    },
+    Selected {
+        diagnostic: Option<Diagnostic>,
+    },
+    Opened {
+        diagnostic: Option<Diagnostic>,
+    },
     Value(Element),
-    Check { serial: u32 },
-    Acknowledged { serial: u32 },
-    DataEnded { diagnostic: Option<Diagnostic> },
-    TransferEnded { diagnostic: Option<Diagnostic> },
-    Closed { diagnostic: Option<Diagnostic> },
-    Deselected { diagnostic: Option<Diagnostic> },
+    Check {
+        serial: u32,
+    },
+    Acknowledged {
+        serial: u32,
+    },
+    DataEnded {
+        diagnostic: Option<Diagnostic>,
+    },
+    TransferEnded {
+        diagnostic: Option<Diagnostic>,
+    },
+    Closed {
+        diagnostic: Option<Diagnostic>,
+    },
+    Deselected {
+        diagnostic: Option<Diagnostic>,
+    },
     Terminated,
-    Aborted { number: u16 },
+    Aborted {
+        number: u16,
+    },
     Faulty {
         layer: Layer,
         name: FaultName,
@@ -119,11 +141,21 @@ fn of_pdu(pdu: &Pdu) -> Heard
     ensures { result ≡ heard_of_pdu pdu.now }
 {
     match pdu {
-        Pdu::SelectResponse { diagnostic } => Heard::Selected { diagnostic: *diagnostic },
-        Pdu::DeselectResponse { diagnostic } => Heard::Deselected { diagnostic: *diagnostic },
-        Pdu::CreateResponse { diagnostic } => Heard::Created { diagnostic: *diagnostic },
-        Pdu::OpenResponse { diagnostic, .. } => Heard::Opened { diagnostic: *diagnostic },
-        Pdu::CloseResponse { diagnostic } => Heard::Closed { diagnostic: *diagnostic },
+        Pdu::SelectResponse { diagnostic } => Heard::Selected {
+            diagnostic: *diagnostic,
+        },
+        Pdu::DeselectResponse { diagnostic } => Heard::Deselected {
+            diagnostic: *diagnostic,
+        },
+        Pdu::CreateResponse { diagnostic } => Heard::Created {
+            diagnostic: *diagnostic,
+        },
+        Pdu::OpenResponse { diagnostic, .. } => Heard::Opened {
+            diagnostic: *diagnostic,
+        },
+        Pdu::CloseResponse { diagnostic } => Heard::Closed {
+            diagnostic: *diagnostic,
+        },
         Pdu::RecoverResponse {
             diagnostic,
             number,
@@ -137,8 +169,12 @@ fn of_pdu(pdu: &Pdu) -> Heard
             moving: *moving,
             last: *last,
         },
-        Pdu::DataEnd { diagnostic } => Heard::DataEnded { diagnostic: *diagnostic },
-        Pdu::TransferEndResponse { diagnostic } => Heard::TransferEnded { diagnostic: *diagnostic },
+        Pdu::DataEnd { diagnostic } => Heard::DataEnded {
+            diagnostic: *diagnostic,
+        },
+        Pdu::TransferEndResponse { diagnostic } => Heard::TransferEnded {
+            diagnostic: *diagnostic,
+        },
         _ => Heard::Other,
     }
 }

@@ -46,8 +46,8 @@ impl Initiator {
         kept: Option<&KeptTask>,
         out: &mut Vec<u8>,
     ) -> Result<Initiator, NoMemory>
-        ensures given { IfOk result (λ made. made.given ≡ given_of plan (option_copied kept)) }
-        ensures begun { IfOk result (λ made. Represents made (begun (greeting_of plan (assignment_of plan (option_copied kept))) (beginning plan (option_copied kept)))) }
+        ensures given { IfOk result (λ made. made.given ≡ given_of plan (option_copied kept.entry)) }
+        ensures begun { IfOk result (λ made. Represents made (begun (greeting_of plan (assignment_of plan (option_copied kept.entry))) (beginning plan (option_copied kept.entry)))) }
         ensures sent { IfOk result (λ made. out.new.items ≡ out.old.items ++ packet connection_request) }
     {
         let progress = Progress::of(kept);
@@ -94,8 +94,7 @@ impl Initiator {
             self.take_few(alloc, front, out)?;
             rest = more;
         }
-        self.conduct
-            .put_changes(alloc, &self.given, mark, changes)?;
+        self.conduct.put_changes(alloc, &self.given, mark, changes)?;
         Ok(self.doing())
     }
 
@@ -123,8 +122,12 @@ impl Initiator {
         }
     }
 
-    /// How many of so many octets are taken at once: so few that they tell one thing at most, and within the budget.
+    /// How many of so many octets are taken at once: so few that they tell one thing at most, and within the budget. While
+    /// F-INITIALIZE waits it is one, since the end of the CC tells nothing and yet lets it be sent.
     fn next_length(&self, left: usize) -> usize {
+        if self.greeting.is_some() {
+            return left.min(1);
+        }
         let budget = BUDGET.saturating_sub(self.octets).max(1);
         (self.stack.wanted().min(left) as u64).min(budget) as usize
     }
@@ -184,12 +187,8 @@ impl Initiator {
 }
 
 /// The pieces of a get that is kept.
-fn gathered_of(
-    alloc: Global,
-    plan: &Plan,
-    kept: Option<&KeptTask>,
-) -> Result<Gathered, NoMemory>
-    ensures { IfOk result (λ made. made ≡ started (kept_pieces (way_in plan.now.task) (option_copied kept))) }
+fn gathered_of(alloc: Global, plan: &Plan, kept: Option<&KeptTask>) -> Result<Gathered, NoMemory>
+    ensures { IfOk result (λ made. made ≡ started (kept_pieces (way_in plan.now.task) (option_copied kept.entry))) }
 {
     if plan.task.way() == Way::Put {
         return Gathered::of(alloc, &[]);

@@ -17,7 +17,11 @@ pub enum Task {
         elements: Elements,
     },
     /// The contents of the file are received.
-    Get { name: Name, kind: u8, every: u32 },
+    Get {
+        name: Name,
+        kind: u8,
+        every: u32,
+    },
 }
 
 impl Task {

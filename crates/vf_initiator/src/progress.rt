@@ -31,7 +31,7 @@ impl Progress {
 
     /// That of a task that is kept; of one that isn't nothing is done.
     pub(crate) fn of(kept: Option<&KeptTask>) -> Progress
-        ensures { result ≡ progress_of (option_copied kept) }
+        ensures { result ≡ progress_of (option_copied kept.entry) }
     {
         match kept {
             None => Progress::new(),

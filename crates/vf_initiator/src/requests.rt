@@ -6,9 +6,7 @@ use crate::Plan;
 use crate::assignment::Assignment;
 use crate::progress::Progress;
 use std::alloc::Global;
-use vf_base::{
-    Actions, Contents, Context, Element, FaduId, NoMemory, Oid, Sequence, copy_option,
-};
+use vf_base::{Actions, Contents, Context, Element, FaduId, NoMemory, Oid, Sequence, copy_option};
 use vf_pdu::{Boxed, Pdu};
 use vf_pdu_fields::WriteOperation;
 use vf_stack::{Item, Request};
@@ -113,11 +111,7 @@ pub(crate) fn select(alloc: Global, assignment: &Assignment) -> Result<Request, 
 }
 
 /// F-RECOVER of the transfer that is kept.
-pub(crate) fn recover(
-    alloc: Global,
-    activity: u32,
-    progress: Progress,
-) -> Result<Request, NoMemory>
+pub(crate) fn recover(alloc: Global, activity: u32, progress: Progress) -> Result<Request, NoMemory>
     ensures { IfOk result (λ request. request ≡ asking.recover activity progress) }
 {
     item(
