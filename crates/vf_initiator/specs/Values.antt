@@ -4,6 +4,7 @@
 use Rattle.std.specs.Prelude.{◌≡◌, ℕ, ◌+◌, ◌%◌, Bool, true, false, ◌&&◌, nat_eq, nat_le, nat_lt, List, [], ◌∷◌, ◌++◌, None, if◌then◌else◌}
 use Rattle.vf_base.specs.declared.element.Element.{Element}
 use Rattle.vf_initiator.specs.Asking.{item, value}
+use Rattle.vf_initiator.specs.declared.sending.Outbox.{Outbox}
 use Rattle.vf_initiator.specs.declared.sending.Pace.{Pace}
 use Rattle.vf_initiator.specs.declared.stage.Sent.{Sent}
 use Rattle.vf_pdu.specs.declared.pdu.Pdu.TheVariants.{DataEnd, TransferEndRequest}
@@ -54,6 +55,15 @@ values pace serial sent (element ∷ rest) =
     if is_more rest && is_check_due pace now serial
     then before (value element ∷ Check serial ∷ []) (unless_full pace (with_check now) (values pace (serial + 1) (with_check now) rest))
     else before (value element ∷ []) (values pace serial now rest)
+
+-- what is left after a value, and a check behind it if one was due: nothing where the window is full then
+abbrev pub left_of : Pace → Outbox → List Element → (goes_on : Bool) → Saying
+left_of pace outbox later true = values pace outbox.serial outbox.sent later
+left_of pace outbox later false = record { said = []; sent = outbox.sent }
+
+-- Some of what is said was appended, and this is left.
+abbrev pub Onward : List Request → Saying → List Request → Saying → Type 0
+Onward out whole out' left = (out ++ whole.said ≡ out' ++ left.said) × (left.sent ≡ whole.sent)
 
 -- These requests were appended, and so much is sent.
 abbrev pub IsSaid : Saying → List Request → List Request → Sent → Type 0

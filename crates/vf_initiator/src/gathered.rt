@@ -1,5 +1,6 @@
 //! What a get has received, in the pieces in which it is kept.
 ghost use Rattle.std.specs.Prelude.{◌≡◌, ◌<◌, ◌≤◌, ◌++◌, [], ◌∷◌, IfOk, length, min, slice_get};
+ghost use Rattle.vf_transfer.specs.Checks.{mark};
 ghost use Rattle.vf_tree.specs.FileTree.{octets_of_unit};
 ghost use Rattle.vf_initiator.specs.Gathering.{all_of, cut_to, has_room as room_meant, kept_whole, marked, started};
 
@@ -8,6 +9,9 @@ use std::alloc::Global;
 use std::marker::Model;
 use vf_base::{Element, Elements, MOST_STRING_OCTETS, NoMemory, Sequence};
 use vf_tree::{MOST_FILE_OCTETS, MOST_FILE_PARTS, octets_of};
+
+/// So many pieces can be kept, which is more than there are checkpoints.
+const MOST_PIECES: usize = 4_294_967_294;
 
 /// The elements of a get: pieces, each of which a checkpoint or the end of the data has ended, and those after the last
 /// piece. Seen so; places count from 0.
@@ -24,16 +28,17 @@ pub(crate) struct Gathered {
 
 impl Model for Gathered {
     ghost use Rattle.vf_initiator.specs.Gathering.{AreMarks, Gathering, after_marks, by_marks};
-    ghost use Rattle.std.specs.Prelude.{◌≡◌, min};
+    ghost use Rattle.std.specs.Prelude.{◌≡◌, ◌<◌, length, min};
     ghost use Rattle.vf_tree.specs.FileTree.{octets_of_unit};
 
     ghost Value = { Gathering };
 
     ghost view = { λ g. record { pieces = by_marks 0 g.marks.items g.elements; fresh = after_marks 0 g.marks.items g.elements; standing = g.standing } };
 
-    ghost invariant = { λ g. AreMarks 0 g.marks.items g.elements × (g.octets ≡ min (octets_of_unit g.elements) 18446744073709551615) };
+    ghost invariant = { λ g. (AreMarks 0 g.marks.items g.elements) × (length g.marks.items < 4294967295) × (g.octets ≡ min (octets_of_unit g.elements) 18446744073709551615) };
 }
 
+#[tactic(auto, using(crate::proofs::Marks::marks))]
 impl Gathered {
     /// These pieces.
     pub(crate) fn of(alloc: Global, pieces: &[Elements]) -> Result<Gathered, NoMemory>
@@ -62,7 +67,8 @@ impl Gathered {
 
     /// How many pieces there are.
     pub(crate) fn pieces(&self) -> usize
-        ensures { result ≡ length self.now.pieces }
+        ensures count { result ≡ length self.now.pieces }
+        ensures few { result < 4294967295 }
     {
         self.marks.len()
     }
@@ -79,23 +85,13 @@ impl Gathered {
         requires { place < length self.now.pieces }
         ensures { IfOk result (λ made. slice_get self.now.pieces place ≡ Some made) }
     {
-        let start = self.before(place);
-        let end = self.before(place + 1);
+        let start = before(self.marks.as_slice(), place);
+        let end = before(self.marks.as_slice(), place + 1);
         let (front, _) = self.elements.as_slice().split_at(end);
         let (_, piece) = front.split_at(start);
         let mut made = Sequence::new(alloc);
         append(alloc, piece, &mut made)?;
         Ok(made)
-    }
-
-    /// How many elements stand in so many pieces.
-    fn before(&self, pieces: usize) -> usize
-        requires { pieces ≤ length self.now.pieces }
-    {
-        if pieces == 0 {
-            return 0;
-        }
-        self.marks[pieces - 1]
     }
 
     /// Whether all elements are within a file with this one, and this one's string is not too long (profile).
@@ -129,10 +125,13 @@ impl Gathered {
         Ok(())
     }
 
-    /// Makes a piece of the elements after the last one.
+    /// Makes a piece of the elements after the last one. There are fewer than 2^32 - 1: for more, memory is wanting.
     pub(crate) fn keep(&mut self) -> Result<(), NoMemory>
         ensures { IfOk result (λ done. self.new ≡ kept_whole self.old) }
     {
+        if self.marks.len() >= MOST_PIECES {
+            return Err(NoMemory);
+        }
         self.marks.push(self.elements.len())?;
         Ok(())
     }
@@ -142,7 +141,7 @@ impl Gathered {
         ensures { IfOk result (λ done. self.new ≡ cut_to pieces self.old) }
     {
         let pieces = pieces.min(self.pieces());
-        let (left, _) = self.elements.as_slice().split_at(self.before(pieces));
+        let (left, _) = self.elements.as_slice().split_at(before(self.marks.as_slice(), pieces));
         let mut elements = Sequence::new(alloc);
         append(alloc, left, &mut elements)?;
         self.octets = octets_of_all(elements.as_slice());
@@ -158,6 +157,17 @@ impl Gathered {
     {
         self.standing = self.pieces();
     }
+}
+
+/// How many elements stand before the end of so many pieces with these marks.
+fn before(marks: &[usize], pieces: usize) -> usize
+    requires { pieces ≤ length marks.now }
+    ensures { result ≡ mark pieces marks.now }
+{
+    if pieces == 0 {
+        return 0;
+    }
+    marks[pieces - 1]
 }
 
 /// The octets of all strings, or the type's end where they are more.

@@ -1,5 +1,5 @@
 //! The values of a put, its checkpoints, and their acknowledgements (ISO 8571-3, F-DATA and F-CHECK).
-ghost use Rattle.std.specs.Prelude.{◌≡◌, ◌++◌, IfOk};
+ghost use Rattle.std.specs.Prelude.{◌≡◌, ◌+◌, ◌<◌, ◌≤◌, ◌∷◌, ◌&&◌, IfOk, IsTrue, length};
 ghost use Rattle.vf_initiator.specs.Rows as rows;
 ghost use Rattle.vf_initiator.specs.Steps.{Answers, Follows};
 ghost use Rattle.vf_initiator.specs.Values as values_meant;
@@ -118,7 +118,11 @@ impl Conduct {
         };
         let values = given.values();
         let (_, rest) = values.split_at(sent.values.min(values.len()));
-        let sent = send_values(alloc, pace, setting.serial, sent, rest, said)?;
+        let outbox = Outbox {
+            sent,
+            serial: setting.serial,
+        };
+        let sent = send_values(alloc, pace, outbox, rest, said)?;
         self.stage = Stage::Sending(sent);
         Ok(())
     }
@@ -138,42 +142,84 @@ fn open_check(sent: Sent, acknowledged: u32, serial: u32) -> Option<u32>
     Some(point as u32)
 }
 
+/// What is sent, and the serial number of the next check.
+#[derive(Clone, Copy, Debug, PartialEq, Eq)]
+pub(crate) struct Outbox {
+    pub(crate) sent: Sent,
+    pub(crate) serial: u32,
+}
+
 /// Sends values, a check behind each so many where more follow, until the window is full or all are sent.
 fn send_values(
     alloc: Global,
     pace: Pace,
-    serial: u32,
-    sent: Sent,
+    outbox: Outbox,
     rest: &[Element],
     said: &mut Vec<Request>,
 ) -> Result<Sent, NoMemory>
-    ensures { IfOk result (λ sent_now. values_meant.IsSaid (values_meant.values pace serial sent rest.now) said.old.items said.new.items sent_now) }
+    requires { outbox.sent.values + length rest.now ≤ 18446744073709551615 }
+    ensures { IfOk result (λ sent. values_meant.IsSaid (values_meant.values pace outbox.serial outbox.sent rest.now) said.old.items said.new.items sent) }
 {
-    let mut sent = sent;
-    let mut serial = serial;
-    let mut left = rest.len();
-    for element in rest {
-        said.push(value(alloc, element)?)?;
-        sent.values += 1;
-        left -= 1;
-        if left > 0 && is_check_due(pace, sent, serial) {
-            said.push(Request::Check { serial })?;
-            sent.offered += 1;
-            serial += 1;
-            if is_full(pace, sent) {
-                return Ok(sent);
-            }
+    let mut now = outbox;
+    for (place, element) in rest.iter().enumerate() {
+        let (_, later) = rest.split_at(place + 1);
+        let goes_on = send_value(alloc, pace, &mut now, element, later, said)?;
+        if !goes_on {
+            return Ok(now.sent);
         }
     }
     said.push(item(alloc, Pdu::DataEnd { diagnostic: None })?)?;
     said.push(item(alloc, Pdu::TransferEndRequest)?)?;
-    sent.is_ended = true;
-    Ok(sent)
+    now.sent.is_ended = true;
+    Ok(now.sent)
+}
+
+/// Sends a value, and a check behind it where one is due; false where the window is full then.
+fn send_value(
+    alloc: Global,
+    pace: Pace,
+    outbox: &mut Outbox,
+    element: &Element,
+    later: &[Element],
+    said: &mut Vec<Request>,
+) -> Result<bool, NoMemory>
+    requires { outbox.old.sent.values < 18446744073709551615 }
+    ensures sends { IfOk result (λ goes_on. values_meant.Onward said.old.items (values_meant.values pace outbox.old.serial outbox.old.sent (element.now ∷ later.now)) said.new.items (values_meant.left_of pace outbox.new later.now goes_on)) }
+    ensures more { IfOk result (λ goes_on. outbox.new.sent.values ≡ outbox.old.sent.values + 1) }
+{
+    said.push(value(alloc, element)?)?;
+    outbox.sent.values += 1;
+    if !is_check_behind(pace, *outbox, later) {
+        return Ok(true);
+    }
+    said.push(Request::Check {
+        serial: outbox.serial,
+    })?;
+    outbox.sent.offered += 1;
+    outbox.serial += 1;
+    if is_full(pace, outbox.sent) {
+        return Ok(false);
+    }
+    Ok(true)
+}
+
+/// A check is due, and more values follow.
+fn is_check_behind(pace: Pace, outbox: Outbox, later: &[Element]) -> bool
+    ensures due { result ≡ (values_meant.is_more later.now && values_meant.is_check_due pace outbox.sent outbox.serial) }
+    ensures serial { IsTrue result → outbox.serial ≤ 999999 }
+    ensures point { IsTrue result → outbox.sent.offered < 1000000 }
+{
+    if later.is_empty() {
+        return false;
+    }
+    is_check_due(pace, outbox.sent, outbox.serial)
 }
 
 /// A check stands behind the values that are sent, and may be sent.
 fn is_check_due(pace: Pace, sent: Sent, serial: u32) -> bool
-    ensures { result ≡ values_meant.is_check_due pace sent serial }
+    ensures due { result ≡ values_meant.is_check_due pace sent serial }
+    ensures serial { IsTrue result → serial ≤ 999999 }
+    ensures point { IsTrue result → sent.offered < 1000000 }
 {
     pace.checks
         && serial <= LAST_SERIAL
