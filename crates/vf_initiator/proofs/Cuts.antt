@@ -1,25 +1,19 @@
 -- Pieces that are cut, and a single one of them.
-use Rattle.std.proofs.Common.{◌≡◌, ℕ, zero, suc, ◌+◌, ◌-◌, ◌≤◌, List, [], ◌∷◌, ◌++◌, length, take, drop, refl, sym, ap, subst, absurd, Option, Some, slice_get, ◌∙◌, arith, length-drop, take-take}
+use Rattle.std.proofs.Common.{◌≡◌, ℕ, zero, suc, ◌+◌, ◌-◌, ◌≤◌, List, [], ◌∷◌, ◌++◌, length, take, drop, refl, sym, ap, subst, ◌∙◌, arith, length-drop, take-take}
 use Rattle.std.specs.List.{slice_index}
 use Rattle.std.proofs.lemmas.List.{drop-take, length-take}
 use Rattle.vf_base.specs.declared.element.Element.{Element}
-use Rattle.vf_initiator.specs.Gathering.{AreMarks, after_marks, by_marks}
-use Rattle.vf_transfer.specs.Checks.{mark}
-
--- how many elements stand before the end of so many pieces, counted from before the first one
-abbrev pub end_of : (before pieces : ℕ) → List ℕ → ℕ
-end_of before zero marks = before
-end_of before (suc pieces) [] = before
-end_of before (suc pieces) (m ∷ marks) = end_of m pieces marks
+use Rattle.vf_initiator.specs.Gathering.{AreMarks, after_marks, by_marks, end_of}
 
 index_end : (n before : ℕ) (marks : List ℕ) → suc n ≤ length marks → slice_index marks n ≡ end_of before (suc n) marks
 index_end n before [] within = absurd (omega (arith, within))
 index_end zero before (m ∷ marks) within = refl
 index_end (suc n) before (m ∷ marks) within = index_end n m marks (omega (arith, within))
 
-pub mark_end : (n : ℕ) (marks : List ℕ) → n ≤ length marks → mark n marks ≡ end_of 0 n marks
-mark_end zero marks within = refl
-mark_end (suc n) marks within = index_end n 0 marks within
+-- the mark of the last of so many pieces
+pub mark_there : (n : ℕ) (marks : List ℕ) → 1 ≤ n → n ≤ length marks → slice_index marks (n - 1) ≡ end_of 0 n marks
+mark_there zero marks some within = absurd (omega (arith, some))
+mark_there (suc n) marks some within = let less : suc n - 1 ≡ n = omega arith in rw less (index_end n 0 marks within)
 
 pub end_rises : (before n : ℕ) (marks : List ℕ) (elements : List Element) → AreMarks before marks elements → before ≤ end_of before n marks
 end_rises before zero marks elements are = omega arith
@@ -43,12 +37,16 @@ by_cut before (suc n) (m ∷ marks) elements are =
     (ap (λ rest. take (m - before) elements ∷ rest) (by_cut m n marks (drop (m - before) elements) are.2))
 
 pub after_cut : (before n : ℕ) (marks : List ℕ) (elements : List Element) → AreMarks before marks elements → n ≤ length marks → after_marks before (take n marks) (take (end_of before n marks - before) elements) ≡ []
-after_cut before zero marks elements are within = let none : before - before ≡ 0 = omega arith in rw none refl
+after_cut before zero marks elements are within =
+    let none : before - before ≡ 0 = omega arith in
+    subst (λ (n : ℕ). take n elements ≡ []) (sym none) refl
 after_cut before (suc n) [] elements are within = absurd (omega (arith, within))
 after_cut before (suc n) (m ∷ marks) elements are within =
     let rises = end_rises m n marks (drop (m - before) elements) are.2 in
     let same : end_of m n marks - before ≡ (m - before) + (end_of m n marks - m) = omega (arith, are.0, rises) in
-    rw (same, drop-take (m - before) (end_of m n marks - m) elements) (after_cut m n marks (drop (m - before) elements) are.2 (omega (arith, within)))
+    subst (λ (e : ℕ). after_marks m (take n marks) (drop (m - before) (take e elements)) ≡ []) (sym same)
+    (subst (λ (l : List Element). after_marks m (take n marks) l ≡ []) (sym (drop-take (m - before) (end_of m n marks - m) elements))
+    (after_cut m n marks (drop (m - before) elements) are.2 (omega (arith, within))))
 
 pub marks_cut : (before n : ℕ) (marks : List ℕ) (elements : List Element) → AreMarks before marks elements → AreMarks before (take n marks) (take (end_of before n marks - before) elements)
 marks_cut before zero marks elements are = tt
@@ -59,4 +57,27 @@ marks_cut before (suc n) (m ∷ marks) elements are =
     let rest = marks_cut m n marks (drop (m - before) elements) are.2 in
     let within : m ≤ before + length (take ((m - before) + (end_of m n marks - m)) elements) =
         omega (arith, are.0, are.1, length-take ((m - before) + (end_of m n marks - m)) elements) in
-    rw same (are.0, within, rw (drop-take (m - before) (end_of m n marks - m) elements) rest)
+    let later = subst (λ (l : List Element). AreMarks m (take n marks) l) (sym (drop-take (m - before) (end_of m n marks - m) elements)) rest in
+    subst (λ (e : ℕ). (before ≤ m) × (m ≤ before + length (take e elements)) × AreMarks m (take n marks) (drop (m - before) (take e elements))) (sym same) (are.0, within, later)
+
+-- ---- the same from the first element on
+
+pub end_fits : (n : ℕ) (marks : List ℕ) (elements : List Element) → AreMarks 0 marks elements → end_of 0 n marks ≤ length elements
+end_fits n marks elements are = let within = end_within 0 n marks elements are in omega (arith, within)
+
+pub by_left : (n : ℕ) (marks : List ℕ) (elements : List Element) → AreMarks 0 marks elements → by_marks 0 (take n marks) (take (end_of 0 n marks) elements) ≡ take n (by_marks 0 marks elements)
+by_left n marks elements are =
+    let whole : end_of 0 n marks - 0 ≡ end_of 0 n marks = omega arith in
+    subst (λ (e : ℕ). by_marks 0 (take n marks) (take e elements) ≡ take n (by_marks 0 marks elements)) whole (by_cut 0 n marks elements are)
+
+pub after_left : (n : ℕ) (marks : List ℕ) (elements : List Element) → AreMarks 0 marks elements → n ≤ length marks → after_marks 0 (take n marks) (take (end_of 0 n marks) elements) ≡ []
+after_left n marks elements are within =
+    let whole : end_of 0 n marks - 0 ≡ end_of 0 n marks = omega arith in
+    subst (λ (e : ℕ). after_marks 0 (take n marks) (take e elements) ≡ []) whole (after_cut 0 n marks elements are within)
+
+pub marks_left : (n : ℕ) (marks : List ℕ) (elements : List Element) → AreMarks 0 marks elements → AreMarks 0 (take n marks) (take (end_of 0 n marks) elements)
+marks_left n marks elements are =
+    let whole : end_of 0 n marks - 0 ≡ end_of 0 n marks = omega arith in
+    subst (λ (e : ℕ). AreMarks 0 (take n marks) (take e elements)) whole (marks_cut 0 n marks elements are)
+
+pub ruleset cuts = (mark_there, end_fits, by_left, after_left, marks_left)

@@ -1,6 +1,6 @@
 -- What a get has received: pieces, each of which a checkpoint or the end of the data has ended, and what came after the
 -- last one (profile).
-use Rattle.std.specs.Prelude.{ℕ, ◌+◌, ◌-◌, ◌≤◌, Bool, ◌&&◌, nat_le, nat_lt, List, [], ◌∷◌, ◌++◌, drop, length, min, take}
+use Rattle.std.specs.Prelude.{ℕ, zero, suc, ◌+◌, ◌-◌, ◌≤◌, Bool, ◌&&◌, nat_le, nat_lt, List, [], ◌∷◌, ◌++◌, drop, length, min, take}
 use Rattle.vf_base.specs.declared.element.Element.{Element}
 use Rattle.vf_base.specs.declared.limits.TheConstants.{MOST_STRING_OCTETS}
 use Rattle.vf_transfer.specs.Transfer.{joined}
@@ -34,9 +34,12 @@ with_value g element = record g { fresh = g.fresh ++ element ∷ [] }
 abbrev pub kept_whole : Gathering → Gathering
 kept_whole g = record { pieces = g.pieces ++ g.fresh ∷ []; fresh = []; standing = g.standing }
 
--- so many pieces are left, and nothing after them
+-- so many pieces are left, or all where they are fewer, and nothing after them
+abbrev pub left_of : ℕ → Gathering → Gathering
+left_of pieces g = record { pieces = take pieces g.pieces; fresh = []; standing = min g.standing pieces }
+
 abbrev pub cut_to : ℕ → Gathering → Gathering
-cut_to pieces g = record { pieces = take pieces g.pieces; fresh = []; standing = min g.standing (min pieces (length g.pieces)) }
+cut_to pieces g = left_of (min pieces (length g.pieces)) g
 
 -- all pieces are kept
 abbrev pub marked : Gathering → Gathering
@@ -57,3 +60,9 @@ abbrev pub AreMarks : (before : ℕ) → List ℕ → List Element → Type 0
 AreMarks before [] elements = Unit {0}
 AreMarks before (mark ∷ marks) elements =
     (before ≤ mark) × (mark ≤ before + length elements) × AreMarks mark marks (drop (mark - before) elements)
+
+-- how many of them stand before the end of so many pieces
+abbrev pub end_of : (before pieces : ℕ) → List ℕ → ℕ
+end_of before zero marks = before
+end_of before (suc pieces) [] = before
+end_of before (suc pieces) (mark ∷ marks) = end_of mark pieces marks

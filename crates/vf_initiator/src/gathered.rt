@@ -1,8 +1,7 @@
 //! What a get has received, in the pieces in which it is kept.
-ghost use Rattle.std.specs.Prelude.{◌≡◌, ◌<◌, ◌≤◌, ◌++◌, [], ◌∷◌, IfOk, length, min, slice_get};
-ghost use Rattle.vf_transfer.specs.Checks.{mark};
+ghost use Rattle.std.specs.Prelude.{◌≡◌, ◌<◌, ◌≤◌, ◌++◌, [], ◌∷◌, IfOk, length, min, slice_get, take};
 ghost use Rattle.vf_tree.specs.FileTree.{octets_of_unit};
-ghost use Rattle.vf_initiator.specs.Gathering.{all_of, cut_to, has_room as room_meant, kept_whole, marked, started};
+ghost use Rattle.vf_initiator.specs.Gathering.{AreMarks, all_of, cut_to, end_of, has_room as room_meant, kept_whole, marked, started};
 
 use crate::given::append;
 use std::alloc::Global;
@@ -137,13 +136,17 @@ impl Gathered {
     }
 
     /// Keeps so many pieces, and nothing after them.
+    #[tactic(auto, using(crate::proofs::Marks::marks, crate::proofs::Cuts::cuts))]
     pub(crate) fn cut(&mut self, alloc: Global, pieces: usize) -> Result<(), NoMemory>
         ensures { IfOk result (λ done. self.new ≡ cut_to pieces self.old) }
     {
         let pieces = pieces.min(self.pieces());
-        let (left, _) = self.elements.as_slice().split_at(before(self.marks.as_slice(), pieces));
-        let mut elements = Sequence::new(alloc);
-        append(alloc, left, &mut elements)?;
+        let elements = first_of(
+            alloc,
+            self.elements.as_slice(),
+            self.marks.as_slice(),
+            pieces,
+        )?;
         self.octets = octets_of_all(elements.as_slice());
         self.elements = elements;
         self.marks.truncate(pieces);
@@ -160,14 +163,33 @@ impl Gathered {
 }
 
 /// How many elements stand before the end of so many pieces with these marks.
+#[tactic(auto, using(crate::proofs::Cuts::cuts))]
 fn before(marks: &[usize], pieces: usize) -> usize
     requires { pieces ≤ length marks.now }
-    ensures { result ≡ mark pieces marks.now }
+    ensures { result ≡ end_of 0 pieces marks.now }
 {
     if pieces == 0 {
         return 0;
     }
     marks[pieces - 1]
+}
+
+/// Copies of the elements of so many pieces with these marks.
+#[tactic(auto, using(crate::proofs::Cuts::cuts))]
+fn first_of(
+    alloc: Global,
+    elements: &[Element],
+    marks: &[usize],
+    pieces: usize,
+) -> Result<Elements, NoMemory>
+    requires within { pieces ≤ length marks.now }
+    requires marks { AreMarks 0 marks.now elements.now }
+    ensures { IfOk result (λ made. made ≡ take (end_of 0 pieces marks.now) elements.now) }
+{
+    let (first, _) = elements.split_at(before(marks, pieces));
+    let mut made = Sequence::new(alloc);
+    append(alloc, first, &mut made)?;
+    Ok(made)
 }
 
 /// The octets of all strings, or the type's end where they are more.
