@@ -1,5 +1,6 @@
 -- Pieces that are cut, and a single one of them.
-use Rattle.std.proofs.Common.{◌≡◌, ℕ, zero, suc, ◌+◌, ◌-◌, ◌≤◌, List, [], ◌∷◌, ◌++◌, length, take, drop, refl, sym, ap, subst, ◌∙◌, arith, length-drop, take-take}
+use Rattle.std.proofs.Common.{◌≡◌, ℕ, zero, suc, ◌+◌, ◌-◌, ◌≤◌, List, [], ◌∷◌, ◌++◌, length, take, drop, refl, sym, ap, subst, ◌∙◌, Some, arith, drop-drop, length-drop, take-take}
+use Rattle.std.specs.Prelude.{slice_get}
 use Rattle.std.specs.List.{slice_index}
 use Rattle.std.proofs.lemmas.List.{drop-take, length-take}
 use Rattle.vf_base.specs.declared.element.Element.{Element}
@@ -56,9 +57,37 @@ marks_cut before (suc n) (m ∷ marks) elements are =
     let same : end_of m n marks - before ≡ (m - before) + (end_of m n marks - m) = omega (arith, are.0, rises) in
     let rest = marks_cut m n marks (drop (m - before) elements) are.2 in
     let within : m ≤ before + length (take ((m - before) + (end_of m n marks - m)) elements) =
-        omega (arith, are.0, are.1, length-take ((m - before) + (end_of m n marks - m)) elements) in
+    omega (arith, are.0, are.1, length-take ((m - before) + (end_of m n marks - m)) elements) in
     let later = subst (λ (l : List Element). AreMarks m (take n marks) l) (sym (drop-take (m - before) (end_of m n marks - m) elements)) rest in
     subst (λ (e : ℕ). (before ≤ m) × (m ≤ before + length (take e elements)) × AreMarks m (take n marks) (drop (m - before) (take e elements))) (sym same) (are.0, within, later)
+
+-- ---- a single piece
+
+pub by_there : (before n : ℕ) (marks : List ℕ) (elements : List Element) → AreMarks before marks elements → suc n ≤ length marks
+    → slice_get (by_marks before marks elements) n ≡ Some (drop (end_of before n marks - before) (take (end_of before (suc n) marks - before) elements))
+by_there before n [] elements are within = absurd (omega (arith, within))
+by_there before zero (m ∷ marks) elements are within =
+    let none : before - before ≡ 0 = omega arith in
+    subst (λ (k : ℕ). Some (take (m - before) elements) ≡ Some (drop k (take (m - before) elements))) (sym none) refl
+by_there before (suc n) (m ∷ marks) elements are within =
+    let low = end_rises m n marks (drop (m - before) elements) are.2 in
+    let high = end_rises m (suc n) marks (drop (m - before) elements) are.2 in
+    let i : ℕ = m - before in
+    let start : ℕ = end_of m n marks - m in
+    let stop : ℕ = end_of m (suc n) marks - m in
+    let first : end_of m n marks - before ≡ i + start = omega (arith, are.0, low) in
+    let last : end_of m (suc n) marks - before ≡ i + stop = omega (arith, are.0, high) in
+    by_there m n marks (drop i elements) are.2 (omega (arith, within))
+    ∙ (ap (λ (l : List Element). Some (drop start l)) (sym (drop-take i stop elements))
+    ∙ (ap (λ (l : List Element). Some l) (drop-drop start i (take (i + stop) elements))
+    ∙ (ap (λ (k : ℕ). Some (drop k (take (i + stop) elements))) (sym first)
+    ∙ ap (λ (k : ℕ). Some (drop (end_of m n marks - before) (take k elements))) (sym last))))
+
+pub end_order : (before n : ℕ) (marks : List ℕ) (elements : List Element) → AreMarks before marks elements → end_of before n marks ≤ end_of before (suc n) marks
+end_order before zero [] elements are = omega arith
+end_order before zero (m ∷ marks) elements are = are.0
+end_order before (suc n) [] elements are = omega arith
+end_order before (suc n) (m ∷ marks) elements are = end_order m n marks (drop (m - before) elements) are.2
 
 -- ---- the same from the first element on
 
@@ -80,4 +109,21 @@ marks_left n marks elements are =
     let whole : end_of 0 n marks - 0 ≡ end_of 0 n marks = omega arith in
     subst (λ (e : ℕ). AreMarks 0 (take n marks) (take e elements)) whole (marks_cut 0 n marks elements are)
 
-pub ruleset cuts = (mark_there, end_fits, by_left, after_left, marks_left)
+pub piece_there : (n : ℕ) (marks : List ℕ) (elements : List Element) → AreMarks 0 marks elements → n + 1 ≤ length marks
+    → slice_get (by_marks 0 marks elements) n ≡ Some (drop (end_of 0 n marks) (take (end_of 0 (n + 1) marks) elements))
+piece_there n marks elements are within =
+    let more : n + 1 ≡ suc n = omega arith in
+    let first : end_of 0 n marks - 0 ≡ end_of 0 n marks = omega arith in
+    let last : end_of 0 (suc n) marks - 0 ≡ end_of 0 (suc n) marks = omega arith in
+    by_there 0 n marks elements are (omega (arith, within))
+    ∙ (ap (λ (k : ℕ). Some (drop k (take (end_of 0 (suc n) marks - 0) elements))) first
+    ∙ (ap (λ (k : ℕ). Some (drop (end_of 0 n marks) (take k elements))) last
+    ∙ ap (λ (k : ℕ). Some (drop (end_of 0 n marks) (take (end_of 0 k marks) elements))) (sym more)))
+
+pub start_fits : (n : ℕ) (marks : List ℕ) (elements : List Element) → AreMarks 0 marks elements → end_of 0 n marks ≤ length (take (end_of 0 (n + 1) marks) elements)
+start_fits n marks elements are =
+    let more : n + 1 ≡ suc n = omega arith in
+    let order : end_of 0 n marks ≤ end_of 0 (n + 1) marks = subst (λ (k : ℕ). end_of 0 n marks ≤ end_of 0 k marks) (sym more) (end_order 0 n marks elements are) in
+    omega (arith, order, end_fits n marks elements are, length-take (end_of 0 (n + 1) marks) elements)
+
+pub ruleset cuts = (piece_there, start_fits, mark_there, end_fits, by_left, after_left, marks_left)

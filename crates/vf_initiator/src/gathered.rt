@@ -1,7 +1,7 @@
 //! What a get has received, in the pieces in which it is kept.
-ghost use Rattle.std.specs.Prelude.{◌≡◌, ◌<◌, ◌≤◌, ◌++◌, [], ◌∷◌, IfOk, length, min, slice_get, take};
+ghost use Rattle.std.specs.Prelude.{◌≡◌, ◌+◌, ◌<◌, ◌≤◌, ◌++◌, [], ◌∷◌, IfOk, length, min, slice_get, take};
 ghost use Rattle.vf_tree.specs.FileTree.{octets_of_unit};
-ghost use Rattle.vf_initiator.specs.Gathering.{AreMarks, all_of, cut_to, end_of, has_room as room_meant, kept_whole, marked, started};
+ghost use Rattle.vf_initiator.specs.Gathering.{AreMarks, all_of, by_marks, cut_to, end_of, has_room as room_meant, kept_whole, marked, started};
 
 use crate::given::append;
 use std::alloc::Global;
@@ -84,13 +84,12 @@ impl Gathered {
         requires { place < length self.now.pieces }
         ensures { IfOk result (λ made. slice_get self.now.pieces place ≡ Some made) }
     {
-        let start = before(self.marks.as_slice(), place);
-        let end = before(self.marks.as_slice(), place + 1);
-        let (front, _) = self.elements.as_slice().split_at(end);
-        let (_, piece) = front.split_at(start);
-        let mut made = Sequence::new(alloc);
-        append(alloc, piece, &mut made)?;
-        Ok(made)
+        piece_of(
+            alloc,
+            self.elements.as_slice(),
+            self.marks.as_slice(),
+            place,
+        )
     }
 
     /// Whether all elements are within a file with this one, and this one's string is not too long (profile).
@@ -172,6 +171,26 @@ fn before(marks: &[usize], pieces: usize) -> usize
         return 0;
     }
     marks[pieces - 1]
+}
+
+/// A copy of a piece of elements with these marks.
+#[tactic(auto, using(crate::proofs::Cuts::cuts))]
+fn piece_of(
+    alloc: Global,
+    elements: &[Element],
+    marks: &[usize],
+    place: usize,
+) -> Result<Elements, NoMemory>
+    requires there { place + 1 ≤ length marks.now }
+    requires marks { AreMarks 0 marks.now elements.now }
+    ensures { IfOk result (λ made. slice_get (by_marks 0 marks.now elements.now) place ≡ Some made) }
+{
+    let start = before(marks, place);
+    let (front, _) = elements.split_at(before(marks, place + 1));
+    let (_, piece) = front.split_at(start);
+    let mut made = Sequence::new(alloc);
+    append(alloc, piece, &mut made)?;
+    Ok(made)
 }
 
 /// Copies of the elements of so many pieces with these marks.
