@@ -1,12 +1,13 @@
 //! The changes by which a store keeps a task as it stands (profile).
-ghost use Rattle.std.specs.Prelude.{◌≡◌, ◌++◌, ◌≤◌, IfOk, length};
+ghost use Rattle.std.specs.Prelude.{◌≡◌, ◌++◌, ◌<◌, IfOk};
 ghost use Rattle.vf_initiator.specs.Says.{activity_kept};
 ghost use Rattle.vf_initiator.specs.Gathering.{marked};
-ghost use Rattle.vf_initiator.specs.Keeping.{changes_since, mark_of, stages_from};
+ghost use Rattle.vf_initiator.specs.Keeping.{changes_of, changes_since, cut_change, mark_of, row_change, stages_from};
 
 use crate::conduct::Conduct;
 use crate::given::Given;
 use crate::mark::Mark;
+use crate::progress::Progress;
 use crate::stage::Stage;
 use crate::{Doing, TaskError};
 use std::alloc::Global;
@@ -55,16 +56,43 @@ impl Conduct {
         if self.kept(mark.kept).is_none() {
             return changes.push(Change::DropTask { activity });
         }
-        if self.progress != mark.progress {
-            let plan = given.assignment.row(alloc, activity, self.progress)?;
-            changes.push(Change::PutTask { plan })?;
-        }
+        self.put_differences(alloc, given, activity, mark, changes)
+    }
+
+    /// Appends the changes of a task that is kept on.
+    fn put_differences(
+        &self,
+        alloc: Global,
+        given: &Given,
+        activity: u32,
+        mark: Mark,
+        changes: &mut Changes,
+    ) -> Result<(), NoMemory>
+        ensures { IfOk result (λ done. changes.new ≡ changes.old ++ changes_of given.now mark self.now activity) }
+    {
+        self.put_row(alloc, given, activity, mark.progress, changes)?;
         let standing = self.gathered.standing();
-        if standing < mark.pieces {
-            let point = standing as u32;
-            changes.push(Change::CutTask { activity, point })?;
+        put_cut(activity, standing, mark.pieces, changes)?;
+        self.put_stages(alloc, activity, standing, changes)?;
+        Ok(())
+    }
+
+    /// Appends the row of the task where it differs from what it was.
+    fn put_row(
+        &self,
+        alloc: Global,
+        given: &Given,
+        activity: u32,
+        before: Progress,
+        changes: &mut Changes,
+    ) -> Result<(), NoMemory>
+        ensures { IfOk result (λ done. changes.new ≡ changes.old ++ row_change given.now activity before self.now.progress) }
+    {
+        if self.progress == before {
+            return Ok(());
         }
-        self.put_stages(alloc, activity, standing, changes)
+        let plan = given.assignment.row(alloc, activity, self.progress)?;
+        changes.push(Change::PutTask { plan })
     }
 
     /// Appends a change for each piece after so many.
@@ -88,4 +116,21 @@ impl Conduct {
         }
         Ok(())
     }
+}
+
+/// Appends a cut where fewer pieces stand than there were.
+fn put_cut(
+    activity: u32,
+    standing: usize,
+    pieces: usize,
+    changes: &mut Changes,
+) -> Result<(), NoMemory>
+    requires { standing < 4294967296 }
+    ensures { IfOk result (λ done. changes.new ≡ changes.old ++ cut_change activity standing pieces) }
+{
+    if standing >= pieces {
+        return Ok(());
+    }
+    let point = standing as u32;
+    changes.push(Change::CutTask { activity, point })
 }

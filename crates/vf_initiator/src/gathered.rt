@@ -21,20 +21,20 @@ pub(crate) struct Gathered {
     marks: Vec<usize>,
     /// The octets of all strings, or the type's end where they are more.
     octets: u64,
-    /// How many pieces have stood since `mark`.
+    /// How many pieces have stood since `mark`, at most as many as there are.
     standing: usize,
 }
 
 impl Model for Gathered {
     ghost use Rattle.vf_initiator.specs.Gathering.{AreMarks, Gathering, after_marks, by_marks};
-    ghost use Rattle.std.specs.Prelude.{◌≡◌, ◌<◌, length, min};
+    ghost use Rattle.std.specs.Prelude.{◌≡◌, ◌<◌, ◌≤◌, length, min};
     ghost use Rattle.vf_tree.specs.FileTree.{octets_of_unit};
 
     ghost Value = { Gathering };
 
     ghost view = { λ g. record { pieces = by_marks 0 g.marks.items g.elements; fresh = after_marks 0 g.marks.items g.elements; standing = g.standing } };
 
-    ghost invariant = { λ g. (AreMarks 0 g.marks.items g.elements) × (length g.marks.items < 4294967295) × (g.octets ≡ min (octets_of_unit g.elements) 18446744073709551615) };
+    ghost invariant = { λ g. (AreMarks 0 g.marks.items g.elements) × (length g.marks.items < 4294967295) × (g.standing ≤ length g.marks.items) × (g.octets ≡ min (octets_of_unit g.elements) 18446744073709551615) };
 }
 
 #[tactic(auto, using(crate::proofs::Marks::marks))]
@@ -74,7 +74,8 @@ impl Gathered {
 
     /// How many of the pieces have stood since `mark`.
     pub(crate) fn standing(&self) -> usize
-        ensures { result ≡ self.now.standing }
+        ensures count { result ≡ self.now.standing }
+        ensures few { result < 4294967295 }
     {
         self.standing
     }
