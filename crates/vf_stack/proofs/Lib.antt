@@ -9,6 +9,9 @@ pub mod UnitLemmas
 pub mod SpduLemmas
 pub mod FeedLemmas
 pub mod OnwardLemmas
+pub mod FewLemmas
+pub mod ReadValueLemmas
+pub mod ReadLemmas
 pub mod OutcomeLemmas
 pub mod ToldLemmas
 pub mod SendLemmas

@@ -65,7 +65,7 @@ still-reads own x r s =
     ap (λ (units : List TransportUnit). followed (each (received_next own) x units) (λ y. stopped_by y r.kept.fault)) s.units
     ∙ ap (λ (fault : Option TpktError). stopped_by x fault) s.fault
 
-still-piece : (own : TokenSide) (a : Association) (octets : List ℕ) → is_ended a.exchange.ending ≡ false → IsStill (onward (kept_of own a) octets)
+pub still-piece : (own : TokenSide) (a : Association) (octets : List ℕ) → is_ended a.exchange.ending ≡ false → IsStill (onward (kept_of own a) octets)
     → piece_received own a octets ≡ as_fed [] [] (moved a octets)
 still-piece own a octets e s =
     let r = onward (kept_of own a) octets in
@@ -80,7 +80,7 @@ still-then k first second s =
     ∙ ap (λ (units : List TransportUnit). as_reading (units ++ next.units) (r.answers ++ next.answers) next.kept) s.units
     ∙ ap (λ (answers : List ℕ). as_reading next.units (answers ++ next.answers) next.kept) s.answers
 
-cuts-moved : (own : TokenSide) (a : Association) (octet : ℕ) (others : List ℕ) → IsStill (onward (kept_of own a) (octet ∷ [])) → Cuts (kept_of own a) (octet ∷ others) → Cuts (kept_of own (moved a (octet ∷ []))) others
+pub cuts-moved : (own : TokenSide) (a : Association) (octet : ℕ) (others : List ℕ) → IsStill (onward (kept_of own a) (octet ∷ [])) → Cuts (kept_of own a) (octet ∷ others) → Cuts (kept_of own (moved a (octet ∷ []))) others
 cuts-moved own a octet others s cuts first second e =
     let k = kept_of own a in
     let now : onward k (octet ∷ first) ≡ onward (kept_of own (moved a (octet ∷ []))) first =
@@ -169,7 +169,7 @@ silent-piece : (own : TokenSide) (a : Association) (octets : List ℕ) (b : Bool
 silent-piece own a octets true e s = subst IsSilent (sym (piece-ended own a octets e)) (record { indications = refl; answers = refl })
 silent-piece own a octets false e s = subst IsSilent (sym (still-piece own a octets e s)) (record { indications = refl; answers = refl })
 
-fault-piece : (own : TokenSide) (a : Association) (octets : List ℕ) (fault : TpktError) (b : Bool) → is_ended a.exchange.ending ≡ b → (onward (kept_of own a) octets).kept.fault ≡ Some fault → is_ended (piece_received own a octets).association.exchange.ending ≡ true
+pub fault-piece : (own : TokenSide) (a : Association) (octets : List ℕ) (fault : TpktError) (b : Bool) → is_ended a.exchange.ending ≡ b → (onward (kept_of own a) octets).kept.fault ≡ Some fault → is_ended (piece_received own a octets).association.exchange.ending ≡ true
 fault-piece own a octets fault true e f = ap (λ (p : Fed). is_ended p.association.exchange.ending) (piece-ended own a octets e) ∙ e
 fault-piece own a octets fault false e f = ap (λ (p : Fed). is_ended p.association.exchange.ending) (piece-open own a octets e) ∙ fault-ends own a.exchange (onward (kept_of own a) octets) fault f
 

@@ -5,6 +5,8 @@ pub mod FaultNames
 pub mod Carriage
 pub mod Receiving
 pub mod Pieces
+pub mod Few
+pub mod Ranges
 pub mod Represents
 pub mod Examples
 pub mod Requests

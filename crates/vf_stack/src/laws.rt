@@ -6,6 +6,9 @@ ghost use Rattle.vf_stack.specs.declared.indication.Indication.{Indication};
 ghost use Rattle.vf_stack.specs.declared.request.Request.{Request};
 ghost use Rattle.vf_session.specs.declared.units.TokenSide.{TokenSide};
 ghost use Rattle.vf_stack.specs.Association.{Association, end_of};
+ghost use Rattle.vf_stack.specs.Few.{FewTellLast};
+ghost use Rattle.vf_stack.specs.Ranges.{TellsRead};
+ghost use Rattle.vf_stack.specs.Represents.{Kept};
 ghost use Rattle.vf_stack.specs.Pieces.{AreCut, TellOnce, TellsByOctets, TellsInPieces};
 ghost use Rattle.vf_stack.specs.Examples.{CarriageExamples, ReceivedExamples};
 ghost use Rattle.vf_tpkt.specs.Stream.{reading as stream_read};
@@ -60,4 +63,16 @@ pub fn identifiers_mean_one_context()
 /// agreed, and the token passes without an indication.
 pub fn requests_tell_themselves()
     ensures { (own : TokenSide) (offer far_offer : Bool) (a far : Association) (request : Request) → TellsItself own offer far_offer a far request }
+{}
+
+/// Of at most as many octets as a packet lacks the last alone tells something, or one that ends receiving; those before it
+/// only lengthen the stream.
+pub fn few_octets_tell_last()
+    ensures { (kept : Kept) (a : Association) (octets : List ℕ) → FewTellLast kept a octets }
+{}
+
+/// What octets tell was read: the PDU of each indication, and its element, have each field in its range (ISO 8571-4), and its
+/// serial number has six digits (ISO 8327).
+pub fn told_was_read()
+    ensures { (own : TokenSide) (a : Association) (octets : List ℕ) → TellsRead own a octets }
 {}

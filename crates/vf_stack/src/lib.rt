@@ -21,8 +21,9 @@ mod writing;
 pub use ending::Ending;
 pub use indication::{FaultName, Indication, Item, Layer};
 pub use laws::{
-    examples_compute, identifiers_mean_one_context, octets_tell_once, octets_tell_the_piece,
-    pieces_tell_all, requests_are_received, requests_tell_themselves, sent_is_received,
+    examples_compute, few_octets_tell_last, identifiers_mean_one_context, octets_tell_once,
+    octets_tell_the_piece, pieces_tell_all, requests_are_received, requests_tell_themselves,
+    sent_is_received, told_was_read,
 };
 pub use request::Request;
 pub use stack::Stack;

@@ -28,7 +28,7 @@ use vf_upper::{ContextEntry, Offer, acceptance_length, data_length, refusal_leng
 // ---- where the connection stands
 
 /// Whether the association was accepted, and isn't over.
-fn is_associated(phase: Phase) -> bool
+pub(crate) fn is_associated(phase: Phase) -> bool
     ensures { result ≡ associated phase }
 {
     matches!(phase, Phase::Open | Phase::Leaving | Phase::Left)

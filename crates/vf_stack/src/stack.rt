@@ -4,10 +4,10 @@ ghost use Rattle.vf_stack.specs.Association.{Association, beginning, is_ended as
 ghost use Rattle.vf_stack.specs.Pieces.{TellOnce};
 ghost use Rattle.vf_stack.specs.Receiving.{octets_received, piece_received};
 ghost use Rattle.vf_stack.specs.Represents.{Feeds, Listens, Represents, offer_of, side_of};
-ghost use Rattle.vf_stack.specs.Sending.{May, tsdu_of};
+ghost use Rattle.vf_stack.specs.Sending.{May, is_associated as is_associated_now, tsdu_of};
 ghost use Rattle.vf_stack.specs.Sends.{IsPermitted, IsSame, MaySend, Sends};
 ghost use Rattle.vf_session.specs.Sending.{holds_token};
-ghost use Rattle.vf_session.specs.Trace.{next, state as state_of};
+ghost use Rattle.vf_session.specs.Trace.{next, phase, state as state_of};
 ghost use Rattle.vf_session.specs.declared.units.TokenSide.TheVariants as sides;
 ghost use Rattle.vf_tpkt.specs.Receiving.{onward};
 ghost use Rattle.vf_tpkt.specs.Sending.{most_of, sent as packets, stands as stands_now};
@@ -16,6 +16,7 @@ ghost use Rattle.vf_tpkt.specs.Wanting.{lacking};
 ghost use Rattle.vf_tpkt.specs.declared.limits.TheConstants.{MOST_PACKET_OCTETS};
 
 use crate::exchange::KeptExchange;
+use crate::may::is_associated;
 use crate::unit::has_token;
 use crate::{Ending, Indication, Request};
 use std::alloc::Global;
@@ -207,6 +208,14 @@ impl Stack {
         ensures association { (a : Association) → Represents self.now a → result ≡ is_over a.exchange.ending }
     {
         self.exchange.is_ended()
+    }
+
+    /// The association was accepted and isn't over (ISO 8650), so that an abort of it has a PDU (profile).
+    pub fn is_accepted(&self) -> bool
+        ensures state { result ≡ is_associated_now self.now.exchange.state.phase }
+        ensures association { (a : Association) → Represents self.now a → result ≡ is_associated_now (phase (side_of self.now) a.exchange.trace) }
+    {
+        is_associated(self.exchange.state.phase)
     }
 
     /// Whether sync is agreed and this end has its token (ISO 8327, synchronize-minor).
