@@ -1,3 +1,9 @@
+pub mod Answering
 pub mod Cuts
+pub mod Ended
+pub mod Greeting
 pub mod Marks
+pub mod Sent
 pub mod Staged
+pub mod Taking
+pub mod Took

@@ -2,10 +2,12 @@ pub mod Asking
 pub mod Assignments
 pub mod Cutting
 pub mod Examples
+pub mod Few
 pub mod Gathering
 pub mod Hearing
 pub mod Keeping
 pub mod Output
+pub mod Owed
 pub mod Represents
 pub mod Rows
 pub mod Says

@@ -11,14 +11,18 @@ use Rattle.vf_session.specs.declared.units.TokenSide.TheVariants as sides
 use Rattle.vf_stack.specs.Represents.{Represents as IsStackOf, offer_of, side_of}
 use Rattle.vf_tables.specs.declared.change.Change.{Change}
 
--- The stack is the calling end of the association, and all else is as it is kept.
-pub record Represents (i : Initiator) (talk : Talk) : Type 0 where
+-- The stack is the calling end of the association, and all else is as it is kept, but for how many octets came.
+pub record Holds (i : Initiator) (talk : Talk) : Type 0 where
   pub association : IsStackOf i.stack talk.association
   pub side : side_of i.stack ≡ sides.Initiator
   pub offer : offer_of i.stack ≡ is_some i.given.assignment.activity
   pub greeting : i.greeting ≡ talk.greeting
-  pub octets : is_over talk.conduct.stage ≡ false → i.octets ≡ length talk.association.stream
   pub conduct : i.conduct ≡ talk.conduct
+
+-- The octets are counted as long as the task goes on.
+pub record Represents (i : Initiator) (talk : Talk) : Type 0 where
+  pub holds : Holds i talk
+  pub octets : is_over talk.conduct.stage ≡ false → i.octets ≡ length talk.association.stream
 
 -- The talk as a call begins: all pieces are kept.
 abbrev pub resumed : Talk → Talk

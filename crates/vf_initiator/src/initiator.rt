@@ -1,11 +1,19 @@
 //! The initiator of one connection.
-ghost use Rattle.std.specs.Prelude.{◌≡◌, ◌++◌, IfOk, option_copied};
+ghost use Rattle.std.specs.Prelude.{◌≡◌, ◌+◌, ◌≤◌, ◌⊎◌, ◌++◌, IfOk, IsFalse, IsTrue, None, OnOk, false, length, option_copied, true};
 ghost use Rattle.vf_initiator.specs.Asking.{associate as greeting_of};
 ghost use Rattle.vf_initiator.specs.Assignments.{assignment_of, given_of, kept_pieces, way_in};
 ghost use Rattle.vf_initiator.specs.Gathering.{started};
-ghost use Rattle.vf_initiator.specs.Represents.{Represents, TakesPiece};
+ghost use Rattle.vf_initiator.specs.Few.{AreFew, TakesOn};
+ghost use Rattle.vf_initiator.specs.Rows.{is_over};
+ghost use Rattle.vf_initiator.specs.Owed.{IsSameEnd, LeadsAnswer, LeadsAnswers, LeadsGreeting, Sends, unless_ended, unless_spent};
+ghost use Rattle.vf_initiator.specs.Represents.{Holds, Represents, TakesPiece};
 ghost use Rattle.vf_initiator.specs.Says.{beginning, doing_in, elements_of};
-ghost use Rattle.vf_initiator.specs.Talking.{Talk, begun};
+ghost use Rattle.vf_initiator.specs.Talking.{AreSent, IsSent, Talk, begun};
+ghost use Rattle.vf_session.specs.declared.units.TokenSide.TheVariants as sides;
+ghost use Rattle.vf_stack.specs.Association.{Association, is_ended};
+ghost use Rattle.vf_stack.specs.Receiving.{octets_received};
+ghost use Rattle.vf_stack.specs.Represents.{Feeds, Represents as IsStackOf, offer_of, side_of};
+ghost use Rattle.vf_tpkt.specs.Wanting.{lacking};
 ghost use Rattle.vf_tpkt.specs.Tpdu.{packet, request as connection_request};
 
 use crate::conduct::{Agreed, Conduct, Setting};
@@ -18,7 +26,7 @@ use crate::stage::Stage;
 use crate::{Doing, Plan, TaskError};
 use std::alloc::Global;
 use vf_base::{Elements, NoMemory};
-use vf_stack::{Indication, Request, Stack};
+use vf_stack::{Indication, Request, Stack, few_octets_tell_last};
 use vf_tables::{Changes, Task as KeptTask, Way};
 
 /// One connection gives at most so many octets.
@@ -88,12 +96,7 @@ impl Initiator {
         ensures { (talk : Talk) → Represents self.old talk → IfOk result (λ doing. TakesPiece self.old talk piece.now changes.old out.old.items self.new changes.new out.new.items doing) }
     {
         let mark = self.conduct.mark(&self.given);
-        let mut rest = piece;
-        while !rest.is_empty() && !self.conduct.is_over() {
-            let (front, more) = rest.split_at(self.next_length(rest.len()));
-            self.take_few(alloc, front, out)?;
-            rest = more;
-        }
+        self.take_all(alloc, piece, out)?;
         self.conduct.put_changes(alloc, &self.given, mark, changes)?;
         Ok(self.doing())
     }
@@ -122,38 +125,92 @@ impl Initiator {
         }
     }
 
-    /// How many of so many octets are taken at once: so few that they tell one thing at most, and within the budget. While
-    /// F-INITIALIZE waits it is one, since the end of the CC tells nothing and yet lets it be sent.
-    fn next_length(&self, left: usize) -> usize {
-        if self.greeting.is_some() {
-            return left.min(1);
+    /// Takes octets, so few at a time that they tell one thing at most, until the task doesn't go on.
+    fn take_all(&mut self, alloc: Global, piece: &[u8], out: &mut Vec<u8>) -> Result<(), NoMemory>
+        ensures { (talk : Talk) → Represents self.old talk → OnOk result (TakesOn self.old talk piece.now out.old.items self.new out.new.items) }
+    {
+        let mut rest = piece;
+        while !self.is_done(rest) {
+            let (front, more) = rest.split_at(self.next_length(rest));
+            self.take_few(alloc, front, out)?;
+            rest = more;
         }
-        let budget = BUDGET.saturating_sub(self.octets).max(1);
-        (self.stack.wanted().min(left) as u64).min(budget) as usize
+        Ok(())
+    }
+
+    /// Nothing is left to be taken, or nothing is taken any more.
+    fn is_done(&self, rest: &[u8]) -> bool
+        ensures done { IsTrue result → (length rest.now ≡ 0) ⊎ (is_over self.now.conduct.stage ≡ true) }
+        ensures more { IsFalse result → 1 ≤ length rest.now }
+        ensures goes { IsFalse result → is_over self.now.conduct.stage ≡ false }
+    {
+        rest.is_empty() || self.conduct.is_over()
+    }
+
+    /// How many of the octets that are left are taken at once: so few that they tell one thing at most, and within the
+    /// budget. While F-INITIALIZE waits it is one, since the end of the CC tells nothing and yet lets it be sent.
+    fn next_length(&self, rest: &[u8]) -> usize
+        requires { 1 ≤ length rest.now }
+        ensures some { 1 ≤ result }
+        ensures within { result ≤ length rest.now }
+        ensures few { (result ≡ 1) ⊎ ((self.now.greeting ≡ None) × (result ≤ lacking self.now.stack.transport.packet) × (self.now.octets + result ≤ 1073741824)) }
+    {
+        if self.greeting.is_some() || self.octets >= BUDGET {
+            return 1;
+        }
+        let left = BUDGET - self.octets;
+        let few = self.stack.wanted().min(rest.len());
+        if few as u64 <= left {
+            few
+        } else {
+            left as usize
+        }
     }
 
     /// Takes so few octets that they tell one thing at most.
-    fn take_few(&mut self, alloc: Global, piece: &[u8], out: &mut Vec<u8>) -> Result<(), NoMemory> {
+    fn take_few(&mut self, alloc: Global, piece: &[u8], out: &mut Vec<u8>) -> Result<(), NoMemory>
+        requires some { 1 ≤ length piece.now }
+        requires few { AreFew self.old piece.now }
+        ensures { (talk : Talk) → Represents self.old talk → is_over talk.conduct.stage ≡ false → OnOk result (TakesOn self.old talk piece.now out.old.items self.new out.new.items) }
+    {
+        few_octets_tell_last();
         let mut told = Vec::new(alloc);
-        self.stack.feed(piece, &mut told, out)?;
+        feed(&mut self.stack, piece, &mut told, out)?;
         self.octets = self.octets.saturating_add(piece.len() as u64);
         self.greet(alloc, out)?;
-        for indication in told {
-            self.hear(alloc, indication, out)?;
-        }
+        self.hear_all(alloc, told, out)?;
         self.look();
         Ok(())
     }
 
     /// Sends F-INITIALIZE as soon as it may be sent, which is once transport stands.
-    fn greet(&mut self, alloc: Global, out: &mut Vec<u8>) -> Result<(), NoMemory> {
-        let Some(request) = self.greeting.take() else {
+    fn greet(&mut self, alloc: Global, out: &mut Vec<u8>) -> Result<(), NoMemory>
+        // Of every talk that the initiator represents.
+        ensures { (talk : Talk) → Holds self.old talk → OnOk result (LeadsGreeting self.old talk out.old.items self.new out.new.items) }
+    {
+        let Some(request) = &self.greeting else {
             return Ok(());
         };
-        if self.stack.may(&request) {
-            return self.stack.send(alloc, &request, out);
+        if !self.stack.may(request) {
+            return Ok(());
         }
-        self.greeting = Some(request);
+        self.stack.send(alloc, request, out)?;
+        self.greeting = None;
+        Ok(())
+    }
+
+    /// Takes messages, and sends what is to be said to them.
+    fn hear_all(
+        &mut self,
+        alloc: Global,
+        told: Vec<Indication>,
+        out: &mut Vec<u8>,
+    ) -> Result<(), NoMemory>
+        ensures { (talk : Talk) → Holds self.old talk → OnOk result (LeadsAnswers self.old talk told.items out.old.items self.new out.new.items) }
+    {
+        for indication in told {
+            self.hear(alloc, indication, out)?;
+        }
         Ok(())
     }
 
@@ -163,7 +220,9 @@ impl Initiator {
         alloc: Global,
         indication: Indication,
         out: &mut Vec<u8>,
-    ) -> Result<(), NoMemory> {
+    ) -> Result<(), NoMemory>
+        ensures { (talk : Talk) → Holds self.old talk → OnOk result (LeadsAnswer self.old talk indication out.old.items self.new out.new.items) }
+    {
         let setting = Setting {
             serial: self.stack.next_serial(),
             token: self.stack.token(),
@@ -176,10 +235,24 @@ impl Initiator {
     }
 
     /// A connection that the other end released without a word, and one that gave as much as it may.
-    fn look(&mut self) {
+    fn look(&mut self)
+        ensures { self.new ≡ record self.old { conduct = unless_spent self.old.octets (unless_ended (is_ended self.old.stack.exchange.ending) self.old.conduct) } }
+    {
+        self.look_at_end();
+        self.look_at_budget();
+    }
+
+    fn look_at_end(&mut self)
+        ensures { self.new ≡ record self.old { conduct = unless_ended (is_ended self.old.stack.exchange.ending) self.old.conduct } }
+    {
         if !self.conduct.is_over() && self.stack.ended() {
             self.conduct.end_out_of_place();
         }
+    }
+
+    fn look_at_budget(&mut self)
+        ensures { self.new ≡ record self.old { conduct = unless_spent self.old.octets self.old.conduct } }
+    {
         if !self.conduct.is_over() && self.octets >= BUDGET {
             self.conduct.end(Doing::Failed(TaskError::Budget));
         }
@@ -199,17 +272,48 @@ fn gathered_of(alloc: Global, plan: &Plan, kept: Option<&KeptTask>) -> Result<Ga
     }
 }
 
+/// Receives octets; which end it is, and whether it proposes sync, stays.
+fn feed(
+    stack: &mut Stack,
+    piece: &[u8],
+    told: &mut Vec<Indication>,
+    out: &mut Vec<u8>,
+) -> Result<(), NoMemory>
+    ensures received { (a : Association) → IsStackOf stack.old a → OnOk result (Feeds (octets_received (side_of stack.old) a piece.now) told.old.items out.old.items stack.new told.new.items out.new.items) }
+    ensures end { OnOk result (IsSameEnd stack.old stack.new) }
+{
+    stack.feed(piece, told, out)
+}
+
 /// Sends requests in their order, each where it may be sent.
 fn send_all(
     alloc: Global,
     stack: &mut Stack,
     requests: &[Request],
     out: &mut Vec<u8>,
-) -> Result<(), NoMemory> {
+) -> Result<(), NoMemory>
+    // Of every association that the stack represents.
+    ensures sent { (a : Association) → IsStackOf stack.old a → side_of stack.old ≡ sides.Initiator → OnOk result (Sends (AreSent (offer_of stack.old) a requests.now) out.old.items stack.new out.new.items) }
+    ensures end { IsSameEnd stack.old stack.new }
+{
     for request in requests {
-        if stack.may(request) {
-            stack.send(alloc, request, out)?;
-        }
+        send_one(alloc, stack, request, out)?;
     }
     Ok(())
+}
+
+/// Sends a request where it may be sent.
+fn send_one(
+    alloc: Global,
+    stack: &mut Stack,
+    request: &Request,
+    out: &mut Vec<u8>,
+) -> Result<(), NoMemory>
+    ensures sent { (a : Association) → IsStackOf stack.old a → side_of stack.old ≡ sides.Initiator → OnOk result (Sends (IsSent (offer_of stack.old) a request.now) out.old.items stack.new out.new.items) }
+    ensures end { IsSameEnd stack.old stack.new }
+{
+    if !stack.may(request) {
+        return Ok(());
+    }
+    stack.send(alloc, request, out)
 }
