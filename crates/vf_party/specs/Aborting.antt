@@ -10,8 +10,8 @@ use Rattle.vf_filestore.specs.Limits.{most_survivor_octets, most_survivors, most
 use Rattle.vf_filestore.specs.Units.{grouping_unit, has_checks}
 use Rattle.vf_party.specs.declared.quiet.Quiet.{Quiet}
 use Rattle.vf_party.specs.declared.quiet.Quiet.TheVariants as quiets
-use Rattle.vf_party_steps.specs.declared.reading.Reading.{Reading}
-use Rattle.vf_party_steps.specs.declared.writing.Writing.{Writing}
+use Rattle.vf_party_steps.specs.Movements.{Reading}
+use Rattle.vf_party_steps.specs.Movements.{Writing}
 use Rattle.vf_pdu.specs.declared.pdu.Pdu.{Pdu}
 use Rattle.vf_pdu.specs.declared.pdu.Pdu.TheVariants.{BeginGroupRequest, ReadRequest, WriteRequest, CancelRequest, RestartRequest}
 use Rattle.vf_transfer.specs.Checks.{offered}

@@ -123,6 +123,11 @@ pub record IsBegun (quiet : Quiet) (threshold : ℕ) (outcome : Outcome) : Type 
   pub says : outcome.said.items ≡ []
   pub differs : outcome.changes ≡ []
 
+-- without memory the party is given back
+abbrev pub Begins : Quiet → (threshold : ℕ) → Result Outcome (Party × NoMemory) → Type 0
+Begins quiet threshold (Ok outcome) = IsBegun quiet threshold outcome
+Begins quiet threshold (Err (back, error)) = back ≡ parties.Quiet quiet
+
 -- the association of an idle party is as its request's step has it
 abbrev pub Associates : (before after : HoldersOfFiles) → Result (Step Associated) (Idle × StepError) → Result Outcome (Party × NoMemory) → Type 0
 Associates mid new (Ok step) (Ok outcome) = IsOutcomeOf IsAssociated (λ associated. parties.Quiet (quiets.Associated associated)) mid new step outcome

@@ -20,7 +20,8 @@ use Rattle.vf_locks.specs.Table.{IsWith, held}
 use Rattle.vf_locks.specs.declared.holder.Holder.TheVariants.{Party, Docket}
 use Rattle.vf_pdu.specs.declared.pdu.Pdu.TheVariants.{RecoverResponse}
 use Rattle.vf_party_steps.specs.Dockets.{fields_with, no_transfer, own_changes}
-use Rattle.vf_party_steps.specs.Recoveries.{may_pass, open_by, refusal_in}
+use Rattle.vf_party_steps.specs.Leaving.{may_pass}
+use Rattle.vf_party_steps.specs.Recoveries.{open_by, refusal_in}
 use Rattle.vf_party_steps.specs.Represents.{IsAssociated, IsOpen, IsOpened}
 use Rattle.vf_party_steps.specs.Steps.{Concludes, HoldersOfFiles, StandsIn}
 use Rattle.vf_party_steps.specs.declared.states.Associated.{Associated}

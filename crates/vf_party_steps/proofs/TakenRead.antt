@@ -40,11 +40,12 @@ use Rattle.vf_pdu.specs.declared.pdu.Pdu.TheVariants.{RecoverResponse}
 use Rattle.vf_party_steps.specs.Dockets.{fields_with, own_changes}
 use Rattle.vf_party_steps.specs.Dues.{Says}
 use Rattle.vf_party_steps.specs.Reads.{IsReading, dues, read_at}
-use Rattle.vf_party_steps.specs.Recoveries.{again, changed_row_by, changed_row_in, is_numbered_in, may_pass, open_by, put_at, read_by, refusal_in, shown_as, shown_in}
+use Rattle.vf_party_steps.specs.Leaving.{may_pass}
+use Rattle.vf_party_steps.specs.Recoveries.{again, changed_row_by, changed_row_in, is_numbered_in, open_by, put_at, read_by, refusal_in, shown_as, shown_in}
 use Rattle.vf_party_steps.specs.Represents.{IsAssociated, association_of}
 use Rattle.vf_party_steps.specs.Steps.{Concludes, HoldersOfFiles, StandsIn}
 use Rattle.vf_party_steps.specs.declared.due.Due.{Due}
-use Rattle.vf_party_steps.specs.declared.reading.Reading.{Reading}
+use Rattle.vf_party_steps.specs.Movements.{Reading}
 use Rattle.vf_party_steps.specs.declared.states.Associated.{Associated}
 use Rattle.vf_party_steps.specs.declared.step.Step.{Step}
 use Rattle.vf_party_steps.proofs.FoundDockets.{IsFound, row_by}

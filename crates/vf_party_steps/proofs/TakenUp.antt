@@ -32,7 +32,8 @@ use Rattle.vf_locks.specs.declared.held.Held.{Held}
 use Rattle.vf_locks.specs.declared.holder.Holder.TheVariants.{Party, Docket}
 use Rattle.vf_pdu.specs.declared.pdu.Pdu.TheVariants.{RecoverRequest}
 use Rattle.vf_party_steps.specs.Dockets.{own_changes}
-use Rattle.vf_party_steps.specs.Recoveries.{changed_row_by, is_idle, is_numbered_in, may_pass, refusal_in, rows_of}
+use Rattle.vf_party_steps.specs.Leaving.{may_pass}
+use Rattle.vf_party_steps.specs.Recoveries.{changed_row_by, is_idle, is_numbered_in, refusal_in, rows_of}
 use Rattle.vf_party_steps.specs.Represents.{IsAssociated}
 use Rattle.vf_party_steps.specs.Steps.{HoldersOfFiles, StandsIn, history_by}
 use Rattle.vf_party_steps.specs.declared.states.Associated.{Associated}

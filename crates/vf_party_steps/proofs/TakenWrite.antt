@@ -33,13 +33,14 @@ use Rattle.vf_pdu.specs.declared.pdu.Pdu.TheVariants.{RecoverResponse}
 use Rattle.vf_pdu_fields.specs.declared.operation.WriteOperation.{WriteOperation}
 use Rattle.vf_pdu_fields.specs.declared.operation.WriteOperation.TheVariants as writes
 use Rattle.vf_party_steps.specs.Dockets.{fields_with, own_changes}
-use Rattle.vf_party_steps.specs.Recoveries.{IsFilled, cut_to, given_by, may_pass, open_by, refusal_in, write_by}
+use Rattle.vf_party_steps.specs.Leaving.{may_pass}
+use Rattle.vf_party_steps.specs.Recoveries.{IsFilled, cut_to, given_by, open_by, refusal_in, write_by}
 use Rattle.vf_party_steps.specs.Represents.{IsAssociated, IsOpened}
 use Rattle.vf_party_steps.specs.Steps.{Concludes, HoldersOfFiles, StandsIn}
 use Rattle.vf_party_steps.specs.Writes.{IsGivenAs, IsWriting, moving_of, rows_by}
 use Rattle.vf_party_steps.specs.declared.states.Associated.{Associated}
 use Rattle.vf_party_steps.specs.declared.step.Step.{Step}
-use Rattle.vf_party_steps.specs.declared.writing.Writing.{Writing}
+use Rattle.vf_party_steps.specs.Movements.{Writing}
 use Rattle.vf_party_steps.proofs.CutDockets.{cut_changes, cut_row, take_less}
 use Rattle.vf_party_steps.proofs.FoundDockets.{IsFound, row_by}
 use Rattle.vf_party_steps.proofs.Kept.{with_history}

@@ -5,6 +5,7 @@ pub mod Erasures
 pub mod Files
 pub mod Leaving
 pub mod Locations
+pub mod Movements
 pub mod Moving
 pub mod Openings
 pub mod Reads

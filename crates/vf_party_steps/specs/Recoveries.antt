@@ -134,10 +134,6 @@ open_by associated regime = record {
   regime = opened_in regime;
 }
 
--- THE HOLD: one holder stands on the file whose place the other, who doesn't, may take
-abbrev pub may_pass : HoldersOfFiles → (file : List ℕ) → (from to : Holder) → Bool
-may_pass locks file from to = is_some (controls_of from (held file locks)) && is_none (controls_of to (held file locks))
-
 -- A DOCKET IS TAKEN UP of which this is the row, and which nothing refuses.
 abbrev pub MeetsTaken : {New : Type 0} → Represents New → Tables → (before after : HoldersOfFiles)
     → State → StandingParty → Setting → Message → Result (Step New) Associated → Type 0

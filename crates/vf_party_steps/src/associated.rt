@@ -5,6 +5,7 @@ ghost use Rattle.vf_party_steps.specs.Steps.{IsStep};
 ghost use Rattle.vf_pdu.specs.PduNumbers.{number_of};
 
 use crate::holding::hold_selected;
+use crate::room::Room;
 use crate::{Associated, Selected, Step, StepError};
 use std::alloc::Global;
 use vf_base::{Moment, NoMemory};
@@ -54,6 +55,9 @@ impl Associated {
         if let Some(diagnostic) = refused {
             return Err((self, StepError::Refused(diagnostic)));
         }
+        let Ok(selection) = Room::new(alloc, selection) else {
+            return Err((self, StepError::NoMemory));
+        };
         let answer = Pdu::SelectResponse { diagnostic: None };
         let Ok(said) = hold_selected(alloc, &self, &selection, answer, locks) else {
             return Err((self, StepError::NoMemory));

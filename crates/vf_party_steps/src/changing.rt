@@ -140,7 +140,7 @@ fn with_name(mut state: Selected, name: Option<Name>) -> Selected
     ensures { result ≡ named_as name state }
 {
     if let Some(name) = name {
-        state.selection.file = name;
+        state.selection.kept.file = name;
     }
     state
 }

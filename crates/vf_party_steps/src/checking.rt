@@ -31,20 +31,21 @@ impl Writing {
         ensures kept { IfErr result (λ back. back.0 ≡ self) }
         ensures memory { IfErr result (λ back. back.1 ≡ StepError.NoMemory) }
     {
-        let point = self.received.point();
+        let point = self.write.received.point();
         let Some(next) = point.checked_add(1) else {
             return Err((self, StepError::NoMemory));
         };
         let Ok(fields) = self.fields_at(alloc, next) else {
             return Err((self, StepError::NoMemory));
         };
-        let Ok(changes) = stage_docket(alloc, fields, point, self.received.since_check()) else {
+        let Ok(changes) = stage_docket(alloc, fields, point, self.write.received.since_check())
+        else {
             return Err((self, StepError::NoMemory));
         };
         let Ok(said) = one_said(alloc, Said::Acknowledge { point: next }) else {
             return Err((self, StepError::NoMemory));
         };
-        let Ok(()) = self.received.check() else {
+        let Ok(()) = self.write.received.check() else {
             return Err((self, StepError::NoMemory));
         };
         Ok(Step {
@@ -111,14 +112,14 @@ impl Writing {
         let Ok(said) = one_said(alloc, Said::Pdu(Pdu::RestartResponse { point })) else {
             return Err((self, StepError::NoMemory));
         };
-        let Ok(octets) = self.received.octets_before(point) else {
+        let Ok(octets) = self.write.received.octets_before(point) else {
             return Err((self, StepError::NoMemory));
         };
-        let Ok(()) = self.received.restart(point) else {
+        let Ok(()) = self.write.received.restart(point) else {
             return Err((self, StepError::NoMemory));
         };
-        self.octets = octets;
-        self.ended = None;
+        self.write.octets = octets;
+        self.write.ended = None;
         Ok(Step {
             state: self,
             said,
@@ -130,7 +131,7 @@ impl Writing {
     fn restart_changes(&self, alloc: Global, point: u32) -> Result<Changes, NoMemory>
         ensures { IfOk result (λ changes. changes ≡ restarted_docket (fields_at self.now point) (offered self.now.received.checks) point) }
     {
-        let stood = self.received.point();
+        let stood = self.write.received.point();
         let changes = Changes::new(alloc);
         if stood <= point {
             return Ok(changes);

@@ -1,6 +1,7 @@
 //! Copies of typed states, which share their octets: what is tried on a copy leaves the party as it was.
 ghost use Rattle.std.specs.Prelude.{◌≡◌, IfOk};
 
+use crate::room::Room;
 use crate::states::OpenRegime;
 use crate::{Associated, Open, Selected};
 use std::alloc::Global;
@@ -13,14 +14,14 @@ impl Associated {
         ensures { IfOk result (λ made. made ≡ self.now) }
     {
         let identity = self.association.identity.copy(alloc)?;
-        Ok(Associated {
-            association: Association {
-                link: self.association.link,
-                identity,
-                units: self.association.units,
-                window: self.association.window,
-            },
-        })
+        let association = Association {
+            link: self.association.link,
+            identity,
+            units: self.association.units,
+            window: self.association.window,
+        };
+        let association = Room::new(alloc, association)?;
+        Ok(Associated { association })
     }
 }
 
@@ -31,6 +32,7 @@ impl Selected {
     {
         let associated = self.associated.copy(alloc)?;
         let selection = copy_selection(alloc, &self.selection)?;
+        let selection = Room::new(alloc, selection)?;
         Ok(Selected {
             associated,
             selection,
@@ -44,10 +46,8 @@ impl Open {
         ensures { IfOk result (λ made. made ≡ self.now) }
     {
         let selected = self.selected.copy(alloc)?;
-        Ok(Open {
-            selected,
-            regime: same_regime(&self.regime),
-        })
+        let regime = Room::new(alloc, same_regime(&self.regime))?;
+        Ok(Open { selected, regime })
     }
 }
 

@@ -6,6 +6,7 @@ ghost use Rattle.vf_party_steps.specs.Steps.{IsStep};
 ghost use Rattle.vf_pdu.specs.PduNumbers.{number_of};
 
 use crate::holding::hold_selected;
+use crate::room::Room;
 use crate::step::one_change;
 use crate::{Associated, Selected, Step, StepError};
 use std::alloc::Global;
@@ -83,6 +84,9 @@ impl Associated {
         let changes = match made {
             Ok(changes) => changes,
             Err(diagnostic) => return Err((self, StepError::Refused(diagnostic))),
+        };
+        let Ok(selection) = Room::new(alloc, selection) else {
+            return Err((self, StepError::NoMemory));
         };
         let answer = Pdu::CreateResponse { diagnostic: None };
         let Ok(said) = hold_selected(alloc, &self, &selection, answer, locks) else {

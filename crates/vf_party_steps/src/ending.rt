@@ -122,13 +122,13 @@ impl Writing {
     fn ended_by(&self, alloc: Global, files: &Files, moment: Moment) -> Result<Ending, NoMemory>
         ensures { IfOk result (λ ending. ending_of ending ≡ ending_by files.now (stamp_by self.now.regimes.selected.associated.association moment) self.now self.now.received.values) }
     {
-        if let vf_regime_effects::Writing::Refused { number, .. } = self.given {
+        if let vf_regime_effects::Writing::Refused { number, .. } = self.write.given {
             return Ok(Ending::refused_by(plain(number)));
         }
-        if let Some(Some(_)) = self.ended {
+        if let Some(Some(_)) = self.write.ended {
             return Ok(Ending::refused_by(plain(CANCELLED)));
         }
-        let ending = self.performed(alloc, files, moment, self.received.values())?;
+        let ending = self.performed(alloc, files, moment, self.write.received.values())?;
         Ok(ending)
     }
 
@@ -136,13 +136,13 @@ impl Writing {
     fn cancelled_by(&self, alloc: Global, files: &Files, moment: Moment) -> Result<Ending, NoMemory>
         ensures { IfOk result (λ ending. IsCancel files.now (stamp_by self.now.regimes.selected.associated.association moment) self.now ending) }
     {
-        if let vf_regime_effects::Writing::Refused { .. } = self.given {
+        if let vf_regime_effects::Writing::Refused { .. } = self.write.given {
             return Ok(Ending::unchanged());
         }
-        if self.received.point() == 0 {
+        if self.write.received.point() == 0 {
             return Ok(Ending::unchanged());
         }
-        let ending = self.performed(alloc, files, moment, self.received.front())?;
+        let ending = self.performed(alloc, files, moment, self.write.received.front())?;
         Ok(ending.in_silence())
     }
 
@@ -164,8 +164,8 @@ impl Writing {
             .identity
             .copy(alloc)?;
         let write = Write {
-            operation: self.operation,
-            fadu: self.fadu,
+            operation: self.write.operation,
+            fadu: self.write.fadu,
             position: self.regimes.regime.position,
         };
         let name = &self.regimes.selected.selection.file;
@@ -195,7 +195,7 @@ impl Writing {
         let before = selected(files, &self.regimes.selected.selection.file);
         let changes = changes_of(alloc, before, file)?;
         let fields = fields_after(alloc, &self.regimes, position, last)?;
-        let changes = cut_docket(alloc, changes, fields, self.received.point(), 0)?;
+        let changes = cut_docket(alloc, changes, fields, self.write.received.point(), 0)?;
         Ok(changes)
     }
 }
@@ -222,10 +222,7 @@ fn after(regimes: Open, position: Option<u32>, done: u32, last: u16) -> Open
         done,
         last,
     };
-    Open {
-        selected: regimes.selected,
-        regime,
-    }
+    regimes.with(regime)
 }
 
 /// The fields of the docket of the open after such a transfer.

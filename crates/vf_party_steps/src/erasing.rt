@@ -15,8 +15,7 @@ ghost use Rattle.vf_tree.specs.Acts.{Erases, does};
 
 use crate::files::file_change;
 use crate::locating::has_access;
-use crate::positions::position_changes;
-use crate::states::OpenRegime;
+use crate::regimes::{placed, position_changes};
 use crate::step::{followed_by, one_said};
 use crate::{Open, Said, Step, StepError};
 use std::alloc::Global;
@@ -82,15 +81,9 @@ impl Open {
         let Ok(said) = one_said(alloc, Said::Pdu(Pdu::EraseResponse { diagnostic: None })) else {
             return Err((self, StepError::NoMemory));
         };
-        let state = Open {
-            selected: self.selected,
-            regime: OpenRegime {
-                position,
-                ..self.regime
-            },
-        };
+        let regime = placed(&self.regime, position);
         Ok(Step {
-            state,
+            state: self.with(regime),
             said,
             changes,
         })

@@ -63,7 +63,7 @@ impl Writing {
 fn leave(selected: Selected, activity: Option<u32>, locks: &mut Locks)
     ensures { LeavesFile selected activity locks.old locks.new }
 {
-    let association = selected.associated.association;
+    let association = selected.associated.association.into_value();
     let party = Holder::Party {
         link: association.link,
     };

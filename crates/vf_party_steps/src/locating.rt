@@ -7,8 +7,7 @@ ghost use Rattle.vf_party_steps.specs.Represents.{IsOpen};
 ghost use Rattle.vf_party_steps.specs.Steps.{IsStep};
 ghost use Rattle.vf_pdu.specs.PduNumbers.{number_of};
 
-use crate::positions::position_changes;
-use crate::states::OpenRegime;
+use crate::regimes::{placed, position_changes};
 use crate::step::one_said;
 use crate::{Open, Said, Step, StepError};
 use std::alloc::Global;
@@ -73,15 +72,9 @@ impl Open {
         let Ok(changes) = position_changes(alloc, &self, position) else {
             return Err((self, StepError::NoMemory));
         };
-        let state = Open {
-            selected: self.selected,
-            regime: OpenRegime {
-                position,
-                ..self.regime
-            },
-        };
+        let regime = placed(&self.regime, position);
         Ok(Step {
-            state,
+            state: self.with(regime),
             said,
             changes,
         })

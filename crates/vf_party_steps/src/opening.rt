@@ -10,6 +10,7 @@ ghost use Rattle.vf_pdu.specs.PduNumbers.{number_of};
 ghost use Rattle.vf_pdu.specs.declared.pdu.Pdu.TheVariants as pdus;
 
 use crate::dockets::{Underway, fields_of};
+use crate::room::Room;
 use crate::states::OpenRegime;
 use crate::step::{one_change, one_said};
 use crate::{Open, Said, Selected, Step, StepError};
@@ -71,16 +72,20 @@ impl Selected {
         let Ok(said) = answered(alloc, &tables.files, &self.selection.file) else {
             return Err((self, StepError::NoMemory));
         };
+        let regime = OpenRegime {
+            mode,
+            controls: opening.controls,
+            activity,
+            position: 0,
+            done: 0,
+            last: 0,
+        };
+        let Ok(regime) = Room::new(alloc, regime) else {
+            return Err((self, StepError::NoMemory));
+        };
         let state = Open {
             selected: self,
-            regime: OpenRegime {
-                mode,
-                controls: opening.controls,
-                activity,
-                position: 0,
-                done: 0,
-                last: 0,
-            },
+            regime,
         };
         let Ok(changes) = docket_put(alloc, &state) else {
             return Err((state.selected, StepError::NoMemory));

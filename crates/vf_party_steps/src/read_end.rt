@@ -51,7 +51,7 @@ impl Reading {
         let Pdu::TransferEndRequest = request else {
             unreachable!()
         };
-        let diagnostic = refusal_of(&self.given);
+        let diagnostic = refusal_of(&self.read.given);
         let Ok(said) = one_said(alloc, Said::Pdu(Pdu::TransferEndResponse { diagnostic })) else {
             return Err((self, StepError::NoMemory));
         };
@@ -61,12 +61,8 @@ impl Reading {
         let Ok(changes) = self.ended(alloc, moment, &tables.files, &regime) else {
             return Err((self, StepError::NoMemory));
         };
-        let state = Open {
-            selected: self.opened.selected,
-            regime,
-        };
         Ok(Step {
-            state,
+            state: self.opened.with(regime),
             said,
             changes,
         })
@@ -103,12 +99,8 @@ impl Reading {
         let Ok(changes) = self.ended(alloc, moment, &tables.files, &regime) else {
             return Err((self, StepError::NoMemory));
         };
-        let state = Open {
-            selected: self.opened.selected,
-            regime,
-        };
         Ok(Step {
-            state,
+            state: self.opened.with(regime),
             said,
             changes,
         })
@@ -140,7 +132,7 @@ impl Reading {
     ) -> Result<Changes, NoMemory>
         ensures { IfOk result (λ changes. changes ≡ ended_changes self.now moment files.now) }
     {
-        if refusal_of(&self.given).is_some() {
+        if refusal_of(&self.read.given).is_some() {
             return Ok(Changes::new(alloc));
         }
         let selection = &self.opened.selected.selection;

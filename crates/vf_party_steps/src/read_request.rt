@@ -11,7 +11,7 @@ ghost use Rattle.vf_regime_effects.specs.Meanings.{given_of_reading};
 
 use crate::dockets::Underway;
 use crate::due::Due;
-use crate::reading::read_at;
+use crate::reading::{Read, read_at};
 use crate::regimes::{changed, placed};
 use crate::{Open, Reading, Step, StepError};
 use std::alloc::Global;
@@ -63,11 +63,7 @@ impl Open {
         let Ok(changes) = changed(alloc, &self, Underway::none(), &regime, is) else {
             return Err((self, StepError::NoMemory));
         };
-        let state = Reading {
-            opened: Open {
-                selected: self.selected,
-                regime,
-            },
+        let read = Read {
             fadu,
             context,
             given,
@@ -75,6 +71,13 @@ impl Open {
             point: 0,
             start: 0,
             shown,
+        };
+        let Ok(read) = Box::new(alloc, read) else {
+            return Err((self, StepError::NoMemory));
+        };
+        let state = Reading {
+            opened: self.with(regime),
+            read,
         };
         Ok(Step {
             state,

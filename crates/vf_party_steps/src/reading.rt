@@ -12,6 +12,7 @@ use crate::regimes::changed;
 use crate::step::one_said;
 use crate::{Open, Said, Step, StepError};
 use std::alloc::Global;
+use std::marker::Model;
 use vf_base::{Context, FaduId, Moment, NoMemory};
 use vf_elements::Stage;
 use vf_locks::Locks;
@@ -24,6 +25,12 @@ use vf_tables::{Changes, Direction, Tables};
 #[derive(Drop)]
 pub struct Reading {
     pub(crate) opened: Open,
+    pub(crate) read: Box<Read>,
+}
+
+/// What is kept of a read beside its open, on the heap: a state is the smaller by it.
+#[derive(Drop)]
+pub(crate) struct Read {
     pub(crate) fadu: FaduId,
     pub(crate) context: Context,
     /// What its request was given. The position is that of the open.
@@ -38,12 +45,20 @@ pub struct Reading {
     pub(crate) shown: bool,
 }
 
+impl Model for Reading {
+    ghost use Rattle.vf_party_steps.specs.Movements.{Reading as ReadingMeant};
+
+    ghost Value = { ReadingMeant };
+
+    ghost view = { λ reading. record { opened = reading.opened; fadu = reading.read.value.fadu; context = reading.read.value.context; given = reading.read.value.given; check = reading.read.value.check; point = reading.read.value.point; start = reading.read.value.start; shown = reading.read.value.shown } };
+}
+
 impl Reading {
     /// The stage of the party (ISO 8571-4): its transfer may end once the end of the values was said.
     pub fn stage(&self) -> Stage
         ensures { result ≡ stage_of self.now }
     {
-        if self.shown {
+        if self.read.shown {
             return Stage::Shown;
         }
         Stage::Reading
@@ -59,7 +74,7 @@ impl Reading {
     pub fn check_number(&self) -> u32
         ensures { result ≡ self.now.check }
     {
-        self.check
+        self.read.check
     }
 
     /// Whether this check stands and isn't before the last recovery, or is the point of that: an acknowledgement and a
@@ -67,7 +82,7 @@ impl Reading {
     pub fn is_known(&self, check: u32) -> bool
         ensures { result ≡ knows check self.now }
     {
-        self.start <= check && check <= self.check
+        self.read.start <= check && check <= self.read.check
     }
 
     /// Takes the acknowledgement of a check, and so of each one before it (ISO 8571-3, F-CHECK): the party is sent what is
@@ -87,11 +102,11 @@ impl Reading {
         ensures kept { IfErr result (λ back. back.0 ≡ self) }
         ensures memory { IfErr result (λ back. back.1 ≡ StepError.NoMemory) }
     {
-        let point = point.max(self.point);
+        let point = point.max(self.read.point);
         let mut due = Due {
             said: Vec::new(alloc),
-            check: self.check,
-            unacknowledged: self.check.saturating_sub(point),
+            check: self.read.check,
+            unacknowledged: self.read.check.saturating_sub(point),
             serial: u64::from(serial),
         };
         let Ok(shown) = self.say_more(alloc, &mut due) else {
@@ -101,9 +116,9 @@ impl Reading {
             return Err((self, StepError::NoMemory));
         };
         let mut state = self;
-        state.check = due.check;
-        state.point = point;
-        state.shown = shown;
+        state.read.check = due.check;
+        state.read.point = point;
+        state.read.shown = shown;
         Ok(Step {
             state,
             said: due.said,
@@ -133,25 +148,27 @@ impl Reading {
         let Ok(said) = one_said(alloc, Said::Pdu(Pdu::RestartResponse { point })) else {
             return Err((self, StepError::NoMemory));
         };
-        let check = point.min(self.check);
-        let acknowledged = point.min(self.point);
+        let check = point.min(self.read.check);
+        let acknowledged = point.min(self.read.point);
         let mut due = Due {
             said,
             check,
             unacknowledged: check.saturating_sub(acknowledged),
-            serial: (u64::from(serial) + u64::from(point)).saturating_sub(u64::from(self.check)),
+            serial: (u64::from(serial) + u64::from(point)).saturating_sub(u64::from(
+                self.read.check,
+            )),
         };
         let association = &self.opened.selected.associated.association;
-        let Ok(shown) = due.say(alloc, association, &self.given) else {
+        let Ok(shown) = due.say(alloc, association, &self.read.given) else {
             return Err((self, StepError::NoMemory));
         };
         let Ok(changes) = self.changed_to(alloc, acknowledged) else {
             return Err((self, StepError::NoMemory));
         };
         let mut state = self;
-        state.check = due.check;
-        state.point = acknowledged;
-        state.shown = shown;
+        state.read.check = due.check;
+        state.read.point = acknowledged;
+        state.read.shown = shown;
         Ok(Step {
             state,
             said: due.said,
@@ -163,11 +180,11 @@ impl Reading {
     fn say_more(&self, alloc: Global, due: &mut Due) -> Result<bool, NoMemory>
         ensures { IfOk result (λ shown. Says self.now.shown (if self.now.shown then [] else dues self.now.opened.selected.associated.association self.now.given due.old) due.old due.new shown) }
     {
-        if self.shown {
+        if self.read.shown {
             return Ok(true);
         }
         let association = &self.opened.selected.associated.association;
-        let shown = due.say(alloc, association, &self.given)?;
+        let shown = due.say(alloc, association, &self.read.given)?;
         Ok(shown)
     }
 
@@ -175,14 +192,19 @@ impl Reading {
     pub(crate) fn moving(&self) -> Underway
         ensures { result ≡ moving_of self.now }
     {
-        read_at(self.fadu, self.context, &self.given, self.point)
+        read_at(
+            self.read.fadu,
+            self.read.context,
+            &self.read.given,
+            self.read.point,
+        )
     }
 
     /// The changes of its docket by which this check is the last that is acknowledged.
     fn changed_to(&self, alloc: Global, point: u32) -> Result<Changes, NoMemory>
         ensures { IfOk result (λ changes. changes ≡ docket_changes self.now.opened (moving_of self.now) self.now.opened.regime (read_at_meant self.now.fadu self.now.context self.now.given point)) }
     {
-        let is = read_at(self.fadu, self.context, &self.given, point);
+        let is = read_at(self.read.fadu, self.read.context, &self.read.given, point);
         let regime = &self.opened.regime;
         let changes = changed(alloc, &self.opened, self.moving(), regime, is)?;
         Ok(changes)

@@ -1,6 +1,7 @@
 //! What an open regime becomes by a transfer in it, and the changes of its docket by which it does.
-ghost use Rattle.std.specs.Prelude.{◌≡◌, ◌+◌, IfOk};
-ghost use Rattle.vf_party_steps.specs.Dockets.{fields_of as fields_meant};
+ghost use Rattle.std.specs.Prelude.{◌≡◌, ◌+◌, [], IfOk};
+ghost use Rattle.vf_party_steps.specs.Dockets.{docket_with, fields_of as fields_meant, no_transfer, own_changes};
+ghost use Rattle.vf_party_steps.specs.Locations.{at_position};
 ghost use Rattle.vf_party_steps.specs.Regimes.{docket_changes, with_regime};
 
 use crate::Open;
@@ -54,6 +55,21 @@ pub(crate) fn changed(
     let before = fields_of(alloc, regimes, was)?;
     let after = fields_after(alloc, regimes, regime, is)?;
     let changes = field_changes(alloc, before, after)?;
+    Ok(changes)
+}
+
+/// What changes where an open in which no transfer is under way has another position, in units: its docket, where it is
+/// recoverable.
+pub(crate) fn position_changes(
+    alloc: Global,
+    regimes: &Open,
+    position: u32,
+) -> Result<Changes, NoMemory>
+    ensures { IfOk result (λ changes. changes ≡ own_changes (docket_with (fields_meant regimes.now no_transfer) []) (docket_with (fields_meant (at_position position regimes.now) no_transfer) [])) }
+{
+    let none = Underway::none();
+    let regime = placed(&regimes.regime, position);
+    let changes = changed(alloc, regimes, none, &regime, none)?;
     Ok(changes)
 }
 

@@ -1,5 +1,6 @@
 ghost use Rattle.std.specs.Prelude.{◌≡◌};
 
+use crate::room::Room;
 use vf_base::Actions;
 use vf_pdu_fields::ContentControls;
 use vf_regime_refusals::{Association, Selection};
@@ -7,21 +8,21 @@ use vf_regime_refusals::{Association, Selection};
 /// A party with an association and no selected file.
 #[derive(Drop)]
 pub struct Associated {
-    pub(crate) association: Association,
+    pub(crate) association: Room<Association>,
 }
 
 /// A party with a selected file that isn't open.
 #[derive(Drop)]
 pub struct Selected {
     pub(crate) associated: Associated,
-    pub(crate) selection: Selection,
+    pub(crate) selection: Room<Selection>,
 }
 
 /// A party with an open file, in which no transfer is under way.
 #[derive(Drop)]
 pub struct Open {
     pub(crate) selected: Selected,
-    pub(crate) regime: OpenRegime,
+    pub(crate) regime: Room<OpenRegime>,
 }
 
 /// What is kept of an open regime beside its selection (ISO 8571-3, F-OPEN).
@@ -56,6 +57,15 @@ impl Selected {
 }
 
 impl Open {
+    /// The same selection, opened so.
+    pub(crate) fn with(self, regime: OpenRegime) -> Open
+        ensures { result ≡ record self { regime = regime } }
+    {
+        let mut state = self;
+        let _before = state.regime.replace(regime);
+        state
+    }
+
     pub fn association(&self) -> &Association
         ensures { result.now ≡ self.now.selected.associated.association }
     {

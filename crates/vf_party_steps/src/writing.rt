@@ -14,6 +14,7 @@ use crate::received::Received;
 use crate::step::one_change;
 use crate::{Open, Step, StepError};
 use std::alloc::Global;
+use std::marker::Model;
 use vf_base::{Diagnostic, Element, FaduId, Moment, NoMemory};
 use vf_elements::Stage;
 use vf_locks::Locks;
@@ -28,6 +29,12 @@ use vf_tree::octets_of;
 #[derive(Drop)]
 pub struct Writing {
     pub(crate) regimes: Open,
+    pub(crate) write: Box<Written>,
+}
+
+/// What is kept of a write beside its open, on the heap: a state is the smaller by it.
+#[derive(Drop)]
+pub(crate) struct Written {
     pub(crate) operation: WriteOperation,
     pub(crate) fadu: FaduId,
     /// What its request was given.
@@ -39,6 +46,14 @@ pub struct Writing {
     pub(crate) start: u32,
     /// The end of the values, with the initiator's diagnostic.
     pub(crate) ended: Option<Option<Diagnostic>>,
+}
+
+impl Model for Writing {
+    ghost use Rattle.vf_party_steps.specs.Movements.{Writing as WritingMeant};
+
+    ghost Value = { WritingMeant };
+
+    ghost view = { λ writing. record { regimes = writing.regimes; operation = writing.write.value.operation; fadu = writing.write.value.fadu; given = writing.write.value.given; received = writing.write.value.received; octets = writing.write.value.octets; start = writing.write.value.start; ended = writing.write.value.ended } };
 }
 
 impl Open {
@@ -78,8 +93,7 @@ impl Open {
         let Ok(changes) = put_docket(alloc, fields) else {
             return Err((self, StepError::NoMemory));
         };
-        let state = Writing {
-            regimes: self,
+        let written = Written {
             operation,
             fadu,
             given,
@@ -87,6 +101,13 @@ impl Open {
             octets: 0,
             start: 0,
             ended: None,
+        };
+        let Ok(write) = Box::new(alloc, written) else {
+            return Err((self, StepError::NoMemory));
+        };
+        let state = Writing {
+            regimes: self,
+            write,
         };
         Ok(Step {
             state,
@@ -101,7 +122,7 @@ impl Writing {
     pub fn stage(&self) -> Stage
         ensures { result ≡ stage_of_writing self.now }
     {
-        if self.ended.is_some() {
+        if self.write.ended.is_some() {
             return Stage::Written;
         }
         Stage::Writing
@@ -117,28 +138,28 @@ impl Writing {
     pub fn check_number(&self) -> u32
         ensures { result ≡ offered self.now.received.checks }
     {
-        self.received.point()
+        self.write.received.point()
     }
 
     /// Whether this check stands and isn't before the last recovery, or is the point of that: a restart names no other.
     pub fn is_known(&self, check: u32) -> bool
         ensures { result ≡ (nat_le self.now.start check && nat_le check (offered self.now.received.checks)) }
     {
-        self.start <= check && check <= self.received.point()
+        self.write.start <= check && check <= self.write.received.point()
     }
 
     /// The values that stand.
     pub fn values(&self) -> &[Element]
         ensures { result.now ≡ self.now.received.values }
     {
-        self.received.values()
+        self.write.received.values()
     }
 
     /// The octets of the strings of all values that stand.
     pub fn octets(&self) -> u64
         ensures { result ≡ self.now.octets }
     {
-        self.octets
+        self.write.octets
     }
 
     /// Takes an element (ISO 8571-3, F-DATA), to which nothing is said: it is the next value. One with which their octets
@@ -159,13 +180,13 @@ impl Writing {
         ensures kept { IfErr result (λ back. back.0 ≡ self) }
         ensures memory { IfErr result (λ back. back.1 ≡ StepError.NoMemory) }
     {
-        let Some(octets) = self.octets.checked_add(octets_of(&element)) else {
+        let Some(octets) = self.write.octets.checked_add(octets_of(&element)) else {
             return Err((self, StepError::NoMemory));
         };
-        let Ok(()) = self.received.value(element) else {
+        let Ok(()) = self.write.received.value(element) else {
             return Err((self, StepError::NoMemory));
         };
-        self.octets = octets;
+        self.write.octets = octets;
         Ok(Step {
             state: self,
             said: Vec::new(alloc),
@@ -194,7 +215,7 @@ impl Writing {
         let Pdu::DataEnd { diagnostic } = request else {
             unreachable!()
         };
-        self.ended = Some(diagnostic);
+        self.write.ended = Some(diagnostic);
         Ok(Step {
             state: self,
             said: Vec::new(alloc),
@@ -206,7 +227,12 @@ impl Writing {
     pub(crate) fn fields_at(&self, alloc: Global, point: u32) -> Result<Option<Regime>, NoMemory>
         ensures { IfOk result (λ fields. fields ≡ fields_at self.now point) }
     {
-        let moving = moving(self.operation, self.fadu, self.given, point);
+        let moving = moving(
+            self.write.operation,
+            self.write.fadu,
+            self.write.given,
+            point,
+        );
         let fields = fields_of(alloc, &self.regimes, moving)?;
         Ok(fields)
     }

@@ -2,7 +2,7 @@
 ghost use Rattle.std.specs.Prelude.{◌≡◌, IfOk};
 ghost use Rattle.vf_pdu.specs.PduNumbers.{number_of};
 
-use crate::steps::associated;
+use crate::steps::{associated, create_request};
 use std::alloc::Global;
 use std::test::Fail;
 use vf_base::{Actions, BaseError, Contents, FaduId, Moment, Name, Oid, Sequence};
@@ -11,34 +11,10 @@ use vf_party_steps::{Open, Selected};
 use vf_pdu::Pdu;
 use vf_tables::Tables;
 
-/// The request of a sequential text file `b`, for every action.
-fn create_request(alloc: Global) -> Result<Pdu, BaseError>
-    ensures { IfOk result (λ request. number_of request ≡ 10) }
-{
-    let name = Name::of(alloc, b"b")?;
-    let kind = Oid::of(alloc, &[1, 0, 8571, 5, 2])?;
-    let contents = Contents {
-        kind,
-        class: 25,
-        longest: 0,
-        significance: 0,
-    };
-    Ok(Pdu::CreateRequest {
-        over: 0,
-        name,
-        contents,
-        permitted: Actions { value: 255 },
-        terms: Sequence::new(alloc),
-        requested: Actions { value: 255 },
-        controls: None,
-        password: None,
-    })
-}
-
 /// What the creation of `b` leaves.
 fn created(alloc: Global, tables: &mut Tables, locks: &mut Locks) -> Result<Selected, Fail> {
     let associated = associated(alloc, locks)?.state;
-    let request = create_request(alloc)?;
+    let request = create_request(alloc, b"b", 2)?;
     let moment = Moment::of(7)?;
     match associated.create(alloc, request, moment, 1, false, true, tables, locks) {
         Ok(step) => {

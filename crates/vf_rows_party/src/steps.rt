@@ -26,12 +26,12 @@ pub(crate) fn associated(alloc: Global, locks: &mut Locks) -> Result<Step<Associ
     }
 }
 
-/// The request of an unstructured binary file `a`, for every action.
-fn create_request(alloc: Global) -> Result<Pdu, BaseError>
+/// The request of a file of this name and of this kind, as FTAM-2 or FTAM-3, for every action.
+pub(crate) fn create_request(alloc: Global, name: &[u8], kind: u32) -> Result<Pdu, BaseError>
     ensures { IfOk result (λ request. number_of request ≡ 10) }
 {
-    let name = Name::of(alloc, b"a")?;
-    let kind = Oid::of(alloc, &[1, 0, 8571, 5, 3])?;
+    let name = Name::of(alloc, name)?;
+    let kind = Oid::of(alloc, &[1, 0, 8571, 5, kind])?;
     let contents = Contents {
         kind,
         class: 25,
@@ -53,7 +53,7 @@ fn create_request(alloc: Global) -> Result<Pdu, BaseError>
 /// What the creation of `a` in an empty filestore leaves.
 pub(crate) fn created(alloc: Global, locks: &mut Locks) -> Result<Step<Selected>, Fail> {
     let associated = associated(alloc, locks)?.state;
-    let request = create_request(alloc)?;
+    let request = create_request(alloc, b"a", 3)?;
     let moment = Moment::of(7)?;
     let tables = Tables::new(alloc);
     let answer = associated.create(alloc, request, moment, 1, false, false, &tables, locks);

@@ -3,7 +3,7 @@ use Rattle.std.proofs.lemmas.List.{take_all}
 use Rattle.vf_base.specs.declared.element.Element.{Element}
 use Rattle.vf_party_steps.specs.Recoveries.{IsFilled}
 use Rattle.vf_party_steps.proofs.Refilled.{with_check}
-use Rattle.vf_party_steps.proofs.recovering.take_piece.Goals as goal
+use Rattle.vf_party_steps.proofs.recovered_write.take_piece.Goals as goal
 
 pub returns : goal.returns
 returns c = λ pieces filled.
