@@ -121,10 +121,13 @@ fn between(alloc: Global, said: Vec<Said>) -> Result<Vec<Said>, NoMemory>
     Ok(all)
 }
 
-/// The changes, where they lead to other tables.
+/// The changes, where they lead to other tables: of none that is known without a look at them.
 fn unless_same(alloc: Global, before: &Tables, after: &Tables, changes: Changes) -> Changes
     ensures { result ≡ unless_same_meant before.now after.now changes }
 {
+    if changes.as_slice().is_empty() {
+        return changes;
+    }
     if are_same(before, after) {
         return Changes::new(alloc);
     }
