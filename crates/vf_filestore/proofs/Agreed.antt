@@ -18,11 +18,6 @@ use Rattle.vf_doctype.specs.declared.doc_type.DocType.{DocType}
 use Rattle.vf_elements.specs.Stages.{takes}
 use Rattle.vf_elements.specs.declared.message.Message.{Message}
 use Rattle.vf_elements.specs.declared.message.Message.TheVariants as messages
-use Rattle.vf_files.specs.Files.{file_named}
-use Rattle.vf_files.specs.Rows.{access_row, includes, made, modes, unit_row}
-use Rattle.vf_files.specs.declared.creation.NewFile.{NewFile}
-use Rattle.vf_files.specs.declared.limits.TheConstants.{MOST_FILES}
-use Rattle.vf_files.proofs.Deltas.{found_name}
 use Rattle.vf_locks.specs.Clash.{against, conflict, first_against, lowest_clash}
 use Rattle.vf_locks.specs.Holders.{is_same, others}
 use Rattle.vf_locks.specs.declared.held.Held.{Held}
@@ -32,26 +27,30 @@ use Rattle.vf_pdu.specs.declared.pdu.Pdu.{Pdu}
 use Rattle.vf_pdu.specs.declared.pdu.Pdu.TheVariants.{SelectRequest, CreateRequest, DeselectRequest, DeleteRequest, ChangeAttribRequest, OpenRequest, CloseRequest, RecoverRequest}
 use Rattle.vf_pdu_fields.specs.declared.controls.AttributeControls.{AttributeControls}
 use Rattle.vf_pdu_fields.specs.declared.controls.ContentControls.{ContentControls}
+use Rattle.vf_tables.specs.Validity.{includes, modes}
+use Rattle.vf_tables.specs.declared.limits.TheConstants.{MOST_FILES}
 use Rattle.vf_filestore.specs.Aborts.{Setting}
 use Rattle.vf_filestore.specs.Conclusion.{concluding_entry, dockets_after, history_of, taken_up}
 use Rattle.vf_filestore.specs.Controls.{attribute_controls, attributes_usable, content_controls, contents_usable, joined, not_opened}
 use Rattle.vf_filestore.specs.Decision.{Grants, made_unless, open_decision, opened_by, opening_rows, request_decision, units_for, wanted_by}
 use Rattle.vf_filestore.specs.Diagnostics.{attribute_unsupported, contents_mismatch, first_row, name_exists, not_permitted, outside_constraint_set, row, store_full}
 use Rattle.vf_filestore.specs.Ending.{stamp_of}
+use Rattle.vf_filestore.specs.Files.{file_named, made}
 use Rattle.vf_filestore.specs.History.{Given, Nothing, History, Regime, Selection, regime, renamed, selection}
 use Rattle.vf_filestore.specs.Holders.{clash_row, controls_by, held_by, held_by_docket, held_by_party, held_files, held_in, holders, opened_controls}
 use Rattle.vf_filestore.specs.Opening.{activity_rows, is_mismatch}
-use Rattle.vf_filestore.specs.Selecting.{Wanted, create_by, create_rows, is_taken, rename_row, rows_on, select_rows, selection_rows, typed_rows}
+use Rattle.vf_filestore.specs.Selecting.{Wanted, access_row, create_by, create_rows, is_taken, rename_row, rows_on, select_rows, selection_rows, typed_rows}
 use Rattle.vf_filestore.specs.Sound.{IsSoundDocket, IsSoundIn, IsSoundParty, IsThere, Use, are_clashing, do_clash, use_by, use_in, use_of_docket, use_of_party}
 use Rattle.vf_filestore.specs.Stage.{regime_stage}
 use Rattle.vf_filestore.specs.State as states
 use Rattle.vf_filestore.specs.State.{State, StandingParty, docket_of, file_in, identity_of, name_in, requested_in, selected_file, units_of, without_docket}
-use Rattle.vf_filestore.specs.Units.{enhanced_management, limited_management}
+use Rattle.vf_filestore.specs.Units.{enhanced_management, limited_management, unit_row}
+use Rattle.vf_filestore.specs.declared.creation.NewFile.{NewFile}
 use Rattle.vf_filestore.proofs.Alone.{all_folded, none_mapped, other_party}
 use Rattle.vf_filestore.proofs.Clashes.{agreed_stays, closed_free, held_uses, no_clash}
 use Rattle.vf_filestore.proofs.Decided.{first_passed, later_passed, row_passed, rows_passed}
 use Rattle.vf_filestore.proofs.Effected.{not_taken}
-use Rattle.vf_filestore.proofs.Filed.{names_flip, same_name}
+use Rattle.vf_filestore.proofs.Filed.{found_name, names_flip, same_name}
 use Rattle.vf_filestore.proofs.Lists.{all-flat_map, all-from_flat_map, all_append, all_both, all_left, all_right, all_weaker, to_front, to_middle}
 use Rattle.vf_filestore.proofs.Moving.{gone, recovered}
 use Rattle.vf_filestore.proofs.Nested.{placed}

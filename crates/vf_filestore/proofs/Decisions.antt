@@ -18,20 +18,18 @@ use Rattle.vf_attr.specs.declared.file.File.{File}
 use Rattle.vf_base.specs.declared.access.FaduId.{FaduId}
 use Rattle.vf_base.specs.declared.action.Actions.{Actions}
 use Rattle.vf_base.specs.declared.contents.Contents.{Contents}
-use Rattle.vf_files.specs.Files.{file_named}
-use Rattle.vf_files.specs.Rows.{unit_row}
-use Rattle.vf_files.specs.declared.creation.NewFile.{NewFile}
 use Rattle.vf_pdu_fields.specs.declared.controls.ContentControls.{ContentControls}
 use Rattle.vf_tree.specs.Acts.{does, Locates, Erases}
 use Rattle.vf_filestore.specs.Diagnostics.{Row, first_row}
 use Rattle.vf_filestore.specs.Ending.{stamp_of}
+use Rattle.vf_filestore.specs.Files.{file_named}
 use Rattle.vf_filestore.specs.History.{Selection, guest, position, regime, selection}
 use Rattle.vf_filestore.specs.Holders.{held_files}
 use Rattle.vf_filestore.specs.Opening.{erase_rows, locate_rows, placed}
 use Rattle.vf_filestore.specs.Recovering.{is_read_in, recover_rows, resumed}
 use Rattle.vf_filestore.specs.Selecting.{change_attrib_rows, create_rows, delete_rows, initialize_rows, read_attrib_rows, rows_on, select_rows}
 use Rattle.vf_filestore.specs.State.{Docket, docket_of, mode_in, selected_file, is_of_link}
-use Rattle.vf_filestore.specs.Units.{enhanced_management, file_access, limited_management, recovery_unit}
+use Rattle.vf_filestore.specs.Units.{enhanced_management, file_access, limited_management, recovery_unit, unit_row}
 use Rattle.vf_filestore.specs.Decision.{decided, erase_decision, granted_unless, locate_decision, made_unless, open_decision, opened_by, opening_rows, units_for, unless_without_token, wanted_by}
 use Rattle.vf_filestore.specs.Decision.{Decision, Aborts, Refuses, Grants, Waits, Groups, Ends, Leaves, decision, decision_in, grouped_decision, grouped_request, item_decision, message_decision, request_decision, trial_decision, unless_aborted}
 use Rattle.vf_filestore.specs.Diagnostics.{plain, wrong_regime, wrong_state}
@@ -44,6 +42,7 @@ use Rattle.vf_filestore.specs.Stage.{Group, grouping, pending, regime_stage, sta
 use Rattle.vf_filestore.specs.State.{State, StandingParty, activity_of, identity_of, party_of, units_of, with_party}
 use Rattle.vf_filestore.specs.Transition.{answered, associates, leaves, met, refuses}
 use Rattle.vf_filestore.specs.Units.{has_checks}
+use Rattle.vf_filestore.specs.declared.creation.NewFile.{NewFile}
 use Rattle.vf_filestore.proofs.Broken.{broken_is, broken_sound}
 use Rattle.vf_filestore.proofs.Concluded.{IsGranting, grants_sound, granting_other, granting_request, parted}
 use Rattle.vf_filestore.proofs.Lists.{all_append, all_left, all_right, flat_map-append}

@@ -17,10 +17,7 @@ use Rattle.vf_doctype.specs.DocumentTypes.{doc_type}
 use Rattle.vf_doctype.specs.Units.{units}
 use Rattle.vf_doctype.specs.declared.doc_type.DocType.{DocType}
 use Rattle.vf_doctype.specs.declared.errors.DocError.{DocError}
-use Rattle.vf_files.specs.Files.{file_named}
-use Rattle.vf_files.specs.Rows.{made, unit_row}
-use Rattle.vf_files.specs.declared.creation.NewFile.{NewFile}
-use Rattle.vf_files.proofs.Deltas.{found_name}
+use Rattle.vf_filestore.specs.Files.{file_named, made}
 use Rattle.vf_filestore.specs.Opening.{act_of}
 use Rattle.vf_pdu.specs.declared.pdu.Pdu.{Pdu}
 use Rattle.vf_pdu.specs.declared.pdu.Pdu.TheVariants.{CreateRequest, DeleteRequest, ChangeAttribRequest, EraseRequest, TransferEndRequest, CancelRequest}
@@ -40,10 +37,11 @@ use Rattle.vf_filestore.specs.Selecting.{Wanted, create_by, create_rows, delete_
 use Rattle.vf_filestore.specs.Sound.{name_of}
 use Rattle.vf_filestore.specs.State.{State, StandingParty, name_in, requested_in, selected_file, units_of}
 use Rattle.vf_filestore.specs.Transfers.{Movement, Reads, Writes, Transfer, data_end, front, point, refusal_of, survivors, under_way}
-use Rattle.vf_filestore.specs.Units.{enhanced_management, limited_management}
+use Rattle.vf_filestore.specs.Units.{enhanced_management, limited_management, unit_row}
+use Rattle.vf_filestore.specs.declared.creation.NewFile.{NewFile}
 use Rattle.vf_filestore.proofs.Alone.{IsAlone, alone}
 use Rattle.vf_filestore.proofs.Decided.{first_passed, later_passed, row_passed, rows_passed}
-use Rattle.vf_filestore.proofs.Filed.{Continues, IsNext, continues_added, continues_in_place, continues_left, continues_renamed, continues_same, filed_added, filed_in_place, filed_left, same_name}
+use Rattle.vf_filestore.proofs.Filed.{Continues, IsNext, continues_added, continues_in_place, continues_left, continues_renamed, continues_same, filed_added, filed_in_place, filed_left, found_name, same_name}
 
 -- ---- what becomes of a file by its contents
 

@@ -6,9 +6,8 @@ use Rattle.std.specs.Str.{bytes_eq}
 use Rattle.std.proofs.lemmas.Bool.Decides.{same_from_decides}
 use Rattle.std.proofs.lemmas.Slice.Eq.{bytes_eq-Decides}
 use Rattle.vf_attr.specs.declared.file.File.{File}
-use Rattle.vf_files.specs.Files.{file_named, with_file}
-use Rattle.vf_files.proofs.Rooms.{with_file-new}
 use Rattle.vf_filestore.specs.Effects.{in_place, without_file}
+use Rattle.vf_filestore.specs.Files.{file_named, with_file}
 use Rattle.vf_filestore.specs.Sound.{name_of}
 use Rattle.vf_filestore.proofs.Lists.{all_weaker, distinct_map-filter, distinct_push}
 
@@ -22,6 +21,31 @@ same_name a b e = (bytes_eq-Decides a b).0 e
 
 pub name_itself : (a : List ℕ) → bytes_eq a a ≡ true
 name_itself a = (bytes_eq-Decides a a).1 refl
+
+-- a file is found by its own name
+pub found_name : (name : List ℕ) (files : List File) (file : File) → file_named name files ≡ Some file → name ≡ file.name
+found_name name [] file found = absurd cc
+found_name name (other ∷ files) file found = by (bytes_eq name other.name) refl found (found_name name files file)
+  where
+    by : (b : Bool) → bytes_eq name other.name ≡ b → cond b (Some other) (file_named name files) ≡ Some file
+        → (file_named name files ≡ Some file → name ≡ file.name) → name ≡ file.name
+    by true is found rest =
+        let same : other ≡ file = cc in
+        same_name name other.name is ∙ ap (λ (f : File). f.name) same
+    by false is found rest = rest found
+
+pub found_itself : (name : List ℕ) (files : List File) (file : File) → file_named name files ≡ Some file → file_named file.name files ≡ Some file
+found_itself name files file found = ap (λ name. file_named name files) (sym (found_name name files file found)) ∙ found
+
+-- a name that no file has is put after the others
+pub with_file-new : (file : File) (files : List File) → file_named file.name files ≡ None → with_file file files ≡ files ++ file ∷ []
+with_file-new file [] none = refl
+with_file-new file (other ∷ files) none = by (bytes_eq file.name other.name) none (with_file-new file files)
+  where
+    by : (b : Bool) → cond b (Some other) (file_named file.name files) ≡ None → (file_named file.name files ≡ None → with_file file files ≡ files ++ file ∷ [])
+        → cond b (file ∷ files) (other ∷ with_file file files) ≡ other ∷ (files ++ file ∷ [])
+    by true none rest = absurd cc
+    by false none rest = ap (λ files. other ∷ files) (rest none)
 
 -- ---- a file and what becomes of it
 

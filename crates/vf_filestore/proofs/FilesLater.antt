@@ -16,9 +16,6 @@ use Rattle.vf_doctype.specs.DocumentTypes.{doc_type}
 use Rattle.vf_doctype.specs.declared.doc_type.DocType.{DocType}
 use Rattle.vf_elements.specs.declared.message.Message.{Message}
 use Rattle.vf_elements.specs.declared.message.Message.TheVariants as messages
-use Rattle.vf_files.specs.Files.{file_named, with_file}
-use Rattle.vf_files.specs.Rows.{made}
-use Rattle.vf_files.specs.declared.creation.NewFile.{NewFile}
 use Rattle.vf_pdu.specs.declared.pdu.Pdu.{Pdu}
 use Rattle.vf_pdu.specs.declared.pdu.Pdu.TheVariants.{CreateRequest, DeleteRequest, ChangeAttribRequest, EraseRequest, TransferEndRequest, CancelRequest}
 use Rattle.vf_pdu_fields.specs.declared.operation.WriteOperation.{WriteOperation}
@@ -29,10 +26,12 @@ use Rattle.vf_tree.specs.TreeRefusal.{TreeRefusal}
 use Rattle.vf_filestore.specs.Diagnostics.{Row, cancelled, plain}
 use Rattle.vf_filestore.specs.Effects.{changed, created, created_where, erased, files_after, files_by, in_place, put_where}
 use Rattle.vf_filestore.specs.Ending.{Ending, after_read, cancel_ending, cancel_in, cancel_of, ending_in, ending_of, ending_unless, file_after, in_silence, performed_by, read_ending, stamp_of, transfer_ending, unchanged, was_given_up, write_of, written_in}
+use Rattle.vf_filestore.specs.Files.{file_named, with_file, made}
 use Rattle.vf_filestore.specs.History.{Given, Nothing, Made, Refused, Showed, Placed, Resumed, position}
 use Rattle.vf_filestore.specs.Keeping.{HasTerms}
 use Rattle.vf_filestore.specs.State.{State, StandingParty, name_in, selected_file}
 use Rattle.vf_filestore.specs.Transfers.{Movement, Reads, Writes, Transfer, data_end, front, point, refusal_of, survivors, under_way}
+use Rattle.vf_filestore.specs.declared.creation.NewFile.{NewFile}
 use Rattle.vf_filestore.proofs.Lists.{all-filter}
 
 -- a file from another: it holds of it where it held of that

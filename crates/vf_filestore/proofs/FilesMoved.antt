@@ -12,11 +12,6 @@ use Rattle.vf_base.specs.declared.action.Action.TheVariants as actions
 use Rattle.vf_base.specs.declared.contents.Contents.{Contents}
 use Rattle.vf_doctype.specs.DocumentTypes.{constraint_of, doc_type}
 use Rattle.vf_doctype.specs.declared.doc_type.DocType.{DocType}
-use Rattle.vf_files.specs.Files.{file_named}
-use Rattle.vf_files.specs.Rows.{made, unit_row}
-use Rattle.vf_files.specs.declared.creation.NewFile.{NewFile}
-use Rattle.vf_files.proofs.Deltas.{found_name}
-use Rattle.vf_files.proofs.Rooms.{with_file-new}
 use Rattle.vf_pdu.specs.declared.pdu.Pdu.{Pdu}
 use Rattle.vf_pdu.specs.declared.pdu.Pdu.TheVariants.{CreateRequest, DeleteRequest, ChangeAttribRequest, EraseRequest, TransferEndRequest, CancelRequest}
 use Rattle.vf_pdu_fields.proofs.Plain.{some_is}
@@ -25,15 +20,17 @@ use Rattle.vf_filestore.specs.Decision.{Grants, made_unless, request_decision, w
 use Rattle.vf_filestore.specs.Diagnostics.{first_row, row, attribute_unsupported, name_exists, not_permitted}
 use Rattle.vf_filestore.specs.Effects.{changed, created, created_where, erased, files_by, in_place, put_where, without_file}
 use Rattle.vf_filestore.specs.Ending.{cancel_ending, stamp_of, transfer_ending}
+use Rattle.vf_filestore.specs.Files.{file_named, made}
 use Rattle.vf_filestore.specs.History.{Given, Nothing, position, selection}
 use Rattle.vf_filestore.specs.Holders.{held_files, holders}
 use Rattle.vf_filestore.specs.Selecting.{Wanted, create_by, create_rows, is_taken, rename_row, typed_rows}
 use Rattle.vf_filestore.specs.Sound.{AreLimited, IsLimited, name_of}
 use Rattle.vf_filestore.specs.State.{State, StandingParty, name_in, requested_in, selected_file, units_of}
-use Rattle.vf_filestore.specs.Units.{enhanced_management, limited_management}
+use Rattle.vf_filestore.specs.Units.{enhanced_management, limited_management, unit_row}
+use Rattle.vf_filestore.specs.declared.creation.NewFile.{NewFile}
 use Rattle.vf_filestore.proofs.Decided.{first_passed, later_passed, row_passed, rows_passed}
 use Rattle.vf_filestore.proofs.Effected.{IsNextIn, cancel_next, erased_next, not_taken, transfer_next}
-use Rattle.vf_filestore.proofs.Filed.{names_flip, same_name}
+use Rattle.vf_filestore.proofs.Filed.{found_name, names_flip, same_name, with_file-new}
 use Rattle.vf_filestore.proofs.FileSteps.{FileStep, IsOtherFile}
 use Rattle.vf_filestore.proofs.FileSteps as steps
 use Rattle.vf_filestore.proofs.Lists.{all_right, all_unmap}

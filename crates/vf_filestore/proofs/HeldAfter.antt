@@ -7,7 +7,6 @@ use Rattle.vf_base.specs.declared.action.Action.TheVariants as actions
 use Rattle.vf_elements.specs.Stages.{takes}
 use Rattle.vf_elements.specs.declared.message.Message.{Message}
 use Rattle.vf_elements.specs.declared.message.Message.TheVariants as messages
-use Rattle.vf_files.specs.Rows.{unit_row}
 use Rattle.vf_pdu.specs.declared.pdu.Pdu.{Pdu}
 use Rattle.vf_pdu.specs.declared.pdu.Pdu.TheVariants.{SelectRequest, CreateRequest, DeselectRequest, DeleteRequest, ChangeAttribRequest, OpenRequest, CloseRequest, RecoverRequest}
 use Rattle.vf_filestore.specs.Aborts.{Setting}
@@ -23,7 +22,7 @@ use Rattle.vf_filestore.specs.Sound.{IsSound, IsSoundDocket, link_of}
 use Rattle.vf_filestore.specs.Stage.{pending, regime_stage}
 use Rattle.vf_filestore.specs.State as states
 use Rattle.vf_filestore.specs.State.{State, StandingParty, docket_of, identity_of, is_docket_of, name_in, party_of, requested_in, units_of, with_party}
-use Rattle.vf_filestore.specs.Units.{enhanced_management}
+use Rattle.vf_filestore.specs.Units.{enhanced_management, unit_row}
 use Rattle.vf_filestore.proofs.Agreed.{IsAmong}
 use Rattle.vf_filestore.proofs.Concluded.{after_entry, concluded_is}
 use Rattle.vf_filestore.proofs.Decided.{first_passed, later_passed, row_passed, rows_passed}

@@ -12,8 +12,6 @@ use Rattle.vf_base.specs.declared.action.Controls.{Controls}
 use Rattle.vf_elements.specs.Stages.{takes}
 use Rattle.vf_elements.specs.declared.message.Message.{Message}
 use Rattle.vf_elements.specs.declared.message.Message.TheVariants as messages
-use Rattle.vf_files.specs.Files.{file_named}
-use Rattle.vf_files.specs.Rows.{unit_row}
 use Rattle.vf_locks.specs.Holders.{controls_of, granted, others, passed}
 use Rattle.vf_locks.specs.declared.held.Held.{Held}
 use Rattle.vf_locks.specs.declared.holder.Holder.{Holder}
@@ -26,6 +24,7 @@ use Rattle.vf_filestore.specs.Controls.{attribute_controls, content_controls, jo
 use Rattle.vf_filestore.specs.Decision.{Grants, message_decision, request_decision}
 use Rattle.vf_filestore.specs.Diagnostics.{attribute_unsupported, name_exists, not_permitted, row}
 use Rattle.vf_filestore.specs.Dockets.{docket_left_by}
+use Rattle.vf_filestore.specs.Files.{file_named}
 use Rattle.vf_filestore.specs.History.{Given, Nothing, History, Regime, Selection, regime, renamed, selection}
 use Rattle.vf_filestore.specs.Holders.{alone_row, controls_by, held_by_docket, held_by_party, holders, opened_controls, put_in_order}
 use Rattle.vf_filestore.specs.HoldersAfter.{IsAsBefore, IsDeselected, IsGranted, IsHeldAfter, IsHeldAfterRequest, IsMoved, IsMovedUnless, IsOpened, IsPassed, IsReleased, IsRenamed, IsTakenUp, ItemsHold, MessagesHold, PartiesHold, TracesHold}
@@ -34,7 +33,7 @@ use Rattle.vf_filestore.specs.Sound.{IsSound, IsSoundDocket, IsSoundIn, IsSoundP
 use Rattle.vf_filestore.specs.Stage.{pending, regime_stage}
 use Rattle.vf_filestore.specs.State as states
 use Rattle.vf_filestore.specs.State.{State, StandingParty, docket_of, file_in, identity_of, is_docket_of, name_in, party_of, requested_in, units_of, with_party, without_docket}
-use Rattle.vf_filestore.specs.Units.{enhanced_management}
+use Rattle.vf_filestore.specs.Units.{enhanced_management, unit_row}
 use Rattle.vf_filestore.proofs.Agreed.{IsAmong}
 use Rattle.vf_filestore.proofs.Alone.{IsAlone, IsNotOn, alone}
 use Rattle.vf_filestore.proofs.Concluded.{after_entry, concluded_is}

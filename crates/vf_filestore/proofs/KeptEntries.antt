@@ -21,15 +21,12 @@ use Rattle.vf_elements.specs.declared.message.Message.{Message}
 use Rattle.vf_elements.specs.declared.message.Message.TheVariants as messages
 use Rattle.vf_elements.specs.declared.message.Said.{Said}
 use Rattle.vf_elements.specs.declared.stage.Stage.TheVariants as stages
-use Rattle.vf_files.specs.Files.{file_named}
-use Rattle.vf_files.specs.Rows.{includes, tree_diagnostic, unit_row}
-use Rattle.vf_files.specs.declared.creation.NewFile.{NewFile}
 use Rattle.vf_pdu.specs.declared.pdu.Pdu.{Pdu}
 use Rattle.vf_pdu.specs.declared.pdu.Pdu.TheVariants.{InitializeRequest, SelectRequest, DeselectRequest, CreateRequest, DeleteRequest, ReadAttribRequest, ChangeAttribRequest, OpenRequest, CloseRequest, RecoverRequest, LocateRequest, EraseRequest, ReadRequest, WriteRequest, TransferEndRequest, CancelRequest, RestartRequest, DataEnd}
 use Rattle.vf_pdu_fields.specs.declared.controls.ContentControls.{ContentControls}
 use Rattle.vf_pdu_fields.specs.declared.operation.WriteOperation.{WriteOperation}
 use Rattle.vf_pdu_fields.specs.declared.operation.WriteOperation.TheVariants.{Insert, Replace, Extend}
-use Rattle.vf_tables.specs.Validity.{is_written}
+use Rattle.vf_tables.specs.Validity.{includes, is_written}
 use Rattle.vf_tables.specs.declared.docket.Operation.TheVariants as operations
 use Rattle.vf_tree.specs.Actions.{Outcome, extension, insertion, replacement}
 use Rattle.vf_tree.specs.Acts.{Reads as ActReads, does}
@@ -42,17 +39,19 @@ use Rattle.vf_filestore.specs.Decision.{Grants, decided, made_unless, message_de
 use Rattle.vf_filestore.specs.Diagnostics.{Row, first_row, plain, not_permitted, too_long, unit_not_agreed}
 use Rattle.vf_filestore.specs.Due.{due_after, next_serial}
 use Rattle.vf_filestore.specs.Ending.{stamp_of}
+use Rattle.vf_filestore.specs.Files.{file_named}
 use Rattle.vf_filestore.specs.History.{Given, Nothing, Resumed, History, Selection, guest, position, regime, selection}
 use Rattle.vf_filestore.specs.Holders.{held_files}
 use Rattle.vf_filestore.specs.Keeping.{IsEarned, IsGiven, IsGivenTo, IsKeptEntry, IsNoElement, IsSilentIn, IsTakenIn, IsUnplaced}
-use Rattle.vf_filestore.specs.Opening.{act_of, act_row, action_of, action_row, given_unless, read_given, read_rows, showing, write_given, write_rows}
+use Rattle.vf_filestore.specs.Opening.{act_of, act_row, action_of, action_row, given_unless, read_given, read_rows, showing, tree_diagnostic, write_given, write_rows}
 use Rattle.vf_filestore.specs.Recovering.{resumed}
 use Rattle.vf_filestore.specs.Replies.{replies, request_replies}
 use Rattle.vf_filestore.specs.Selecting.{change_attrib_rows, create_rows, delete_rows, initialize_rows, read_attrib_rows, rows_on, select_rows}
 use Rattle.vf_filestore.specs.State.{Docket, State, StandingParty, docket_of, identity_of, mode_in, selected_file, units_of}
 use Rattle.vf_filestore.specs.Tables.{operation_of}
 use Rattle.vf_filestore.specs.Transfers.{Movement, Reads, Writes, Transfer, point, survivors, transferring, under_way}
-use Rattle.vf_filestore.specs.Units.{enhanced_management, limited_management, read_unit, write_unit}
+use Rattle.vf_filestore.specs.Units.{enhanced_management, limited_management, read_unit, unit_row, write_unit}
+use Rattle.vf_filestore.specs.declared.creation.NewFile.{NewFile}
 use Rattle.vf_filestore.proofs.Decided.{first_passed, later_passed, rows_passed}
 use Rattle.vf_filestore.proofs.Decisions.{or_none, where_none}
 use Rattle.vf_filestore.proofs.Lists.{all_append}

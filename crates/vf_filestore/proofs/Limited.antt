@@ -5,7 +5,7 @@ use Rattle.std.specs.List.{AllByRecursion}
 use Rattle.std.specs.Option.{option_map}
 use Rattle.std.specs.Str.{bytes_eq}
 use Rattle.std.proofs.lemmas.Bool.{and_parts, leb-true, ltb-true, not-false}
-use Rattle.std.proofs.lemmas.List.Sums.{sum_by-cons}
+use Rattle.std.proofs.lemmas.List.Sums.{sum_by-append, sum_by-cons}
 use Rattle.vf_attr.specs.Change.{after_change}
 use Rattle.vf_attr.specs.declared.changes.AttributeChange.{AttributeChange}
 use Rattle.vf_attr.specs.declared.file.File.{File}
@@ -21,18 +21,13 @@ use Rattle.vf_doctype.specs.DocumentTypes.{constraint_of, doc_type}
 use Rattle.vf_doctype.specs.Units.{units}
 use Rattle.vf_doctype.specs.declared.doc_type.DocType.{DocType}
 use Rattle.vf_doctype.specs.declared.errors.DocError.{DocError}
-use Rattle.vf_files.specs.Effects.{is_within_file}
-use Rattle.vf_files.specs.Files.{file_named, octets_of_file, octets_of_files, with_file}
-use Rattle.vf_files.specs.Rows.{made, unit_row}
-use Rattle.vf_files.specs.declared.creation.NewFile.{NewFile}
-use Rattle.vf_files.specs.declared.limits.TheConstants.{MOST_FILES, MOST_FILESTORE_OCTETS}
-use Rattle.vf_files.proofs.Deltas.{found_itself, found_name}
-use Rattle.vf_files.proofs.Rooms.{octets-append, with_file-new}
 use Rattle.vf_pdu.specs.declared.pdu.Pdu.{Pdu}
 use Rattle.vf_pdu.specs.declared.pdu.Pdu.TheVariants.{CreateRequest, DeleteRequest, ChangeAttribRequest, EraseRequest, TransferEndRequest, CancelRequest}
 use Rattle.vf_pdu_fields.specs.declared.operation.WriteOperation.{WriteOperation}
 use Rattle.vf_pdu_fields.specs.declared.operation.WriteOperation.TheVariants.{Insert, Replace, Extend}
 use Rattle.vf_pdu_fields.proofs.Plain.{some_is}
+use Rattle.vf_tables.specs.Sums.{octets_of_file, octets_of_files}
+use Rattle.vf_tables.specs.declared.limits.TheConstants.{MOST_FILES, MOST_FILESTORE_OCTETS}
 use Rattle.vf_tree.specs.Actions.{Outcome, erasure, extension, insertion, replacement}
 use Rattle.vf_tree.specs.Acts.{Erases, does}
 use Rattle.vf_tree.specs.FileTree.{DataUnit, FileTree, HasShape, IsFile, IsShaped, IsWithinFile, new_file, octets_in, parts_in, strings}
@@ -42,7 +37,8 @@ use Rattle.vf_filestore.specs.Aborts.{Setting}
 use Rattle.vf_filestore.specs.Decision.{Grants, erase_decision, made_unless, request_decision, wanted_by}
 use Rattle.vf_filestore.specs.Diagnostics.{Row, cancelled, file_full, first_row, plain, row, store_full}
 use Rattle.vf_filestore.specs.Effects.{changed, created, created_where, erased, files_by, in_place, put_where, without_file}
-use Rattle.vf_filestore.specs.Ending.{Ending, after_act, after_read, cancel_ending, cancel_in, cancel_of, element_row, ending_in, ending_of, ending_unless, file_after, in_silence, performed_by, read_ending, room_rows, stamp_of, transfer_ending, unchanged, units_or_none, was_given_up, write_of, written, written_in}
+use Rattle.vf_filestore.specs.Ending.{Ending, after_act, after_read, cancel_ending, cancel_in, cancel_of, element_row, ending_in, ending_of, ending_unless, file_after, in_silence, is_within_file, performed_by, read_ending, room_rows, stamp_of, transfer_ending, unchanged, units_or_none, was_given_up, write_of, written, written_in}
+use Rattle.vf_filestore.specs.Files.{file_named, with_file, made}
 use Rattle.vf_filestore.specs.History.{Given, position, regime}
 use Rattle.vf_filestore.specs.Holders.{held_files}
 use Rattle.vf_filestore.specs.Limits.{most_version}
@@ -51,9 +47,10 @@ use Rattle.vf_filestore.specs.Selecting.{Wanted, create_by, create_rows, selecti
 use Rattle.vf_filestore.specs.Sound.{AreLimited, IsLimited}
 use Rattle.vf_filestore.specs.State.{State, StandingParty, mode_in, name_in, selected_file, units_of}
 use Rattle.vf_filestore.specs.Transfers.{Movement, Reads, Writes, Transfer, data_end, front, point, refusal_of, survivors, under_way}
-use Rattle.vf_filestore.specs.Units.{file_access, limited_management}
+use Rattle.vf_filestore.specs.Units.{file_access, limited_management, unit_row}
+use Rattle.vf_filestore.specs.declared.creation.NewFile.{NewFile}
 use Rattle.vf_filestore.proofs.Decided.{first_passed, later_passed, row_passed, rows_passed}
-use Rattle.vf_filestore.proofs.Filed.{names_flip}
+use Rattle.vf_filestore.proofs.Filed.{found_itself, found_name, names_flip, with_file-new}
 use Rattle.vf_filestore.proofs.Lists.{all-filter, all_append}
 
 -- ---- trees
@@ -138,6 +135,9 @@ in_place_length name after (other ∷ files) = by (bytes_eq other.name name) (in
     by : (b : Bool) → length (in_place name after files) ≡ length files → length (cond b (after ∷ files) (other ∷ in_place name after files)) ≡ length (other ∷ files)
     by true rest = refl
     by false rest = omega (arith, rest)
+
+octets-append : (files : List File) (file : File) → octets_of_files (files ++ file ∷ []) ≡ octets_of_files files + octets_of_file file
+octets-append files file = omega (arith, sum_by-append octets_of_file files (file ∷ []), sum_by-cons octets_of_file file [])
 
 in_place_octets : (name : List ℕ) (before after : File) (files : List File) → file_named name files ≡ Some before
     → octets_of_files (in_place name after files) + octets_of_file before ≡ octets_of_files files + octets_of_file after

@@ -6,15 +6,11 @@ use Rattle.std.proofs.lemmas.Bool.{not-false}
 use Rattle.std.proofs.lemmas.Map.Keys.{IsDistinct-head, IsDistinct-tail}
 use Rattle.vf_attr.specs.declared.file.File.{File}
 use Rattle.vf_base.specs.declared.access.Constraint.{Constraint}
-use Rattle.vf_base.specs.declared.access.Constraint.TheVariants.{Unstructured, SequentialFlat}
 use Rattle.vf_base.specs.declared.action.Actions.{Actions}
 use Rattle.vf_base.specs.declared.contents.Contents.{Contents}
 use Rattle.vf_elements.specs.Stages.{takes}
 use Rattle.vf_elements.specs.declared.message.Message.{Message}
 use Rattle.vf_elements.specs.declared.message.Message.TheVariants as messages
-use Rattle.vf_files.specs.Files.{file_named}
-use Rattle.vf_files.specs.Rows.{unit_row}
-use Rattle.vf_files.specs.Rows as rows
 use Rattle.vf_pdu.specs.declared.pdu.Pdu.{Pdu}
 use Rattle.vf_pdu.specs.declared.pdu.Pdu.TheVariants.{InitializeRequest, SelectRequest, CreateRequest, DeselectRequest, DeleteRequest, ChangeAttribRequest, OpenRequest, CloseRequest, RecoverRequest, EraseRequest, TransferEndRequest, CancelRequest}
 use Rattle.vf_pdu_fields.specs.declared.controls.ContentControls.{ContentControls}
@@ -27,6 +23,7 @@ use Rattle.vf_filestore.specs.Diagnostics.{contents_mismatch, first_row, not_per
 use Rattle.vf_filestore.specs.Dockets.{broken, docket_by, docket_left_by, dockets_left, dropped, retained, stopped}
 use Rattle.vf_filestore.specs.Effects.{erased, files_after, files_by, put_where}
 use Rattle.vf_filestore.specs.Ending.{cancel_ending, stamp_of, transfer_ending}
+use Rattle.vf_filestore.specs.Files.{file_named}
 use Rattle.vf_filestore.specs.History.{Given, Nothing, History, Regime, Selection, position, regime, selection}
 use Rattle.vf_filestore.specs.Holders.{clash_row, holders}
 use Rattle.vf_filestore.specs.Keeping.{AreOpensKept, IsOpenIn, IsOpenOn}
@@ -35,6 +32,7 @@ use Rattle.vf_filestore.specs.Selecting.{rows_on}
 use Rattle.vf_filestore.specs.Sound.{AreLimited, IsNested, IsSound, IsSoundDocket, IsSoundParty, IsThere, file_of, link_of}
 use Rattle.vf_filestore.specs.Stage.{regime_stage}
 use Rattle.vf_filestore.specs.State.{Docket, State, StandingParty, activity_of, docket_of, file_in, identity_of, is_docket_of, is_of_link, name_in, party_of, selected_file, units_of, with_party}
+use Rattle.vf_filestore.specs.Units.{unit_row}
 use Rattle.vf_filestore.proofs.Concluded.{GoesOn, IsGranting, after_entry, goes_docket, goes_party, message_dockets, message_dockets_go}
 use Rattle.vf_filestore.proofs.Decided.{first_passed, later_passed, row_passed, rows_passed}
 use Rattle.vf_filestore.proofs.Decisions.{party_sound}
@@ -87,10 +85,6 @@ same_open files history other opens selects open_in =
     subst (λ (opened : Option Regime). IfSome opened (λ regime. IfSome (file_of files (selection other)) (IsOpenOn regime))) (sym opens)
     (subst (λ (one : Option Selection). IfSome (regime history) (λ regime. IfSome (file_of files one) (IsOpenOn regime))) (sym selects) open_in)
 
-modes_same : (constraint : Constraint) → rows.modes constraint ≡ modes constraint
-modes_same Unstructured = refl
-modes_same SequentialFlat = refl
-
 mode_passed : (state : State) (party : StandingParty) (one : Selection) (mode : Actions) (contents : Option Contents) (controls : Option ContentControls) (activity : Option ℕ) (found : Option File)
     → first_row (rows_on found (opening_rows state (opened_by party one mode contents controls activity))) ≡ None → IfSome found (λ (file : File). includes (modes file.tree.constraint) mode.value ≡ true)
 mode_passed state party one mode contents controls activity None passed = tt
@@ -99,11 +93,10 @@ mode_passed state party one mode contents controls activity (Some file) passed =
     let last = activity_rows state asked.identity asked.activity in
     let first = row (not (includes asked.selection.requested.value asked.mode.value) || not (contents_usable asked.mode asked.controls)) not_permitted in
     let second = row (is_mismatch asked.contents file.contents) contents_mismatch in
-    let third = row (not (includes (rows.modes file.tree.constraint) asked.mode.value)) outside_constraint_set in
+    let third = row (not (includes (modes file.tree.constraint) asked.mode.value)) outside_constraint_set in
     let fourth = clash_row (holders state file.name) asked.link (joined asked.controls asked.selection.controls) in
     let left = later_passed second (third ∷ fourth ∷ last) (later_passed first (second ∷ third ∷ fourth ∷ last) passed) in
-    sym (ap (λ set. includes set mode.value) (modes_same file.tree.constraint))
-    ∙ not-false (includes (rows.modes file.tree.constraint) mode.value) (row_passed (not (includes (rows.modes file.tree.constraint) mode.value)) outside_constraint_set (first_passed third (fourth ∷ last) left))
+    not-false (includes (modes file.tree.constraint) mode.value) (row_passed (not (includes (modes file.tree.constraint) mode.value)) outside_constraint_set (first_passed third (fourth ∷ last) left))
 
 open_begun : (state : State) (party : StandingParty) (mode : Actions) (contents : Option Contents) (controls : Option ContentControls) (activity : Option ℕ) (given : Given) (one : Option Selection) → selection party.history ≡ one
     → open_decision state party mode contents controls activity one ≡ Grants given → IfSome (file_of state.files one) (λ (file : File). includes (modes file.tree.constraint) mode.value ≡ true)

@@ -18,10 +18,6 @@ use Rattle.vf_elements.specs.declared.message.Message.{Message}
 use Rattle.vf_elements.specs.declared.message.Message.TheVariants as messages
 use Rattle.vf_elements.specs.declared.message.Said.{Said}
 use Rattle.vf_elements.specs.declared.stage.Stage.TheVariants as stages
-use Rattle.vf_files.specs.Files.{file_named}
-use Rattle.vf_files.specs.Rows.{made, unit_row}
-use Rattle.vf_files.specs.declared.creation.NewFile.{NewFile}
-use Rattle.vf_files.proofs.Deltas.{found_name}
 use Rattle.vf_pdu.specs.declared.pdu.Pdu.{Pdu}
 use Rattle.vf_pdu.specs.declared.pdu.Pdu.TheVariants.{InitializeRequest, RecoverRequest}
 use Rattle.vf_pdu_fields.proofs.Plain.{some_is}
@@ -36,6 +32,7 @@ use Rattle.vf_filestore.specs.Decision.{Decision, Aborts, Grants, made_unless, r
 use Rattle.vf_filestore.specs.Diagnostics.{Row, first_row, row, docket_unknown, wrong_state}
 use Rattle.vf_filestore.specs.Due.{due_after, next_serial}
 use Rattle.vf_filestore.specs.Effects.{changed, created, created_where, in_place, put_where}
+use Rattle.vf_filestore.specs.Files.{file_named, made}
 use Rattle.vf_filestore.specs.History.{Association, Entry, Given, Nothing, Resumed, History, Regime, Selection, association, regime, selection}
 use Rattle.vf_filestore.specs.Holders.{held_files}
 use Rattle.vf_filestore.specs.Opening.{given_unless, read_given, read_rows, showing}
@@ -45,11 +42,12 @@ use Rattle.vf_filestore.specs.Sound.{IsMoving, IsNested, IsPlaced, IsPlacedReque
 use Rattle.vf_filestore.specs.Stage.{regime_stage, stage_by}
 use Rattle.vf_filestore.specs.State.{Docket, State, StandingParty, units_of}
 use Rattle.vf_filestore.specs.Transfers.{Transfer, data_end, happened, point, under_way, was_shown}
-use Rattle.vf_filestore.specs.Units.{read_unit, recovery_unit}
+use Rattle.vf_filestore.specs.Units.{read_unit, recovery_unit, unit_row}
+use Rattle.vf_filestore.specs.declared.creation.NewFile.{NewFile}
 use Rattle.vf_filestore.proofs.Alike.{AreAlike}
 use Rattle.vf_filestore.proofs.Decided.{first_passed, later_passed, rows_passed}
 use Rattle.vf_filestore.proofs.Effected.{KeepsAll, not_taken}
-use Rattle.vf_filestore.proofs.Filed.{IsFree, found_here, named_added, same_name, Continues}
+use Rattle.vf_filestore.proofs.Filed.{IsFree, found_here, named_added, same_name, Continues, found_name}
 use Rattle.vf_filestore.proofs.Named.{ArePlain, RecoversKnown, RequestAsksKnown, due_after_plain}
 use Rattle.vf_filestore.proofs.Nested.{placed}
 use Rattle.vf_filestore.proofs.Soundness.{moving_happens}

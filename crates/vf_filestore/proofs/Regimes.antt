@@ -11,11 +11,11 @@ use Rattle.vf_base.specs.declared.contents.Contents.{Contents}
 use Rattle.vf_elements.specs.Stages.{takes}
 use Rattle.vf_elements.specs.declared.message.Message.{Message}
 use Rattle.vf_elements.specs.declared.message.Message.TheVariants as messages
-use Rattle.vf_files.specs.Rows.{includes, modes, unit_row}
 use Rattle.vf_pdu.specs.declared.pdu.Pdu.{Pdu}
 use Rattle.vf_pdu.specs.declared.pdu.Pdu.TheVariants.{InitializeRequest, OpenRequest, CloseRequest, RecoverRequest}
 use Rattle.vf_pdu_fields.proofs.Plain.{some_is}
 use Rattle.vf_pdu_fields.specs.declared.controls.ContentControls.{ContentControls}
+use Rattle.vf_tables.specs.Validity.{includes, modes}
 use Rattle.vf_filestore.specs.Aborts.{Setting}
 use Rattle.vf_filestore.specs.Conclusion.{concluding_entry, dockets_after, history_of, taken_up}
 use Rattle.vf_filestore.specs.Decision.{Grants, open_decision, opened_by, opening_rows, request_decision, units_for}
@@ -29,6 +29,7 @@ use Rattle.vf_filestore.specs.Selecting.{rows_on}
 use Rattle.vf_filestore.specs.Sound.{AreNumbered, IsNested, IsSoundDocket, Standing, is_recoverable, is_same_activity, standing_by, standing_of_docket, standing_of_party}
 use Rattle.vf_filestore.specs.Stage.{regime_stage}
 use Rattle.vf_filestore.specs.State.{Docket, State, StandingParty, activity_in, activity_of, docket_of, identity_in, identity_of, is_docket_of, selected_file, units_of, without_docket}
+use Rattle.vf_filestore.specs.Units.{unit_row}
 use Rattle.vf_filestore.proofs.Broken.{numbered_stays, standings}
 use Rattle.vf_filestore.proofs.Decided.{first_passed, later_passed, row_passed, rows_passed}
 use Rattle.vf_filestore.proofs.Filed.{names_flip, same_name}

@@ -11,9 +11,6 @@ use Rattle.vf_base.specs.declared.access.FaduId.{FaduId}
 use Rattle.vf_base.specs.declared.action.Action.TheVariants as actions
 use Rattle.vf_elements.specs.Stages.{takes}
 use Rattle.vf_elements.specs.declared.message.Message.TheVariants as messages
-use Rattle.vf_files.specs.Files.{file_named}
-use Rattle.vf_files.specs.Rows.{unit_row}
-use Rattle.vf_files.specs.declared.creation.NewFile.{NewFile}
 use Rattle.vf_pdu.specs.declared.pdu.Pdu.{Pdu}
 use Rattle.vf_pdu.specs.declared.pdu.Pdu.TheVariants.{SelectRequest, CreateRequest, DeselectRequest, DeleteRequest, ChangeAttribRequest, EraseRequest, RecoverRequest, ReadRequest, WriteRequest, TransferEndRequest, CancelRequest}
 use Rattle.vf_filestore.specs.Aborts.{Setting}
@@ -22,6 +19,7 @@ use Rattle.vf_filestore.specs.Decision.{Grants, made_unless, request_decision, w
 use Rattle.vf_filestore.specs.Diagnostics.{attribute_unsupported, name_exists, not_permitted, row}
 use Rattle.vf_filestore.specs.Effects.{changed, erased, files_by, put_where, without_file}
 use Rattle.vf_filestore.specs.Ending.{cancel_ending, stamp_of, transfer_ending}
+use Rattle.vf_filestore.specs.Files.{file_named}
 use Rattle.vf_filestore.specs.History.{Given, Nothing, History, Selection, position, regime, renamed, selection}
 use Rattle.vf_filestore.specs.Holders.{held_files, holders}
 use Rattle.vf_filestore.specs.Opening.{read_given}
@@ -30,7 +28,8 @@ use Rattle.vf_filestore.specs.Sound.{IsSoundDocket, IsSoundIn, IsShownIn, IsTher
 use Rattle.vf_filestore.specs.Stage.{regime_stage}
 use Rattle.vf_filestore.specs.State.{Docket, State, StandingParty, docket_of, file_in, identity_of, is_docket_of, mode_in, name_in, requested_in, selected_file, units_of}
 use Rattle.vf_filestore.specs.Transfers.{happened}
-use Rattle.vf_filestore.specs.Units.{enhanced_management, limited_management}
+use Rattle.vf_filestore.specs.Units.{enhanced_management, limited_management, unit_row}
+use Rattle.vf_filestore.specs.declared.creation.NewFile.{NewFile}
 use Rattle.vf_filestore.proofs.Decided.{first_passed, later_passed, row_passed, rows_passed}
 use Rattle.vf_filestore.proofs.Effected.{KeepsAll, cancel_next, erased_next, put_keeps, transfer_next}
 use Rattle.vf_filestore.proofs.Named.{named_read, named_request, named_write, RecoversKnown}

@@ -10,11 +10,11 @@ use Rattle.vf_elements.specs.declared.message.Message.{Message}
 use Rattle.vf_elements.specs.declared.message.Message.TheVariants as messages
 use Rattle.vf_elements.specs.declared.message.Said.{Said}
 use Rattle.vf_elements.specs.declared.message.Said.TheVariants as answers
-use Rattle.vf_files.specs.Files.{file_named}
 use Rattle.vf_pdu.specs.declared.pdu.Pdu.TheVariants.{InitializeRequest, InitializeResponse}
 use Rattle.vf_transfer.specs.Transfer.{NamesKnownChecks}
 use Rattle.vf_tree.specs.Contexts.{shown}
 use Rattle.vf_filestore.specs.Dockets.{retained, secured, since_selection}
+use Rattle.vf_filestore.specs.Files.{file_named}
 use Rattle.vf_filestore.specs.History.{Association, Given, Nothing, Made, Refused, Showed, Placed, Resumed, History, Regime, Selection, agreeing, association, associating, regime, selection}
 use Rattle.vf_filestore.specs.Sound.{IsFaithful, IsMoving, IsNested, IsShown, IsShownIn, IsSoundDocket, IsSoundIn, IsThere, file_of}
 use Rattle.vf_filestore.specs.State.{activity_in}

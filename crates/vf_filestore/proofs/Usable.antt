@@ -18,14 +18,12 @@ use Rattle.vf_doctype.specs.declared.doc_type.DocType.{DocType}
 use Rattle.vf_elements.specs.Stages.{takes}
 use Rattle.vf_elements.specs.declared.message.Message.{Message}
 use Rattle.vf_elements.specs.declared.message.Message.TheVariants as messages
-use Rattle.vf_files.specs.Files.{file_named}
-use Rattle.vf_files.specs.Rows.{access_row, includes, made, modes, unit_row}
-use Rattle.vf_files.specs.declared.creation.NewFile.{NewFile}
-use Rattle.vf_files.specs.declared.limits.TheConstants.{MOST_FILES}
 use Rattle.vf_pdu.specs.declared.pdu.Pdu.{Pdu}
 use Rattle.vf_pdu.specs.declared.pdu.Pdu.TheVariants.{SelectRequest, CreateRequest, DeselectRequest, DeleteRequest, ChangeAttribRequest, OpenRequest, CloseRequest, RecoverRequest, ReadRequest, WriteRequest, TransferEndRequest, CancelRequest}
 use Rattle.vf_pdu_fields.specs.declared.controls.ContentControls.{ContentControls}
 use Rattle.vf_pdu_fields.specs.declared.operation.WriteOperation.{WriteOperation}
+use Rattle.vf_tables.specs.Validity.{includes, modes}
+use Rattle.vf_tables.specs.declared.limits.TheConstants.{MOST_FILES}
 use Rattle.vf_tree.specs.Actions.{Outcome}
 use Rattle.vf_tree.specs.Acts.{Reads as reads_of, does, shows}
 use Rattle.vf_tree.specs.Contexts.{shown}
@@ -36,15 +34,17 @@ use Rattle.vf_filestore.specs.Controls.{attribute_controls, attributes_usable, c
 use Rattle.vf_filestore.specs.Decision.{Grants, made_unless, open_decision, opened_by, opening_rows, request_decision, units_for, wanted_by}
 use Rattle.vf_filestore.specs.Diagnostics.{Row, contents_mismatch, first_row, name_exists, not_permitted, outside_constraint_set, row, store_full}
 use Rattle.vf_filestore.specs.Ending.{stamp_of}
+use Rattle.vf_filestore.specs.Files.{file_named, made}
 use Rattle.vf_filestore.specs.History.{Given, Nothing, Regime, Selection, position, regime, renamed, selection}
 use Rattle.vf_filestore.specs.Holders.{clash_row, held_files, holders}
 use Rattle.vf_filestore.specs.Opening.{act_of, act_row, action_of, action_row, activity_rows, given_unless, is_mismatch, read_given, read_rows, showing, write_given, write_rows}
-use Rattle.vf_filestore.specs.Selecting.{Wanted, create_by, create_rows, rows_on, select_rows, selection_rows, typed_rows}
+use Rattle.vf_filestore.specs.Selecting.{Wanted, access_row, create_by, create_rows, rows_on, select_rows, selection_rows, typed_rows}
 use Rattle.vf_filestore.specs.Sound.{Holding, IsInMode, IsUsable, IsUsableOpen, holding_by, holding_in, holding_of_docket, holding_of_party}
 use Rattle.vf_filestore.specs.Stage.{regime_stage}
 use Rattle.vf_filestore.specs.State.{Docket, State, StandingParty, docket_of, identity_of, is_docket_of, mode_in, selected_file, units_of}
 use Rattle.vf_filestore.specs.Transfers.{Reads, Writes, Transfer, under_way}
-use Rattle.vf_filestore.specs.Units.{limited_management, read_unit, write_unit}
+use Rattle.vf_filestore.specs.Units.{limited_management, read_unit, unit_row, write_unit}
+use Rattle.vf_filestore.specs.declared.creation.NewFile.{NewFile}
 use Rattle.vf_filestore.proofs.Decided.{first_passed, later_passed, row_passed, rows_passed}
 use Rattle.vf_filestore.proofs.Nested.{placed}
 use Rattle.vf_filestore.proofs.Owned.{found_all, placed_request, recovers, within_stage}

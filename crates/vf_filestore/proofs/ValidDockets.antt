@@ -21,7 +21,6 @@ use Rattle.vf_base.specs.declared.action.Action.TheVariants as actions
 use Rattle.vf_base.specs.declared.action.Actions.{Actions}
 use Rattle.vf_base.specs.declared.action.Control.{Control}
 use Rattle.vf_base.specs.declared.element.Element.{Element}
-use Rattle.vf_files.specs.Files.{file_named}
 use Rattle.vf_locks.specs.Clash.{is_use}
 use Rattle.vf_pdu_fields.specs.declared.controls.AttributeControls.{AttributeControls}
 use Rattle.vf_pdu_fields.specs.declared.controls.ContentControls.{ContentControls}
@@ -40,6 +39,7 @@ use Rattle.vf_tree.specs.Identities as identities
 use Rattle.vf_tree.specs.TreeRefusal.{TreeRefusal, BadContext}
 use Rattle.vf_filestore.specs.Controls.{attributes_usable, contents_usable, is_usable, joined}
 use Rattle.vf_filestore.specs.Dockets.{docket_left_by}
+use Rattle.vf_filestore.specs.Files.{file_named}
 use Rattle.vf_filestore.specs.History.{Given, Nothing, Made, Refused, Showed, Placed, Resumed, History, Regime, Selection, position, regime, selection}
 use Rattle.vf_filestore.specs.Keeping.{AreHistoriesKept, AreKept, AreOpensKept, IsEarned, IsKeptEntry, IsOpenIn, IsOpenOn}
 use Rattle.vf_filestore.specs.Opening.{action_of}

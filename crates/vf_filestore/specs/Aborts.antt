@@ -5,9 +5,9 @@ use Rattle.std.specs.Option.{option_or}
 use Rattle.vf_base.specs.declared.element.Element.{Element}
 use Rattle.vf_elements.specs.declared.message.Message.{Message}
 use Rattle.vf_elements.specs.declared.message.Message.TheVariants as messages
-use Rattle.vf_files.specs.Rows.{includes}
 use Rattle.vf_pdu.specs.declared.pdu.Pdu.{Pdu}
 use Rattle.vf_pdu.specs.declared.pdu.Pdu.TheVariants.{BeginGroupRequest, ReadRequest, WriteRequest, CancelRequest, RestartRequest}
+use Rattle.vf_tables.specs.Validity.{includes}
 use Rattle.vf_tree.specs.FileTree.{octets_of, octets_of_unit}
 use Rattle.vf_filestore.specs.Diagnostics.{wrong_state, too_long, numbers_spent}
 use Rattle.vf_filestore.specs.History.{History, done}

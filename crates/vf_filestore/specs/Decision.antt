@@ -8,9 +8,6 @@ use Rattle.vf_base.specs.declared.diagnostic.Diagnostic.{Diagnostic}
 use Rattle.vf_elements.specs.Stages.{takes}
 use Rattle.vf_elements.specs.declared.message.Message.{Message}
 use Rattle.vf_elements.specs.declared.message.Message.TheVariants as messages
-use Rattle.vf_files.specs.Files.{file_named}
-use Rattle.vf_files.specs.Rows.{unit_row}
-use Rattle.vf_files.specs.declared.creation.NewFile.{NewFile}
 use Rattle.vf_pdu.specs.declared.pdu.Pdu.{Pdu}
 use Rattle.vf_pdu.specs.declared.pdu.Pdu.TheVariants.{InitializeRequest, TerminateRequest, UserAbort, ProviderAbort, SelectRequest, DeselectRequest, CreateRequest, DeleteRequest, ReadAttribRequest, ChangeAttribRequest, OpenRequest, CloseRequest, BeginGroupRequest, EndGroupRequest, RecoverRequest, LocateRequest, EraseRequest, ReadRequest, WriteRequest, DataEnd, TransferEndRequest, CancelRequest, RestartRequest}
 use Rattle.vf_pdu_fields.specs.declared.controls.AttributeControls.{AttributeControls}
@@ -20,6 +17,7 @@ use Rattle.vf_filestore.specs.Aborts.{Setting, aborts, first_abort}
 use Rattle.vf_filestore.specs.Controls.{attribute_controls, content_controls}
 use Rattle.vf_filestore.specs.Diagnostics.{Row, first_row, plain, name_unknown, wrong_regime, wrong_state}
 use Rattle.vf_filestore.specs.Ending.{cancel_ending, stamp_of, transfer_ending}
+use Rattle.vf_filestore.specs.Files.{file_named}
 use Rattle.vf_filestore.specs.History.{Given, Nothing, Made, Selection, guest, position, regime, selection}
 use Rattle.vf_filestore.specs.Holders.{held_files}
 use Rattle.vf_filestore.specs.Limits.{most_items}
@@ -28,7 +26,8 @@ use Rattle.vf_filestore.specs.Recovering.{is_read_in, recover_rows, resumed}
 use Rattle.vf_filestore.specs.Selecting.{Wanted, change_attrib_rows, create_rows, delete_rows, initialize_rows, read_attrib_rows, rows_on, select_rows}
 use Rattle.vf_filestore.specs.Stage.{Group, pending, regime_stage, stage}
 use Rattle.vf_filestore.specs.State.{Docket, State, StandingParty, docket_of, identity_of, mode_in, selected_file, units_of}
-use Rattle.vf_filestore.specs.Units.{enhanced_management, file_access, limited_management, recovery_unit}
+use Rattle.vf_filestore.specs.Units.{enhanced_management, file_access, limited_management, recovery_unit, unit_row}
+use Rattle.vf_filestore.specs.declared.creation.NewFile.{NewFile}
 
 pub data Decision : Type 0 where
   -- the provider's abort, and the party is gone

@@ -11,15 +11,14 @@ use Rattle.vf_doctype.specs.DocumentTypes.{doc_type}
 use Rattle.vf_doctype.specs.declared.doc_type.DocType.{DocType}
 use Rattle.vf_elements.specs.declared.message.Message.{Message}
 use Rattle.vf_elements.specs.declared.message.Message.TheVariants as messages
-use Rattle.vf_files.specs.Files.{with_file}
-use Rattle.vf_files.specs.Rows.{made}
-use Rattle.vf_files.specs.declared.creation.NewFile.{NewFile}
 use Rattle.vf_pdu.specs.declared.pdu.Pdu.{Pdu}
 use Rattle.vf_pdu.specs.declared.pdu.Pdu.TheVariants.{CreateRequest, DeleteRequest, ChangeAttribRequest, EraseRequest, TransferEndRequest, CancelRequest}
 use Rattle.vf_tree.specs.Acts.{Erases, does}
 use Rattle.vf_filestore.specs.Ending.{cancel_ending, file_after, stamp_of, transfer_ending}
+use Rattle.vf_filestore.specs.Files.{with_file, made}
 use Rattle.vf_filestore.specs.History.{Given, Made, position}
 use Rattle.vf_filestore.specs.State.{State, StandingParty, name_in, selected_file}
+use Rattle.vf_filestore.specs.declared.creation.NewFile.{NewFile}
 
 -- the file in the place of the one of this name, also under another name
 abbrev pub in_place : (name : List ℕ) → File → List File → List File

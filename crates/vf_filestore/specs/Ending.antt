@@ -1,6 +1,6 @@
 -- How a transfer ends (ISO 8571-2, actions on files; ISO 8571-3; the rows, their order and the limits are profile). One
 -- that was refused at its request performs nothing, and neither does one whose values are refused here.
-use Rattle.std.specs.Prelude.{ℕ, ◌+◌, Bool, true, false, not, List, [], ◌∷◌, Option, None, Some, Result, Ok, Err, if◌then◌else◌, nat_eq, nat_le, option_map}
+use Rattle.std.specs.Prelude.{ℕ, ◌+◌, Bool, true, false, not, ◌&&◌, List, [], ◌∷◌, Option, None, Some, Result, Ok, Err, if◌then◌else◌, nat_eq, nat_le, option_map}
 use Rattle.vf_attr.specs.declared.file.File.{File}
 use Rattle.vf_attr.specs.declared.stamp.Stamp.{Stamp}
 use Rattle.vf_base.specs.declared.access.FaduId.{FaduId}
@@ -10,15 +10,17 @@ use Rattle.vf_doctype.specs.DocumentTypes.{doc_type}
 use Rattle.vf_doctype.specs.Units.{units}
 use Rattle.vf_doctype.specs.declared.doc_type.DocType.{DocType}
 use Rattle.vf_doctype.specs.declared.errors.DocError.{DocError}
-use Rattle.vf_files.specs.Effects.{element_diagnostic, is_within_file}
-use Rattle.vf_files.specs.Files.{octets_of_files, with_file}
-use Rattle.vf_files.specs.declared.limits.TheConstants.{MOST_FILESTORE_OCTETS}
+use Rattle.vf_doctype.specs.declared.errors.DocError.TheVariants as doc_errors
 use Rattle.vf_pdu_fields.specs.declared.operation.WriteOperation.{WriteOperation}
+use Rattle.vf_tables.specs.Sums.{octets_of_files}
+use Rattle.vf_tables.specs.declared.limits.TheConstants.{MOST_FILESTORE_OCTETS}
 use Rattle.vf_tree.specs.Actions.{Outcome}
 use Rattle.vf_tree.specs.Acts.{does}
-use Rattle.vf_tree.specs.FileTree.{DataUnit, FileTree}
+use Rattle.vf_tree.specs.FileTree.{DataUnit, FileTree, octets_in, parts_in}
 use Rattle.vf_tree.specs.TreeRefusal.{TreeRefusal}
-use Rattle.vf_filestore.specs.Diagnostics.{Row, row, first_row, plain, name_unknown, contents_mismatch, file_full, store_full, cancelled}
+use Rattle.vf_tree.specs.declared.limits.TheConstants.{MOST_FILE_OCTETS, MOST_FILE_PARTS}
+use Rattle.vf_filestore.specs.Diagnostics.{Row, row, first_row, plain, name_unknown, contents_mismatch, bad_element, element_too_long, file_full, store_full, cancelled}
+use Rattle.vf_filestore.specs.Files.{with_file}
 use Rattle.vf_filestore.specs.History.{Given, Nothing, position}
 use Rattle.vf_filestore.specs.Opening.{act_of, act_row, placed, version_row}
 use Rattle.vf_filestore.specs.State.{State, StandingParty, identity_of, selected_file}
@@ -45,6 +47,11 @@ abbrev pub file_after : Stamp → File → Result Outcome TreeRefusal → File
 file_after stamp file (Ok outcome) = after_act stamp file outcome.tree
 file_after stamp file (Err refusal) = file
 
+abbrev pub element_diagnostic : DocError → Diagnostic
+element_diagnostic doc_errors.BadElement = plain bad_element
+element_diagnostic doc_errors.TooLong = plain element_too_long
+element_diagnostic doc_errors.NoMemory = plain 0
+
 abbrev pub element_row : Result (List DataUnit) DocError → Row
 element_row (Ok units) = None
 element_row (Err error) = Some (element_diagnostic error)
@@ -52,6 +59,9 @@ element_row (Err error) = Some (element_diagnostic error)
 abbrev pub units_or_none : Result (List DataUnit) DocError → List DataUnit
 units_or_none (Ok units) = units
 units_or_none (Err error) = []
+
+abbrev pub is_within_file : List DataUnit → Bool
+is_within_file units = nat_le (octets_in units) MOST_FILE_OCTETS && nat_le (parts_in units) MOST_FILE_PARTS
 
 -- the limits of a file and of the filestore, with the file as it would be
 abbrev pub room_rows : List File → (before after : File) → List Row

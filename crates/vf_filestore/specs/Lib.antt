@@ -8,6 +8,7 @@ pub mod Dockets
 pub mod Due
 pub mod Effects
 pub mod Ending
+pub mod Files
 pub mod Groups
 pub mod History
 pub mod Holders

@@ -12,21 +12,22 @@ use Rattle.vf_base.specs.declared.action.Action.{Action}
 use Rattle.vf_base.specs.declared.action.Action.TheVariants as actions
 use Rattle.vf_base.specs.declared.action.Actions.{Actions}
 use Rattle.vf_base.specs.declared.contents.Contents.{Contents}
-use Rattle.vf_files.specs.Rows.{includes, modes, tree_diagnostic, unit_row}
+use Rattle.vf_base.specs.declared.diagnostic.Diagnostic.{Diagnostic}
 use Rattle.vf_pdu_fields.specs.declared.controls.ContentControls.{ContentControls}
 use Rattle.vf_pdu_fields.specs.declared.operation.WriteOperation.{WriteOperation}
 use Rattle.vf_pdu_fields.specs.declared.operation.WriteOperation.TheVariants.{Insert, Replace, Extend}
+use Rattle.vf_tables.specs.Validity.{includes, modes}
 use Rattle.vf_tree.specs.Actions.{Outcome}
 use Rattle.vf_tree.specs.Acts.{Act, Locates, Reads, Inserts, Replaces, Extends, Erases, does}
 use Rattle.vf_tree.specs.FileTree.{DataUnit}
-use Rattle.vf_tree.specs.TreeRefusal.{TreeRefusal}
+use Rattle.vf_tree.specs.TreeRefusal.{TreeRefusal, Outside, NotFound, BadContext}
 use Rattle.vf_filestore.specs.Controls.{contents_usable, joined}
-use Rattle.vf_filestore.specs.Diagnostics.{Row, row, first_row, name_unknown, not_permitted, contents_mismatch, outside_constraint_set, file_full, activity_in_use, too_many_dockets}
+use Rattle.vf_filestore.specs.Diagnostics.{Row, row, first_row, plain, name_unknown, not_permitted, contents_mismatch, outside_constraint_set, fadu_not_found, bad_context, file_full, activity_in_use, too_many_dockets}
 use Rattle.vf_filestore.specs.History.{Given, Nothing, Refused, Showed, Placed, Selection}
 use Rattle.vf_filestore.specs.Holders.{HeldFiles, clash_row}
 use Rattle.vf_filestore.specs.Limits.{most_dockets, most_version}
 use Rattle.vf_filestore.specs.State.{State, StandingParty, activity_of, docket_of, identity_of}
-use Rattle.vf_filestore.specs.Units.{read_unit, write_unit}
+use Rattle.vf_filestore.specs.Units.{read_unit, unit_row, write_unit}
 
 abbrev pub has_activity : (activity : ℕ) → Option ℕ → Bool
 has_activity activity None = false
@@ -71,6 +72,12 @@ open_rows found activity asked file =
     ∷ row (not (includes (modes file.tree.constraint) asked.mode.value)) outside_constraint_set
     ∷ clash_row (found.holders file.name) asked.link (joined asked.controls asked.selection.controls)
     ∷ activity
+
+-- what a tree refuses
+abbrev pub tree_diagnostic : TreeRefusal → Diagnostic
+tree_diagnostic Outside = plain outside_constraint_set
+tree_diagnostic NotFound = plain fadu_not_found
+tree_diagnostic BadContext = plain bad_context
 
 -- what the constraint set refuses of an act, or the file as it is
 abbrev pub act_row : Result Outcome TreeRefusal → Row

@@ -10,12 +10,12 @@ use Rattle.vf_elements.specs.declared.message.Message.{Message}
 use Rattle.vf_elements.specs.declared.message.Message.TheVariants as messages
 use Rattle.vf_elements.specs.declared.message.Said.{Said}
 use Rattle.vf_elements.specs.declared.message.Said.TheVariants as answers
-use Rattle.vf_files.specs.Files.{octets_of_file}
 use Rattle.vf_pdu.specs.declared.pdu.Pdu.{Pdu}
 use Rattle.vf_pdu.specs.declared.pdu.Pdu.TheVariants.{InitializeRequest, InitializeResponse, SelectRequest, SelectResponse, DeselectRequest, DeselectResponse, CreateRequest, CreateResponse, DeleteRequest, DeleteResponse, ReadAttribRequest, ReadAttribResponse, ChangeAttribRequest, ChangeAttribResponse, OpenRequest, OpenResponse, CloseRequest, CloseResponse, RecoverRequest, RecoverResponse, LocateRequest, LocateResponse, EraseRequest, EraseResponse, TransferEndRequest, TransferEndResponse, CancelRequest, CancelResponse, RestartRequest, RestartResponse}
 use Rattle.vf_pdu_parameters.specs.declared.file_attributes.Attributes.{Attributes}
 use Rattle.vf_pdu_parameters.specs.declared.file_attributes.Grant.{Grant}
 use Rattle.vf_pdu_parameters.specs.declared.file_attributes.Stamp.{Stamp}
+use Rattle.vf_tables.specs.Sums.{octets_of_file}
 use Rattle.vf_filestore.specs.Aborts.{Setting}
 use Rattle.vf_filestore.specs.Ending.{transfer_ending}
 use Rattle.vf_filestore.specs.History.{Given, Placed, Resumed, History, done, last}

@@ -1,29 +1,30 @@
 -- What refuses an association, a selection and what is asked of a selected file (ISO 8571-3, diagnostic; the rows and
 -- their order are profile). A file of the selection's name stands while the selection does, since nobody else may
 -- delete or rename it then; a definition that finds none refuses with 11.
-use Rattle.std.specs.Prelude.{ℕ, Bool, true, false, not, ◌&&◌, List, [], ◌∷◌, length, find, Option, None, Some, is_none, if◌then◌else◌, nat_eq, nat_lt}
+use Rattle.std.specs.Prelude.{ℕ, Bool, true, false, not, ◌&&◌, List, [], ◌∷◌, length, find, Option, None, Some, is_none, Result, Ok, Err, if◌then◌else◌, nat_eq, nat_lt}
 use Rattle.std.specs.Str.{bytes_eq}
 use Rattle.vf_attr.specs.Access.{has, is_met, may}
+use Rattle.vf_attr.specs.declared.errors.AccessError.{AccessError}
+use Rattle.vf_attr.specs.declared.errors.AccessError.TheVariants as access_errors
 use Rattle.vf_attr.specs.declared.file.File.{File}
 use Rattle.vf_attr.specs.declared.stamp.Stamp.{Stamp}
 use Rattle.vf_base.specs.declared.action.Action.TheVariants as actions
 use Rattle.vf_base.specs.declared.action.Actions.{Actions}
 use Rattle.vf_doctype.specs.DocumentTypes.{doc_type}
 use Rattle.vf_doctype.specs.declared.doc_type.DocType.{DocType}
-use Rattle.vf_files.specs.Files.{file_named}
-use Rattle.vf_files.specs.Rows.{access_row, made}
-use Rattle.vf_files.specs.declared.creation.NewFile.{NewFile}
-use Rattle.vf_files.specs.declared.limits.TheConstants.{MOST_FILES}
 use Rattle.vf_locks.specs.declared.held.Held.{Held}
 use Rattle.vf_pdu_fields.specs.declared.controls.AttributeControls.{AttributeControls}
 use Rattle.vf_tables.specs.Entries.{is_user}
+use Rattle.vf_tables.specs.declared.limits.TheConstants.{MOST_FILES}
 use Rattle.vf_tables.specs.declared.user.User.{User}
 use Rattle.vf_filestore.specs.Controls.{attributes_usable, joined, not_opened}
-use Rattle.vf_filestore.specs.Diagnostics.{Row, row, name_unknown, name_exists, not_permitted, contents_mismatch, store_full, attribute_unsupported, not_a_user}
+use Rattle.vf_filestore.specs.Diagnostics.{Row, row, plain, name_unknown, name_exists, not_permitted, access_denied, bad_password, contents_mismatch, store_full, attribute_unsupported, not_a_user}
+use Rattle.vf_filestore.specs.Files.{file_named, made}
 use Rattle.vf_filestore.specs.History.{Selection}
 use Rattle.vf_filestore.specs.Holders.{HeldFiles, alone_row, clash_row}
 use Rattle.vf_filestore.specs.Limits.{most_names}
 use Rattle.vf_filestore.specs.State.{requested_in, file_in}
+use Rattle.vf_filestore.specs.declared.creation.NewFile.{NewFile}
 
 -- a filestore without users takes every identity
 abbrev pub is_admitted_as : List User → Option User → (password : Option (List ℕ)) → Bool
@@ -44,6 +45,13 @@ pub record Wanted : Type 0 where
   pub password : Option (List ℕ)
   pub requested : Actions
   pub controls : AttributeControls
+
+-- what access control refuses
+abbrev pub access_row : Result (Unit {0}) AccessError → Row
+access_row (Ok done) = None
+access_row (Err access_errors.NotPermitted) = Some (plain not_permitted)
+access_row (Err access_errors.Denied) = Some (plain access_denied)
+access_row (Err access_errors.BadPassword) = Some (plain bad_password)
 
 -- the selection of a file that is there
 abbrev pub selection_rows : HeldFiles → Wanted → File → List Row

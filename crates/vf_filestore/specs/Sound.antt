@@ -20,17 +20,18 @@ use Rattle.vf_elements.specs.declared.stage.Stage.{Stage}
 use Rattle.vf_elements.specs.declared.stage.Stage.TheVariants as stages
 use Rattle.vf_doctype.specs.DocumentTypes.{constraint_of, doc_type}
 use Rattle.vf_doctype.specs.declared.doc_type.DocType.{DocType}
-use Rattle.vf_files.specs.Files.{file_named, octets_of_files}
-use Rattle.vf_files.specs.Rows.{includes}
-use Rattle.vf_files.specs.declared.limits.TheConstants.{MOST_FILES, MOST_FILESTORE_OCTETS}
 use Rattle.vf_locks.specs.Clash.{clash}
 use Rattle.vf_pdu.specs.declared.pdu.Pdu.{Pdu}
 use Rattle.vf_pdu.specs.declared.pdu.Pdu.TheVariants.{InitializeRequest, RecoverRequest}
+use Rattle.vf_tables.specs.Sums.{octets_of_files}
+use Rattle.vf_tables.specs.Validity.{includes}
+use Rattle.vf_tables.specs.declared.limits.TheConstants.{MOST_FILES, MOST_FILESTORE_OCTETS}
 use Rattle.vf_transfer.specs.Transfer.{NamesKnownChecks}
 use Rattle.vf_tree.specs.Contexts.{shown}
 use Rattle.vf_tree.specs.FileTree.{IsFile}
 use Rattle.vf_tables.specs.declared.tables.Tables.{Tables}
 use Rattle.vf_filestore.specs.Controls.{attributes_usable, contents_usable}
+use Rattle.vf_filestore.specs.Files.{file_named}
 use Rattle.vf_filestore.specs.History.{Association, Given, Nothing, Showed, History, Regime, Selection, association, guest, regime, selection}
 use Rattle.vf_filestore.specs.Holders.{controls_by}
 use Rattle.vf_filestore.specs.Limits.{most_dockets, most_version}

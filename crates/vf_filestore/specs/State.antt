@@ -5,9 +5,9 @@ use Rattle.std.specs.Str.{bytes_eq}
 use Rattle.vf_attr.specs.declared.file.File.{File}
 use Rattle.vf_base.specs.declared.action.Actions.{Actions}
 use Rattle.vf_elements.specs.declared.message.Message.{Message}
-use Rattle.vf_files.specs.Files.{file_named}
 use Rattle.vf_tables.specs.declared.task.Task.{Task}
 use Rattle.vf_tables.specs.declared.user.User.{User}
+use Rattle.vf_filestore.specs.Files.{file_named}
 use Rattle.vf_filestore.specs.History.{Association, History, Regime, Selection, association, guest, regime, selection}
 
 -- a party that stands: its link, all messages that came on it, and those that were concluded, both the newest first

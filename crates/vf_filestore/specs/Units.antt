@@ -1,6 +1,9 @@
--- The functional units (ISO 8571-3; their values are profile), and those of an association.
-use Rattle.std.specs.Prelude.{ℕ, Bool, ◌||◌, if◌then◌else◌, bit_and}
-use Rattle.vf_files.specs.Rows.{includes}
+-- The functional units (ISO 8571-3; their values are profile), those of an association, and what refuses for want of
+-- one.
+use Rattle.std.specs.Prelude.{ℕ, Bool, ◌||◌, Option, None, Some, if◌then◌else◌, bit_and}
+use Rattle.vf_base.specs.declared.diagnostic.Diagnostic.{Diagnostic}
+use Rattle.vf_tables.specs.Validity.{includes}
+use Rattle.vf_filestore.specs.Diagnostics.{plain, unit_not_agreed}
 
 abbrev pub read_unit : ℕ
 read_unit = 1
@@ -37,3 +40,7 @@ agreed_units sync asked = bit_and asked (offered_units sync)
 -- checks, acknowledgements and restarts: the restart unit or the recovery unit is agreed
 abbrev pub has_checks : (units : ℕ) → Bool
 has_checks units = includes units restart_unit || includes units recovery_unit
+
+-- the functional units that a message needs (ISO 8571-3)
+abbrev pub unit_row : (units needed : ℕ) → Option Diagnostic
+unit_row units needed = if includes units needed then None else Some (plain unit_not_agreed)

@@ -9,7 +9,6 @@ use Rattle.vf_elements.specs.declared.stage.Stage.TheVariants as stages
 use Rattle.vf_filestore.specs.Aborts.{Setting, abort_where, aborts, passes_serials, request_aborts, restart_aborts}
 use Rattle.vf_filestore.specs.Decision.{Leaves, request_decision}
 use Rattle.vf_filestore.specs.Diagnostics.{numbers_spent, too_long, wrong_state}
-use Rattle.vf_files.specs.Rows.{includes}
 use Rattle.vf_filestore.specs.History.{History, association, done, regime, selection}
 use Rattle.vf_filestore.specs.Limits.{most_survivor_octets, most_survivors}
 use Rattle.vf_filestore.specs.Stage.{grouping, regime_stage, stage_by}
@@ -17,6 +16,7 @@ use Rattle.vf_filestore.specs.State.{State, StandingParty, units_in, units_of}
 use Rattle.vf_filestore.specs.Transfers.{data_end, happened, last_check, survivors, was_shown}
 use Rattle.vf_filestore.specs.Transition.{associates}
 use Rattle.vf_filestore.specs.Units.{grouping_unit, has_checks}
+use Rattle.vf_tables.specs.Validity.{includes}
 use Rattle.vf_party.specs.Aborting.{aborts_of_open, aborts_of_quiet, aborts_of_reading, aborts_of_restart, aborts_of_units, aborts_of_writing, spent_aborts}
 use Rattle.vf_party.specs.Items.{is_item}
 use Rattle.vf_party.specs.Quiets.{IsQuiet, stage_of}

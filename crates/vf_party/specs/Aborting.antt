@@ -3,11 +3,11 @@ use Rattle.std.specs.Prelude.{ℕ, ◌+◌, ◌-◌, Bool, not, ◌&&◌, ◌||�
 use Rattle.vf_base.specs.declared.element.Element.{Element}
 use Rattle.vf_elements.specs.declared.message.Message.{Message}
 use Rattle.vf_elements.specs.declared.message.Message.TheVariants as messages
-use Rattle.vf_files.specs.Rows.{includes}
 use Rattle.vf_filestore.specs.Aborts.{abort_where, passes_serials}
 use Rattle.vf_filestore.specs.Diagnostics.{numbers_spent, too_long, wrong_state}
 use Rattle.vf_filestore.specs.Limits.{most_survivor_octets, most_survivors, most_transfers}
 use Rattle.vf_filestore.specs.Units.{grouping_unit, has_checks}
+use Rattle.vf_tables.specs.Validity.{includes}
 use Rattle.vf_party.specs.declared.quiet.Quiet.{Quiet}
 use Rattle.vf_party.specs.declared.quiet.Quiet.TheVariants as quiets
 use Rattle.vf_party_steps.specs.Movements.{Reading}

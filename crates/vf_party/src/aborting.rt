@@ -1,9 +1,9 @@
 //! What aborts a request before anything else is asked (profile): an abort has no diagnostic, and ends the association.
 ghost use Rattle.std.specs.Prelude.{◌≡◌, ◌&&◌, [], ◌∷◌, nat_le, not};
-ghost use Rattle.vf_files.specs.Rows.{includes as includes_meant};
 ghost use Rattle.vf_filestore.specs.Aborts.{abort_where, first_abort, passes_serials as passes_serials_meant};
 ghost use Rattle.vf_filestore.specs.Diagnostics.{numbers_spent, wrong_state};
 ghost use Rattle.vf_filestore.specs.Units.{has_checks as has_checks_meant};
+ghost use Rattle.vf_tables.specs.Validity.{includes as includes_meant};
 ghost use Rattle.vf_transfer.specs.Checks.{offered};
 ghost use Rattle.vf_party.specs.Aborting.{aborts_of_open, aborts_of_quiet, aborts_of_reading, aborts_of_restart, aborts_of_units, aborts_of_writing, passes_with as passes_with_meant, spent_aborts};
 

@@ -10,17 +10,11 @@ use crate::refusals::refusal;
 use crate::{Message, Quiet, Said, Setting, Step, StepError};
 use std::alloc::Global;
 use vf_base::{Diagnostic, NoMemory};
-use vf_files::plain;
+use vf_filestore::diagnostics::{BELOW_THRESHOLD, WRONG_REGIME, plain};
 use vf_locks::Locks;
 use vf_party_steps::followed_by;
 use vf_pdu::Pdu;
 use vf_tables::{Changes, Tables};
-
-/// The group of a request that could have been performed isn't performed.
-const BELOW_THRESHOLD: u16 = 30;
-
-/// An item of a group is a request that its regime doesn't take.
-const WRONG_REGIME: u16 = 37;
 
 /// What comes of items of a group that are tried, each as if the good ones before it had been performed.
 #[derive(Drop)]

@@ -5,18 +5,17 @@ use Rattle.vf_attr.specs.declared.stamp.Stamp.{Stamp}
 use Rattle.vf_base.specs.declared.diagnostic.Diagnostic.{Diagnostic}
 use Rattle.vf_doctype.specs.DocumentTypes.{doc_type}
 use Rattle.vf_doctype.specs.declared.doc_type.DocType.{DocType}
-use Rattle.vf_files.specs.Files.{file_named}
-use Rattle.vf_files.specs.Rows.{made, unit_row}
-use Rattle.vf_files.specs.declared.creation.NewFile.{NewFile}
-use Rattle.vf_files.proofs.Rooms.{with_file-new}
 use Rattle.vf_filestore.specs.Changes.{file_changes}
 use Rattle.vf_filestore.specs.Decision.{made_unless}
 use Rattle.vf_filestore.specs.Diagnostics.{Row, row, first_row, name_exists}
 use Rattle.vf_filestore.specs.Effects.{created, created_where}
+use Rattle.vf_filestore.specs.Files.{file_named, made}
 use Rattle.vf_filestore.specs.Holders.{HeldFiles}
 use Rattle.vf_filestore.specs.Selecting.{Wanted, create_by, create_rows, selection_rows, typed_rows}
-use Rattle.vf_filestore.specs.Units.{limited_management}
+use Rattle.vf_filestore.specs.Units.{limited_management, unit_row}
+use Rattle.vf_filestore.specs.declared.creation.NewFile.{NewFile}
 use Rattle.vf_filestore.proofs.FileSteps.{changes_added}
+use Rattle.vf_filestore.proofs.Filed.{with_file-new}
 use Rattle.vf_filestore.proofs.Unchanged.{files_themselves}
 use Rattle.vf_regime_refusals.specs.Creating.{creation_by, creation_of, made_of, unless_refused}
 use Rattle.vf_regime_refusals.specs.declared.creating.Creation.{Creation}

@@ -5,17 +5,16 @@ use Rattle.vf_attr.specs.declared.file.File.{File}
 use Rattle.vf_attr.specs.declared.stamp.Stamp.{Stamp}
 use Rattle.vf_base.specs.declared.access.FaduId.{FaduId}
 use Rattle.vf_base.specs.declared.action.Actions.{Actions}
-use Rattle.vf_files.specs.Files.{file_named}
-use Rattle.vf_files.specs.Rows.{unit_row}
 use Rattle.vf_filestore.specs.Changes.{file_changes}
 use Rattle.vf_filestore.specs.Decision.{erase_decision, granted_unless}
 use Rattle.vf_filestore.specs.Diagnostics.{Row, first_row}
 use Rattle.vf_filestore.specs.Effects.{erased, put_where}
 use Rattle.vf_filestore.specs.Ending.{Ending, file_after, performed_by, stamp_of}
+use Rattle.vf_filestore.specs.Files.{file_named}
 use Rattle.vf_filestore.specs.History.{placed_by, position, regime}
 use Rattle.vf_filestore.specs.Opening.{erase_rows, placed}
 use Rattle.vf_filestore.specs.State.{State, StandingParty, file_in, identity_in, mode_in, name_in, selected_file, units_in, units_of}
-use Rattle.vf_filestore.specs.Units.{file_access}
+use Rattle.vf_filestore.specs.Units.{file_access, unit_row}
 use Rattle.vf_filestore.proofs.Unchanged.{files_themselves}
 use Rattle.vf_regime_effects.specs.Meanings.{placed_at}
 use Rattle.vf_regime_refusals.specs.Asked.{stamp_by}

@@ -4,7 +4,7 @@ use Rattle.std.specs.Prelude.{IsSome}
 use Rattle.std.specs.List.{AllByRecursion, IsDistinct}
 use Rattle.std.specs.Str.{bytes_eq}
 use Rattle.vf_attr.specs.declared.file.File.{File}
-use Rattle.vf_files.specs.Files.{file_named}
+use Rattle.vf_filestore.specs.Files.{file_named}
 use Rattle.vf_tables.specs.declared.change.Change.TheVariants.{DropFile}
 use Rattle.vf_filestore.specs.Changes.{file_changes}
 use Rattle.vf_filestore.specs.Effects.{in_place, without_file}

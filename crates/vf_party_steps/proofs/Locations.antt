@@ -2,8 +2,8 @@
 use Rattle.std.proofs.Common.{◌≡◌, Option, None, Some, refl, ◌∙◌}
 use Rattle.vf_attr.specs.declared.file.File.{File}
 use Rattle.vf_base.specs.declared.access.FaduId.{FaduId}
-use Rattle.vf_files.specs.Files.{file_named}
 use Rattle.vf_filestore.specs.Decision.{locate_decision}
+use Rattle.vf_filestore.specs.Files.{file_named}
 use Rattle.vf_filestore.specs.History.{position}
 use Rattle.vf_filestore.specs.State.{State, StandingParty, file_in, selected_file, units_in, units_of}
 use Rattle.vf_party_steps.specs.Locations.{locate_of}

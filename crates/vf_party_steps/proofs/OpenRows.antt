@@ -1,16 +1,16 @@
 -- What refuses an open in a state is what code asks of its tables and of the holders of files.
 use Rattle.std.proofs.Common.{◌≡◌, ◌∷◌, Option, sym, ap, ◌∙◌}
 use Rattle.vf_elements.specs.declared.message.Message.TheVariants as messages
-use Rattle.vf_files.specs.Files.{file_named}
-use Rattle.vf_files.specs.Rows.{unit_row}
 use Rattle.vf_filestore.specs.Aborts.{Setting}
 use Rattle.vf_filestore.specs.Controls.{content_controls}
 use Rattle.vf_filestore.specs.Decision.{granted_unless, message_decision, open_decision, units_for}
 use Rattle.vf_filestore.specs.Diagnostics.{Row, first_row}
+use Rattle.vf_filestore.specs.Files.{file_named}
 use Rattle.vf_filestore.specs.History.{Nothing}
 use Rattle.vf_filestore.specs.Opening.{open_rows}
 use Rattle.vf_filestore.specs.Selecting.{rows_on}
 use Rattle.vf_filestore.specs.State.{State, StandingParty, file_in, identity_in, units_in}
+use Rattle.vf_filestore.specs.Units.{unit_row}
 use Rattle.vf_pdu.specs.declared.pdu.Pdu.TheVariants.{OpenRequest}
 use Rattle.vf_pdu_fields.specs.declared.controls.ContentControls.{ContentControls}
 use Rattle.vf_regime_refusals.specs.Asked.{activity_rows_in, found_in, opened_of, selection_of}

@@ -12,7 +12,6 @@ use Rattle.vf_elements.specs.declared.message.Message.{Message}
 use Rattle.vf_elements.specs.declared.message.Said.{Said}
 use Rattle.vf_elements.specs.declared.message.Said.TheVariants as answers
 use Rattle.vf_elements.specs.declared.stage.Stage.TheVariants as stages
-use Rattle.vf_files.specs.Files.{file_named}
 use Rattle.vf_filestore.specs.Aborts.{Setting, is_known}
 use Rattle.vf_filestore.specs.Changes.{file_changes}
 use Rattle.vf_filestore.specs.Conclusion.{concluding_entry, taken_up}
@@ -21,6 +20,7 @@ use Rattle.vf_filestore.specs.Dockets.{secures}
 use Rattle.vf_filestore.specs.Due.{check_window, due_after, due_of, next_serial, with_due}
 use Rattle.vf_filestore.specs.Effects.{put_where}
 use Rattle.vf_filestore.specs.Ending.{after_read, ending_unless, read_ending, stamp_of}
+use Rattle.vf_filestore.specs.Files.{file_named}
 use Rattle.vf_filestore.specs.History.{Entry, Given, Nothing, History, association, done, last, position, regime, selection}
 use Rattle.vf_filestore.specs.HoldersAfter.{IsHeldAfter, Keeps, concluded_by}
 use Rattle.vf_filestore.specs.Limits.{between_checks}

@@ -6,9 +6,9 @@ use Rattle.vf_attr.specs.declared.changes.AttributeChange.{AttributeChange}
 use Rattle.vf_attr.specs.declared.file.File.{File}
 use Rattle.vf_attr.specs.declared.stamp.Stamp.{Stamp}
 use Rattle.vf_base.specs.declared.action.Controls.{Controls}
-use Rattle.vf_files.specs.Files.{file_named}
 use Rattle.vf_filestore.specs.Changes.{file_changes}
 use Rattle.vf_filestore.specs.Effects.{changed, put_where}
+use Rattle.vf_filestore.specs.Files.{file_named}
 use Rattle.vf_filestore.specs.History.{Selection}
 use Rattle.vf_filestore.specs.Holders.{controls_by}
 use Rattle.vf_filestore.specs.HoldersAfter as whole

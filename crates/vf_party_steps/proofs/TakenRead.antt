@@ -10,12 +10,11 @@ use Rattle.vf_elements.specs.Stages.{takes}
 use Rattle.vf_elements.specs.declared.message.Message.{Message}
 use Rattle.vf_elements.specs.declared.message.Said.{Said}
 use Rattle.vf_elements.specs.declared.message.Said.TheVariants as answers
-use Rattle.vf_files.specs.Files.{file_named}
-use Rattle.vf_files.specs.Rows.{unit_row}
 use Rattle.vf_filestore.specs.Aborts.{Setting}
 use Rattle.vf_filestore.specs.Conclusion.{entry_of, history_of}
 use Rattle.vf_filestore.specs.Decision.{Aborts, Grants, message_decision}
 use Rattle.vf_filestore.specs.Diagnostics.{Row, row, file_changed, first_row, wrong_state, wrong_transfer}
+use Rattle.vf_filestore.specs.Files.{file_named}
 use Rattle.vf_filestore.specs.History.{Entry, Given, Nothing, Made, Refused, Showed, Placed, Resumed, History, Selection, association, done, position, selection}
 use Rattle.vf_filestore.specs.Keeping.{AreHistoriesKept, AreKept, IsEarned}
 use Rattle.vf_filestore.specs.Recovering as recovering
@@ -27,7 +26,7 @@ use Rattle.vf_filestore.specs.State as states
 use Rattle.vf_filestore.specs.State.{State, StandingParty, docket_of, file_in, identity_in, identity_of, is_docket_of}
 use Rattle.vf_filestore.specs.Tables.{direction_by, direction_of, fadu_of, point_of, refused_in, refused_of, regime_by, staged_of, version_of}
 use Rattle.vf_filestore.specs.Transfers.{Movement, Reads, Writes, Transfer, happened, has_data_end, last_check, point, under_way}
-use Rattle.vf_filestore.specs.Units.{recovery_unit}
+use Rattle.vf_filestore.specs.Units.{recovery_unit, unit_row}
 use Rattle.vf_filestore.proofs.KeptMoves.{IsAt, IsKeptMove, moving_kept}
 use Rattle.vf_filestore.proofs.Nested.{none_some}
 use Rattle.vf_filestore.proofs.Owned.{found_all}

@@ -3,13 +3,12 @@ use Rattle.std.proofs.Common.{◌≡◌, ℕ, ◌+◌, ◌-◌, true, false, not
 use Rattle.vf_elements.specs.Stages.{takes}
 use Rattle.vf_elements.specs.declared.message.Message.{Message}
 use Rattle.vf_elements.specs.declared.message.Message.TheVariants as messages
-use Rattle.vf_files.specs.Files.{file_named}
-use Rattle.vf_files.specs.Rows.{unit_row}
 use Rattle.vf_filestore.specs.Aborts.{Setting}
 use Rattle.vf_filestore.specs.Changes.{delta}
 use Rattle.vf_filestore.specs.Conclusion.{history_of}
 use Rattle.vf_filestore.specs.Decision.{Grants, granted_unless, message_decision, unless_without_token}
 use Rattle.vf_filestore.specs.Diagnostics.{Row, row, first_row, docket_unknown, wrong_transfer}
+use Rattle.vf_filestore.specs.Files.{file_named}
 use Rattle.vf_filestore.specs.History.{Given, Nothing, History, association, done, regime, selection}
 use Rattle.vf_filestore.specs.HoldersAfter.{IsPassed, IsTakenUp, Keeps, concluded_by}
 use Rattle.vf_filestore.specs.Recovering.{changed_row, recover_rows, resumed, version_of}
@@ -20,7 +19,7 @@ use Rattle.vf_filestore.specs.State.{State, StandingParty, activity_in, docket_o
 use Rattle.vf_filestore.specs.Tables.{direction_of, row_in, tables_of}
 use Rattle.vf_filestore.specs.Tables as moved
 use Rattle.vf_filestore.specs.Transfers.{Movement, Reads, Writes, Transfer, under_way}
-use Rattle.vf_filestore.specs.Units.{recovery_unit}
+use Rattle.vf_filestore.specs.Units.{recovery_unit, unit_row}
 use Rattle.vf_filestore.proofs.Alike.{AreAlike}
 use Rattle.vf_filestore.proofs.Decisions.{party_sound}
 use Rattle.vf_filestore.proofs.HeldCalls.{calls_follow}

@@ -5,20 +5,19 @@ use Rattle.vf_attr.specs.declared.file.File.{File}
 use Rattle.vf_attr.specs.declared.stamp.Stamp.{Stamp}
 use Rattle.vf_doctype.specs.DocumentTypes.{doc_type}
 use Rattle.vf_doctype.specs.declared.doc_type.DocType.{DocType}
-use Rattle.vf_files.specs.Files.{file_named}
-use Rattle.vf_files.specs.Rows.{access_row, made}
-use Rattle.vf_files.specs.declared.creation.NewFile.{NewFile}
-use Rattle.vf_files.specs.declared.limits.TheConstants.{MOST_FILES}
-use Rattle.vf_files.proofs.Deltas.{found_name}
 use Rattle.vf_filestore.specs.Controls.{attributes_usable, joined, not_opened}
 use Rattle.vf_filestore.specs.Diagnostics.{Row, first_row, name_exists, not_permitted, row, store_full}
+use Rattle.vf_filestore.specs.Files.{file_named, made}
 use Rattle.vf_filestore.specs.Holders.{HeldFiles, clash_row, conflict_with}
-use Rattle.vf_filestore.specs.Selecting.{Wanted, create_by, create_rows, rows_on, select_rows, selection_rows, typed_rows}
+use Rattle.vf_filestore.specs.Selecting.{Wanted, access_row, create_by, create_rows, rows_on, select_rows, selection_rows, typed_rows}
+use Rattle.vf_filestore.specs.declared.creation.NewFile.{NewFile}
 use Rattle.vf_filestore.proofs.Alone.{none_mapped}
 use Rattle.vf_filestore.proofs.Decided.{first_passed, later_passed}
+use Rattle.vf_filestore.proofs.Filed.{found_name}
 use Rattle.vf_locks.specs.Clash.{conflict}
 use Rattle.vf_locks.specs.declared.conflict.Conflict.{Conflict}
 use Rattle.vf_locks.specs.declared.holder.Holder.TheVariants.{Party}
+use Rattle.vf_tables.specs.declared.limits.TheConstants.{MOST_FILES}
 
 module _ (found : HeldFiles) (wanted : Wanted) where
   -- no other holder of the file stands against it

@@ -3,11 +3,11 @@ use Rattle.std.proofs.Common.{◌≡◌, ℕ, cond, nat_eq, List, [], ◌∷◌,
 use Rattle.std.specs.List.{AllByRecursion}
 use Rattle.vf_attr.specs.declared.file.File.{File}
 use Rattle.vf_attr.specs.declared.stamp.Stamp.{Stamp}
-use Rattle.vf_files.specs.Files.{file_named}
 use Rattle.vf_filestore.specs.Changes.{file_changes}
 use Rattle.vf_filestore.specs.Diagnostics.{plain, cancelled}
 use Rattle.vf_filestore.specs.Effects.{in_place, put_where}
 use Rattle.vf_filestore.specs.Ending.{cancel_ending, cancel_in, ending_in, ending_unless, in_silence, stamp_of, transfer_ending, unchanged, was_given_up, write_of}
+use Rattle.vf_filestore.specs.Files.{file_named}
 use Rattle.vf_filestore.specs.History.{selection}
 use Rattle.vf_filestore.specs.State.{State, StandingParty, file_in, identity_in}
 use Rattle.vf_filestore.specs.Tables.{operation_of, pieces_of}

@@ -4,12 +4,11 @@ use Rattle.vf_attr.specs.declared.file.File.{File}
 use Rattle.vf_attr.specs.declared.stamp.Stamp.{Stamp}
 use Rattle.vf_base.specs.declared.access.FaduId.{FaduId}
 use Rattle.vf_base.specs.declared.action.Actions.{Actions}
-use Rattle.vf_files.specs.Rows.{unit_row}
 use Rattle.vf_filestore.specs.Decision.{Decision, granted_unless}
 use Rattle.vf_filestore.specs.Diagnostics.{first_row, plain, name_unknown}
 use Rattle.vf_filestore.specs.Ending.{Ending, file_after, performed_by, unchanged}
 use Rattle.vf_filestore.specs.Opening.{erase_rows}
-use Rattle.vf_filestore.specs.Units.{file_access}
+use Rattle.vf_filestore.specs.Units.{file_access, unit_row}
 use Rattle.vf_party_steps.specs.Files.{changes_of_file}
 use Rattle.vf_tables.specs.declared.change.Change.{Change}
 use Rattle.vf_tree.specs.Acts.{Erases, does}

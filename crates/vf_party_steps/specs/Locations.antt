@@ -3,12 +3,11 @@ use Rattle.std.specs.Prelude.{ℕ, ◌∷◌, Option, None, Some, Result, Ok, Er
 use Rattle.vf_attr.specs.declared.file.File.{File}
 use Rattle.vf_base.specs.declared.access.FaduId.{FaduId}
 use Rattle.vf_base.specs.declared.diagnostic.Diagnostic.{Diagnostic}
-use Rattle.vf_files.specs.Rows.{unit_row}
 use Rattle.vf_filestore.specs.Decision.{Decision, Grants, Refuses, decided}
 use Rattle.vf_filestore.specs.Diagnostics.{plain, name_unknown}
 use Rattle.vf_filestore.specs.History.{Placed}
 use Rattle.vf_filestore.specs.Opening.{locate_rows, placed}
-use Rattle.vf_filestore.specs.Units.{file_access}
+use Rattle.vf_filestore.specs.Units.{file_access, unit_row}
 use Rattle.vf_party_steps.specs.declared.states.Open.{Open}
 use Rattle.vf_tree.specs.Acts.{Locates, does}
 

@@ -8,10 +8,10 @@ use Rattle.vf_base.specs.declared.diagnostic.Diagnostic.{Diagnostic}
 use Rattle.vf_elements.specs.declared.message.Said.{Said}
 use Rattle.vf_elements.specs.declared.stage.Stage.{Stage}
 use Rattle.vf_elements.specs.declared.stage.Stage.TheVariants as stages
-use Rattle.vf_files.specs.Files.{file_named}
 use Rattle.vf_filestore.specs.Dockets.{retained, since_selection}
 use Rattle.vf_filestore.specs.Due.{check_window, due_of}
 use Rattle.vf_filestore.specs.Ending.{after_read}
+use Rattle.vf_filestore.specs.Files.{file_named}
 use Rattle.vf_filestore.specs.History.{History}
 use Rattle.vf_filestore.specs.Limits.{between_checks}
 use Rattle.vf_filestore.specs.Recovering.{version_in}

@@ -9,18 +9,17 @@ use Rattle.vf_base.specs.declared.element.Element.{Element}
 use Rattle.vf_elements.specs.Stages.{takes}
 use Rattle.vf_elements.specs.declared.message.Message.{Message}
 use Rattle.vf_elements.specs.declared.message.Message.TheVariants as messages
-use Rattle.vf_files.specs.Files.{file_named}
-use Rattle.vf_files.specs.Rows.{unit_row}
 use Rattle.vf_filestore.specs.Aborts.{Setting}
 use Rattle.vf_filestore.specs.Controls.{not_opened, attribute_controls}
 use Rattle.vf_filestore.specs.Decision.{Aborts, message_decision}
 use Rattle.vf_filestore.specs.Diagnostics.{Row, row, first_row, docket_unknown, wrong_state, wrong_transfer}
+use Rattle.vf_filestore.specs.Files.{file_named}
 use Rattle.vf_filestore.specs.History.{Given, Refused, Showed}
 use Rattle.vf_filestore.specs.Keeping.{AreHistoriesKept}
 use Rattle.vf_filestore.specs.Recovering.{version_of, version_row}
 use Rattle.vf_filestore.specs.Stage.{regime_stage}
 use Rattle.vf_filestore.specs.State.{State, StandingParty}
-use Rattle.vf_filestore.specs.Units.{recovery_unit}
+use Rattle.vf_filestore.specs.Units.{recovery_unit, unit_row}
 use Rattle.vf_locks.specs.Holders.{controls_of}
 use Rattle.vf_locks.specs.Table.{IsAsBefore, held}
 use Rattle.vf_locks.specs.declared.holder.Holder.{Holder}

@@ -6,10 +6,10 @@ use Rattle.vf_attr.specs.declared.stamp.Stamp.{Stamp}
 use Rattle.vf_base.specs.declared.access.FaduId.{FaduId}
 use Rattle.vf_base.specs.declared.element.Element.{Element}
 use Rattle.vf_elements.specs.declared.message.Said.TheVariants as answers
-use Rattle.vf_files.specs.Files.{file_named}
 use Rattle.vf_filestore.specs.Diagnostics.{plain, cancelled}
 use Rattle.vf_filestore.specs.Dockets.{docket_left_by}
 use Rattle.vf_filestore.specs.Ending.{Ending, ending_unless, in_silence, unchanged, was_given_up, write_of}
+use Rattle.vf_filestore.specs.Files.{file_named}
 use Rattle.vf_filestore.specs.History.{Given, History}
 use Rattle.vf_filestore.specs.State.{StandingParty}
 use Rattle.vf_filestore.specs.Tables.{operation_of, pieces_of, refused_in, row_of}

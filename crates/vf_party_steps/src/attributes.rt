@@ -1,6 +1,6 @@
 ghost use Rattle.std.specs.Prelude.{◌≡◌, IfErr, IfOk, option_map};
 ghost use Rattle.vf_elements.specs.declared.message.Message.TheVariants as messages;
-ghost use Rattle.vf_files.specs.Files.{file_named};
+ghost use Rattle.vf_filestore.specs.Files.{file_named};
 ghost use Rattle.vf_filestore.specs.Replies.{attributes_of as attributes_meant};
 ghost use Rattle.vf_party_steps.specs.Represents.{IsSelected};
 ghost use Rattle.vf_party_steps.specs.Steps.{IsStep};

@@ -1,7 +1,7 @@
 ghost use Rattle.std.specs.Prelude.{◌≡◌, IfErr, IfOk, OnErr, OnOk};
 ghost use Rattle.vf_elements.specs.declared.message.Message.TheVariants as messages;
-ghost use Rattle.vf_files.specs.Files.{file_named};
 ghost use Rattle.vf_filestore.specs.Controls.{joined as joined_meant, not_opened as not_opened_meant};
+ghost use Rattle.vf_filestore.specs.Files.{file_named};
 ghost use Rattle.vf_locks.specs.Table.{IsAsBefore};
 ghost use Rattle.vf_party_steps.specs.Renames.{IsRenamed, changes_where, named_as};
 ghost use Rattle.vf_party_steps.specs.Represents.{IsSelected};

@@ -11,7 +11,7 @@ use crate::step::one_change;
 use crate::{Associated, Selected, Step, StepError};
 use std::alloc::Global;
 use vf_base::{Diagnostic, Moment, NoMemory};
-use vf_files::NewFile;
+use vf_filestore::NewFile;
 use vf_locks::Locks;
 use vf_pdu::Pdu;
 use vf_regime_refusals::{Creation, Selection, attribute_controls, create};

@@ -1,9 +1,9 @@
 //! What a party that reads is due to be sent (ISO 8571-3, F-DATA, F-CHECK and F-DATA-END; the rule is profile).
 ghost use Rattle.std.specs.Prelude.{◌≡◌, ◌+◌, ◌*◌, ◌<◌, false, [], ◌∷◌, ◌++◌, None, Some, IfOk, OnOk, drop, length, if◌then◌else◌};
 ghost use Rattle.vf_elements.specs.declared.message.Said.TheVariants as answers;
-ghost use Rattle.vf_files.specs.Rows.{includes as includes_meant};
 ghost use Rattle.vf_filestore.specs.Due.{check_window as window_meant, due as due_meant, is_check_due as check_due_meant};
 ghost use Rattle.vf_filestore.specs.Units.{has_checks as checks_meant};
+ghost use Rattle.vf_tables.specs.Validity.{includes as includes_meant};
 ghost use Rattle.vf_party_steps.specs.Dues.{Offers, Onward, Says, is_full_with, progress_at};
 ghost use Rattle.vf_party_steps.specs.Reads.{dues};
 ghost use Rattle.vf_party_steps.specs.Represents.{association_of};
@@ -12,7 +12,7 @@ ghost use Rattle.vf_pdu.specs.declared.pdu.Pdu.TheVariants.{DataEnd};
 use std::alloc::Global;
 use vf_base::{Diagnostic, Element, NoMemory};
 use vf_elements::Said;
-use vf_files::plain;
+use vf_filestore::diagnostics::plain;
 use vf_pdu::Pdu;
 use vf_regime_effects::Reading as Given;
 use vf_regime_refusals::Association;

@@ -19,14 +19,11 @@ use crate::{Open, Said, Step, StepError, Writing};
 use std::alloc::Global;
 use vf_attr::{File, Stamp};
 use vf_base::{Diagnostic, Element, Moment, NoMemory};
-use vf_files::plain;
+use vf_filestore::diagnostics::{CANCELLED, plain};
 use vf_locks::Locks;
 use vf_pdu::Pdu;
 use vf_regime_effects::{Ending, Write, selected, write_ending};
 use vf_tables::{Changes, Files, Regime, Tables};
-
-/// The number of the diagnostic of a write that its initiator gave up, and of a cancelled transfer.
-const CANCELLED: u16 = 32;
 
 impl Writing {
     /// Takes a TransferEndRequest (ISO 8571-3, F-TRANSFER-END): the write is performed with the values that stand, and

@@ -21,23 +21,15 @@ use crate::{Open, Said, Step, StepError};
 use std::alloc::Global;
 use vf_attr::{File, Stamp};
 use vf_base::{Actions, Constraint, Diagnostic, FaduId, Moment, NoMemory};
-use vf_files::plain;
+use vf_filestore::diagnostics::{
+    FADU_NOT_FOUND, FILE_FULL, NAME_UNKNOWN, NOT_PERMITTED, UNIT_NOT_AGREED, plain,
+};
 use vf_locks::Locks;
 use vf_pdu::Pdu;
 use vf_regime_effects::{Ending, erased, selected};
 use vf_regime_refusals::Association;
 use vf_tables::{Changes, Tables};
 use vf_tree::Tree;
-
-const NAME_UNKNOWN: u16 = 11;
-
-const NOT_PERMITTED: u16 = 13;
-
-const FADU_NOT_FOUND: u16 = 19;
-
-const FILE_FULL: u16 = 23;
-
-const UNIT_NOT_AGREED: u16 = 33;
 
 /// The number of the action of erase.
 const ERASE: u8 = 4;

@@ -1,29 +1,20 @@
 //! The docket that a recovery finds, and what refuses it (ISO 8571-3, F-RECOVER; which dockets it may is profile).
 ghost use Rattle.std.specs.Prelude.{◌≡◌, IfOk, Some, true, option_copied};
-ghost use Rattle.vf_files.specs.Diagnostics.{plain as plain_meant};
-ghost use Rattle.vf_files.specs.Rows.{includes};
-ghost use Rattle.vf_filestore.specs.Diagnostics.{first_row};
+ghost use Rattle.vf_filestore.specs.Diagnostics.{first_row, plain as plain_meant};
 ghost use Rattle.vf_filestore.specs.Units.{recovery_unit};
 ghost use Rattle.vf_locks.specs.declared.holder.Holder.TheVariants as holders;
+ghost use Rattle.vf_tables.specs.Validity.{includes};
 ghost use Rattle.vf_party_steps.specs.Recoveries.{changed_row_in, docket_row, is_idle as idle_meant, is_numbered_in, refusal_in, rows_of};
 
 use std::alloc::Global;
 use vf_base::{Diagnostic, Name, NoMemory};
-use vf_files::plain;
+use vf_filestore::diagnostics::{DOCKET_UNKNOWN, FILE_CHANGED, UNIT_NOT_AGREED, WRONG_TRANSFER, plain};
 use vf_locks::{Holder, Locks};
 use vf_regime_effects::selected;
 use vf_tables::{Direction, Docket, Files, Regime, Tables};
 
 /// The unit of recovery.
 const RECOVERY_UNIT: u16 = 128;
-
-const DOCKET_UNKNOWN: u16 = 27;
-
-const WRONG_TRANSFER: u16 = 29;
-
-const UNIT_NOT_AGREED: u16 = 33;
-
-const FILE_CHANGED: u16 = 34;
 
 /// The holder of a docket's file.
 pub(crate) fn holder_of(alloc: Global, identity: &Name, activity: u32) -> Result<Holder, NoMemory>

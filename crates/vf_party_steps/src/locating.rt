@@ -1,7 +1,7 @@
 ghost use Rattle.std.specs.Prelude.{◌≡◌, IfErr, option_copied};
 ghost use Rattle.vf_elements.specs.declared.message.Message.TheVariants as messages;
-ghost use Rattle.vf_files.specs.Rows.{includes as includes_meant};
 ghost use Rattle.vf_filestore.specs.Units.{file_access};
+ghost use Rattle.vf_tables.specs.Validity.{includes as includes_meant};
 ghost use Rattle.vf_party_steps.specs.Locations.{found_decision, locate_in, locate_of};
 ghost use Rattle.vf_party_steps.specs.Represents.{IsOpen};
 ghost use Rattle.vf_party_steps.specs.Steps.{IsStep};
@@ -13,22 +13,12 @@ use crate::{Open, Said, Step, StepError};
 use std::alloc::Global;
 use vf_attr::File;
 use vf_base::{Diagnostic, FaduId, Moment};
-use vf_files::plain;
+use vf_filestore::diagnostics::{BAD_CONTEXT, FADU_NOT_FOUND, NAME_UNKNOWN, OUTSIDE_CONSTRAINT_SET, UNIT_NOT_AGREED, plain};
 use vf_locks::Locks;
 use vf_pdu::Pdu;
 use vf_regime_effects::selected;
 use vf_tables::Tables;
 use vf_tree::TreeError;
-
-const NAME_UNKNOWN: u16 = 11;
-
-const OUTSIDE_CONSTRAINT_SET: u16 = 18;
-
-const FADU_NOT_FOUND: u16 = 19;
-
-const BAD_CONTEXT: u16 = 20;
-
-const UNIT_NOT_AGREED: u16 = 33;
 
 /// The unit of file access.
 const FILE_ACCESS: u16 = 4;

@@ -1,6 +1,6 @@
 ghost use Rattle.std.specs.Prelude.{◌≡◌, None, IfErr, IfOk, option_map};
 ghost use Rattle.vf_elements.specs.declared.message.Message.TheVariants as messages;
-ghost use Rattle.vf_files.specs.Files.{file_named};
+ghost use Rattle.vf_filestore.specs.Files.{file_named};
 ghost use Rattle.vf_filestore.specs.Replies.{contents_of, reply};
 ghost use Rattle.vf_party_steps.specs.Dockets.{fields_of as fields_meant, no_transfer};
 ghost use Rattle.vf_party_steps.specs.Openings.{drop_of, put_of};

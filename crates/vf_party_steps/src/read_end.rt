@@ -19,14 +19,11 @@ use crate::{Open, Reading, Said, Step, StepError};
 use std::alloc::Global;
 use vf_attr::{File, Stamp};
 use vf_base::{Diagnostic, Moment, NoMemory};
-use vf_files::plain;
+use vf_filestore::diagnostics::{CANCELLED, plain};
 use vf_locks::Locks;
 use vf_pdu::Pdu;
 use vf_regime_effects::{Reading as Given, read_ending, selected};
 use vf_tables::{Changes, Files, Tables};
-
-/// How a transfer ends that is cancelled.
-const CANCELLED: u16 = 32;
 
 impl Reading {
     /// Takes a TransferEndRequest (ISO 8571-3, F-TRANSFER-END): the file keeps who read it last, and when. The response has

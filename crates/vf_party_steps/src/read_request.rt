@@ -1,6 +1,6 @@
 ghost use Rattle.std.specs.Prelude.{◌≡◌, IfErr, IfOk};
 ghost use Rattle.vf_elements.specs.declared.message.Message.TheVariants as messages;
-ghost use Rattle.vf_files.specs.Files.{file_named};
+ghost use Rattle.vf_filestore.specs.Files.{file_named};
 ghost use Rattle.vf_filestore.specs.History.{placed_by};
 ghost use Rattle.vf_filestore.specs.Opening.{read_given as read_meant};
 ghost use Rattle.vf_party_steps.specs.Reads.{IsReading};

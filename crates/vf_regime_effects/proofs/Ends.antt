@@ -5,17 +5,17 @@ use Rattle.vf_attr.specs.declared.file.File.{File}
 use Rattle.vf_attr.specs.declared.stamp.Stamp.{Stamp}
 use Rattle.vf_base.specs.declared.access.FaduId.{FaduId}
 use Rattle.vf_doctype.specs.declared.errors.DocError.{DocError}
-use Rattle.vf_files.specs.Effects.{is_within_file}
-use Rattle.vf_files.specs.Files.{octets_of_files, with_file}
-use Rattle.vf_files.specs.declared.limits.TheConstants.{MOST_FILESTORE_OCTETS}
 use Rattle.vf_filestore.specs.Diagnostics.{Row, first_row, plain, row, file_full, store_full}
-use Rattle.vf_filestore.specs.Ending.{after_act, file_after, performed_by, room_rows, written}
+use Rattle.vf_filestore.specs.Ending.{after_act, file_after, is_within_file, performed_by, room_rows, written}
 use Rattle.vf_filestore.specs.Ending as endings
+use Rattle.vf_filestore.specs.Files.{with_file}
 use Rattle.vf_filestore.specs.History.{Placed}
 use Rattle.vf_filestore.specs.Limits.{most_version}
 use Rattle.vf_filestore.specs.Opening.{act_of, act_row}
 use Rattle.vf_pdu_fields.specs.declared.operation.WriteOperation.{WriteOperation}
 use Rattle.vf_pdu_fields.specs.declared.operation.WriteOperation.TheVariants.{Insert, Replace, Extend}
+use Rattle.vf_tables.specs.Sums.{octets_of_files}
+use Rattle.vf_tables.specs.declared.limits.TheConstants.{MOST_FILESTORE_OCTETS}
 use Rattle.vf_regime_effects.specs.Steps.{ending_by, fitting, put, put_rows, put_unless}
 use Rattle.vf_regime_effects.specs.declared.acts.Acted.{Acted}
 use Rattle.vf_tree.specs.Actions.{Outcome}

@@ -6,10 +6,10 @@ use Rattle.vf_base.specs.declared.access.Context.{Context}
 use Rattle.vf_base.specs.declared.access.FaduId.{FaduId}
 use Rattle.vf_base.specs.declared.action.Action.TheVariants as actions
 use Rattle.vf_base.specs.declared.action.Actions.{Actions}
-use Rattle.vf_files.specs.Rows.{includes}
 use Rattle.vf_filestore.specs.Diagnostics.{first_row, not_permitted, plain, row, unit_not_agreed}
 use Rattle.vf_filestore.specs.Opening.{act_row, given_unless, read_given, showing}
 use Rattle.vf_filestore.specs.Units.{read_unit}
+use Rattle.vf_tables.specs.Validity.{includes}
 use Rattle.vf_regime_effects.specs.Steps.{shown_by}
 use Rattle.vf_tree.specs.Actions.{Outcome}
 use Rattle.vf_tree.specs.Acts.{Reads, does, shown_of}

@@ -1,3 +1,4 @@
 pub mod Ends
 pub mod Givens
 pub mod Names
+pub mod Rooms

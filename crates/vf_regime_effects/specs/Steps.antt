@@ -7,16 +7,15 @@ use Rattle.vf_base.specs.declared.access.FaduId.{FaduId}
 use Rattle.vf_base.specs.declared.diagnostic.Diagnostic.{Diagnostic}
 use Rattle.vf_base.specs.declared.element.Element.{Element}
 use Rattle.vf_doctype.specs.declared.errors.DocError.{DocError}
-use Rattle.vf_files.specs.Effects.{element_diagnostic, is_within_file}
-use Rattle.vf_files.specs.Files.{octets_of_files, with_file}
-use Rattle.vf_files.specs.Rows.{tree_diagnostic}
-use Rattle.vf_files.specs.declared.limits.TheConstants.{MOST_FILESTORE_OCTETS}
 use Rattle.vf_filestore.specs.Diagnostics.{Row, row, first_row, plain, file_full, store_full}
 use Rattle.vf_filestore.specs.Ending as endings
-use Rattle.vf_filestore.specs.Ending.{after_act, unchanged}
+use Rattle.vf_filestore.specs.Ending.{after_act, element_diagnostic, is_within_file, unchanged}
+use Rattle.vf_filestore.specs.Files.{with_file}
 use Rattle.vf_filestore.specs.History.{Given, Placed, Refused, Showed}
-use Rattle.vf_filestore.specs.Opening.{act_of, version_row}
+use Rattle.vf_filestore.specs.Opening.{act_of, tree_diagnostic, version_row}
 use Rattle.vf_pdu_fields.specs.declared.operation.WriteOperation.{WriteOperation}
+use Rattle.vf_tables.specs.Sums.{octets_of_files}
+use Rattle.vf_tables.specs.declared.limits.TheConstants.{MOST_FILESTORE_OCTETS}
 use Rattle.vf_regime_effects.specs.declared.acts.Acted.{Acted}
 use Rattle.vf_tree.specs.Actions.{Outcome}
 use Rattle.vf_tree.specs.Acts.{does}

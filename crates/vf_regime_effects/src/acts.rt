@@ -4,10 +4,11 @@ ghost use Rattle.vf_filestore.specs.Opening.{act_of, only_unit as unit_meant};
 ghost use Rattle.vf_regime_effects.specs.Steps.{fitting};
 ghost use Rattle.vf_tree.specs.Acts.{Extends, Inserts, Replaces, does};
 
-use crate::numbers::{BAD_CONTEXT, FADU_NOT_FOUND, FILE_FULL, OUTSIDE_CONSTRAINT_SET};
 use std::alloc::Global;
 use vf_base::{DataUnit, Diagnostic, FaduId, NoMemory, Sequence};
-use vf_files::plain;
+use vf_filestore::diagnostics::{
+    BAD_CONTEXT, FADU_NOT_FOUND, FILE_FULL, OUTSIDE_CONSTRAINT_SET, plain,
+};
 use vf_pdu_fields::WriteOperation;
 use vf_tree::{Tree, TreeError};
 

@@ -5,13 +5,14 @@ ghost use Rattle.vf_regime_effects.specs.Meanings.{given_of_reading};
 ghost use Rattle.vf_regime_effects.specs.Steps.{shown_by};
 ghost use Rattle.vf_tree.specs.Acts.{Reads, does, shown_of};
 
-use crate::numbers::{
-    BAD_CONTEXT, FADU_NOT_FOUND, NAME_UNKNOWN, NOT_PERMITTED, OUTSIDE_CONSTRAINT_SET,
-    UNIT_NOT_AGREED, has_action, includes,
-};
+use crate::numbers::{has_action, includes};
 use std::alloc::Global;
 use vf_attr::File;
 use vf_base::{Actions, Context, Element, FaduId, NoMemory};
+use vf_filestore::diagnostics::{
+    BAD_CONTEXT, FADU_NOT_FOUND, NAME_UNKNOWN, NOT_PERMITTED, OUTSIDE_CONSTRAINT_SET,
+    UNIT_NOT_AGREED,
+};
 use vf_tree::TreeError;
 
 /// What a read is given.

@@ -1,19 +1,18 @@
 ghost use Rattle.std.specs.Prelude.{◌≡◌, [], ◌∷◌, option_copied};
 ghost use Rattle.vf_attr.specs.Access.{number_of};
-ghost use Rattle.vf_files.specs.Rows.{unit_row};
 ghost use Rattle.vf_filestore.specs.Diagnostics.{first_row};
 ghost use Rattle.vf_filestore.specs.Opening.{act_of, act_row, action_of, write_given as write_meant, write_rows};
-ghost use Rattle.vf_filestore.specs.Units.{write_unit};
+ghost use Rattle.vf_filestore.specs.Units.{unit_row, write_unit};
 ghost use Rattle.vf_regime_effects.specs.Meanings.{given_of_writing};
 ghost use Rattle.vf_tree.specs.Actions.{extended, inserted, replaced};
 ghost use Rattle.vf_tree.specs.Acts.{does};
 
-use crate::numbers::{
-    FADU_NOT_FOUND, NAME_UNKNOWN, NOT_PERMITTED, OUTSIDE_CONSTRAINT_SET, UNIT_NOT_AGREED,
-    has_action, includes, refused,
-};
+use crate::numbers::{has_action, includes, refused};
 use vf_attr::File;
 use vf_base::{Actions, Constraint, Diagnostic, FaduId};
+use vf_filestore::diagnostics::{
+    FADU_NOT_FOUND, NAME_UNKNOWN, NOT_PERMITTED, OUTSIDE_CONSTRAINT_SET, UNIT_NOT_AGREED,
+};
 use vf_pdu_fields::WriteOperation;
 use vf_tree::Tree;
 

@@ -1,11 +1,11 @@
 //! The limit of the filestore's octets.
 ghost use Rattle.std.specs.Prelude.{◌≡◌, ◌≤◌, Some, nat_le};
-ghost use Rattle.vf_files.specs.Files.{file_named, octets_of_files, with_file};
+ghost use Rattle.vf_filestore.specs.Files.{file_named, with_file};
+ghost use Rattle.vf_tables.specs.Sums.{octets_of_files};
 ghost use Rattle.vf_tree.specs.FileTree.{octets_in};
 
 use vf_attr::File;
-use vf_files::MOST_FILESTORE_OCTETS;
-use vf_tables::Files;
+use vf_tables::{Files, MOST_FILESTORE_OCTETS};
 use vf_tree::{MOST_FILE_OCTETS, Tree};
 
 /// The octets of a tree's strings, which its limit bounds.

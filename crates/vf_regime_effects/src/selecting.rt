@@ -1,6 +1,6 @@
 //! The selected file.
 ghost use Rattle.std.specs.Prelude.{◌≡◌, IfSome, Some, option_copied};
-ghost use Rattle.vf_files.specs.Files.{file_named};
+ghost use Rattle.vf_filestore.specs.Files.{file_named};
 
 use vf_attr::File;
 use vf_base::Name;

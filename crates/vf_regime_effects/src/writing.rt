@@ -2,24 +2,23 @@
 ghost use Rattle.std.specs.Prelude.{◌≡◌, ◌<◌, IfOk, Ok, Some};
 ghost use Rattle.vf_doctype.specs.DocumentTypes.{doc_type};
 ghost use Rattle.vf_doctype.specs.Units.{units as units_meant};
-ghost use Rattle.vf_files.specs.Files.{file_named};
 ghost use Rattle.vf_filestore.specs.Ending.{after_act as after_meant, write_of, written_in};
+ghost use Rattle.vf_filestore.specs.Files.{file_named};
 ghost use Rattle.vf_filestore.specs.Opening.{act_of};
 ghost use Rattle.vf_regime_effects.specs.Meanings.{ending_of};
 ghost use Rattle.vf_regime_effects.specs.Steps.{ending_by, fitting, put as put_meant};
 ghost use Rattle.vf_tree.specs.Acts.{does};
 
 use crate::acts::{Acted, act};
-use crate::numbers::{
-    BAD_ELEMENT, CONTENTS_MISMATCH, ELEMENT_TOO_LONG, FILE_FULL, NAME_UNKNOWN, STORE_FULL,
-};
 use crate::room::has_room_for;
 use crate::{Ending, Write, selected};
 use std::alloc::Global;
 use vf_attr::{File, Stamp};
 use vf_base::{DataUnit, Element, Name, NoMemory};
 use vf_doctype::{DocError, DocType};
-use vf_files::plain;
+use vf_filestore::diagnostics::{
+    BAD_ELEMENT, CONTENTS_MISMATCH, ELEMENT_TOO_LONG, FILE_FULL, NAME_UNKNOWN, STORE_FULL, plain,
+};
 use vf_tables::Files;
 use vf_tree::Tree;
 

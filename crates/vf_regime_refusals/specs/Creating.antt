@@ -4,13 +4,12 @@ use Rattle.vf_attr.specs.declared.file.File.{File}
 use Rattle.vf_attr.specs.declared.stamp.Stamp.{Stamp}
 use Rattle.vf_doctype.specs.DocumentTypes.{doc_type}
 use Rattle.vf_doctype.specs.declared.doc_type.DocType.{DocType}
-use Rattle.vf_files.specs.Files.{file_named}
-use Rattle.vf_files.specs.Rows.{made, unit_row}
-use Rattle.vf_files.specs.declared.creation.NewFile.{NewFile}
 use Rattle.vf_filestore.specs.Diagnostics.{Row, row, first_row, plain, name_exists, contents_mismatch}
+use Rattle.vf_filestore.specs.Files.{file_named, made}
 use Rattle.vf_filestore.specs.Holders.{HeldFiles}
 use Rattle.vf_filestore.specs.Selecting.{Wanted, selection_rows, typed_rows}
-use Rattle.vf_filestore.specs.Units.{limited_management}
+use Rattle.vf_filestore.specs.Units.{limited_management, unit_row}
+use Rattle.vf_filestore.specs.declared.creation.NewFile.{NewFile}
 use Rattle.vf_regime_refusals.specs.declared.creating.Creation.{Creation}
 use Rattle.vf_regime_refusals.specs.declared.creating.Creation.TheVariants.{Refused, Selected, Made}
 

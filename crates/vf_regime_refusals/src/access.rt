@@ -1,12 +1,13 @@
 //! What may be done to a file, and by whom.
 ghost use Rattle.std.specs.Prelude.{◌≡◌, ◌<◌, option_copied};
 ghost use Rattle.vf_attr.specs.Access.{has as has_meant, is_met as met_meant, may as may_meant, number_of as number_meant};
-ghost use Rattle.vf_files.specs.Files.{file_named};
-ghost use Rattle.vf_files.specs.Rows.{access_row as access_meant};
+ghost use Rattle.vf_filestore.specs.Files.{file_named};
+ghost use Rattle.vf_filestore.specs.Selecting.{access_row as access_meant};
 
-use crate::numbers::{ACCESS_DENIED, BAD_PASSWORD, NOT_PERMITTED, refused};
+use crate::numbers::refused;
 use vf_attr::{AccessError, File, may};
 use vf_base::{Action, Actions, Diagnostic, Name, Octets};
+use vf_filestore::diagnostics::{ACCESS_DENIED, BAD_PASSWORD, NOT_PERMITTED};
 use vf_tables::Files;
 
 /// The file of this name; `None` exactly where there is none.

@@ -1,19 +1,20 @@
 ghost use Rattle.std.specs.Prelude.{◌≡◌, IfOk};
-ghost use Rattle.vf_files.specs.Rows.{made as made_meant};
+ghost use Rattle.vf_filestore.specs.Files.{made as made_meant};
 ghost use Rattle.vf_regime_refusals.specs.Asked.{found_in, stamp_by, wanted_of};
 ghost use Rattle.vf_regime_refusals.specs.Creating.{creation_of, new_creation, there_creation};
 
 use crate::access::named;
-use crate::numbers::{CONTENTS_MISMATCH, LIMITED_MANAGEMENT, NAME_EXISTS, STORE_FULL, unit_row};
+use crate::numbers::{LIMITED_MANAGEMENT, unit_row};
 use crate::selecting::refused_selection;
 use crate::{Association, Selection};
 use std::alloc::Global;
 use vf_attr::{File, Stamp};
 use vf_base::{Diagnostic, Moment, NoMemory};
 use vf_doctype::DocType;
-use vf_files::{MOST_FILES, NewFile, plain};
+use vf_filestore::NewFile;
+use vf_filestore::diagnostics::{CONTENTS_MISMATCH, NAME_EXISTS, STORE_FULL, plain};
 use vf_locks::Locks;
-use vf_tables::Tables;
+use vf_tables::{MOST_FILES, Tables};
 use vf_tree::Tree;
 
 /// What a creation comes to.

@@ -4,9 +4,9 @@ ghost use Rattle.vf_filestore.specs.Holders.{alone_row as alone_meant, clash_row
 ghost use Rattle.vf_locks.specs.Table.{held};
 
 use crate::access::number_of;
-use crate::numbers::CONCURRENCY_CONFLICT;
 use std::alloc::Global;
 use vf_base::{Action, Controls, Diagnostic, Name, NoMemory};
+use vf_filestore::diagnostics::CONCURRENCY_CONFLICT;
 use vf_locks::{GrantError, Holder, Locks};
 
 /// The refusal by the first other holder of the file whose controls clash with these, on the lowest such action.

@@ -3,8 +3,9 @@ ghost use Rattle.vf_filestore.specs.Diagnostics.{first_row};
 ghost use Rattle.vf_filestore.specs.Selecting.{initialize_rows, is_admitted as admitted_meant};
 
 use crate::access::is_met;
-use crate::numbers::{NOT_A_USER, refused};
+use crate::numbers::refused;
 use vf_base::{Diagnostic, Name, Octets};
+use vf_filestore::diagnostics::NOT_A_USER;
 use vf_tables::Users;
 
 /// What refuses an association (ISO 8571-3, F-INITIALIZE): 36 where there are users and this identity isn't one of

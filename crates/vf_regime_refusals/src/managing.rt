@@ -1,21 +1,18 @@
 //! What is asked of a selected file as a whole.
 ghost use Rattle.std.specs.Prelude.{◌≡◌, ◌∷◌, [], Some, option_copied};
 ghost use Rattle.std.specs.Option.{option_or};
-ghost use Rattle.vf_files.specs.Rows.{unit_row as unit_row_meant};
 ghost use Rattle.vf_filestore.specs.Diagnostics.{first_row, name_exists, row as row_meant};
 ghost use Rattle.vf_filestore.specs.Selecting.{change_attrib_rows, delete_rows, is_taken, read_attrib_rows, rename_row};
-ghost use Rattle.vf_filestore.specs.Units.{enhanced_management, limited_management};
+ghost use Rattle.vf_filestore.specs.Units.{enhanced_management, limited_management, unit_row as unit_row_meant};
 ghost use Rattle.vf_locks.specs.Table.{held};
 ghost use Rattle.vf_regime_refusals.specs.Asked.{found_in, selection_of};
 
 use crate::access::{has, named};
 use crate::holders::alone_row;
-use crate::numbers::{
-    ATTRIBUTE_UNSUPPORTED, ENHANCED_MANAGEMENT, LIMITED_MANAGEMENT, NAME_EXISTS, NOT_PERMITTED,
-    refused, unit_row,
-};
+use crate::numbers::{ENHANCED_MANAGEMENT, LIMITED_MANAGEMENT, refused, unit_row};
 use crate::{Association, Selection};
 use vf_base::{Action, Diagnostic, Name};
+use vf_filestore::diagnostics::{ATTRIBUTE_UNSUPPORTED, NAME_EXISTS, NOT_PERMITTED};
 use vf_locks::Locks;
 use vf_tables::Tables;
 

@@ -1,39 +1,12 @@
-//! The diagnostics that refuse requests (ISO 8571-3; the numbers are profile).
+//! Rows that refuse a request with a diagnostic (ISO 8571-3), and the functional units that they ask for (the values of
+//! these are profile).
 ghost use Rattle.std.specs.Prelude.{◌≡◌, Some};
-ghost use Rattle.vf_files.specs.Diagnostics.{plain as plain_meant};
-ghost use Rattle.vf_files.specs.Rows.{includes as includes_meant, unit_row as unit_row_meant};
-ghost use Rattle.vf_filestore.specs.Diagnostics.{row as row_meant};
+ghost use Rattle.vf_filestore.specs.Diagnostics.{plain as plain_meant, row as row_meant};
+ghost use Rattle.vf_filestore.specs.Units.{unit_row as unit_row_meant};
+ghost use Rattle.vf_tables.specs.Validity.{includes as includes_meant};
 
 use vf_base::Diagnostic;
-use vf_files::plain;
-
-pub(crate) const NAME_UNKNOWN: u16 = 11;
-
-pub(crate) const NAME_EXISTS: u16 = 12;
-
-pub(crate) const NOT_PERMITTED: u16 = 13;
-
-pub(crate) const ACCESS_DENIED: u16 = 14;
-
-pub(crate) const BAD_PASSWORD: u16 = 15;
-
-pub(crate) const CONCURRENCY_CONFLICT: u16 = 16;
-
-pub(crate) const CONTENTS_MISMATCH: u16 = 17;
-
-pub(crate) const OUTSIDE_CONSTRAINT_SET: u16 = 18;
-
-pub(crate) const STORE_FULL: u16 = 24;
-
-pub(crate) const ACTIVITY_IN_USE: u16 = 28;
-
-pub(crate) const ATTRIBUTE_UNSUPPORTED: u16 = 31;
-
-pub(crate) const UNIT_NOT_AGREED: u16 = 33;
-
-pub(crate) const TOO_MANY_DOCKETS: u16 = 35;
-
-pub(crate) const NOT_A_USER: u16 = 36;
+use vf_filestore::diagnostics::{UNIT_NOT_AGREED, plain};
 
 /// The unit of limited file management.
 pub(crate) const LIMITED_MANAGEMENT: u16 = 8;

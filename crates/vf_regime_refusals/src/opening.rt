@@ -1,24 +1,26 @@
 ghost use Rattle.std.specs.Prelude.{◌≡◌, ◌∷◌, IfOk, option_copied};
 ghost use Rattle.vf_attr.specs.Attributes.{is_same_contents};
-ghost use Rattle.vf_files.specs.Files.{file_named};
-ghost use Rattle.vf_files.specs.Rows.{modes as modes_meant, unit_row as unit_row_meant};
 ghost use Rattle.vf_filestore.specs.Decision.{units_for as units_meant};
 ghost use Rattle.vf_filestore.specs.Diagnostics.{first_row};
+ghost use Rattle.vf_filestore.specs.Files.{file_named};
 ghost use Rattle.vf_filestore.specs.Opening.{is_mismatch as mismatch_meant, open_rows};
 ghost use Rattle.vf_filestore.specs.Selecting.{rows_on};
+ghost use Rattle.vf_filestore.specs.Units.{unit_row as unit_row_meant};
+ghost use Rattle.vf_tables.specs.Validity.{modes as modes_meant};
 ghost use Rattle.vf_regime_refusals.specs.Asked.{activity_rows_in, found_in, opened_of};
 
 use crate::access::named;
 use crate::controls::{contents_usable, joined};
 use crate::holders::clash_row;
-use crate::numbers::{
-    ACTIVITY_IN_USE, CONTENTS_MISMATCH, NAME_UNKNOWN, NOT_PERMITTED, OUTSIDE_CONSTRAINT_SET,
-    RECOVERY, TOO_MANY_DOCKETS, includes, refused, unit_row,
-};
+use crate::numbers::{RECOVERY, includes, refused, unit_row};
 use crate::{Association, Selection};
 use std::alloc::Global;
 use vf_attr::File;
 use vf_base::{Actions, Constraint, Contents, Diagnostic, Name, NoMemory};
+use vf_filestore::diagnostics::{
+    ACTIVITY_IN_USE, CONTENTS_MISMATCH, NAME_UNKNOWN, NOT_PERMITTED, OUTSIDE_CONSTRAINT_SET,
+    TOO_MANY_DOCKETS,
+};
 use vf_locks::Locks;
 use vf_pdu_fields::ContentControls;
 use vf_tables::{MOST_DOCKETS, Tables};

@@ -6,11 +6,12 @@ ghost use Rattle.vf_regime_refusals.specs.Asked.{found_in, wanted_of};
 use crate::access::{access_row, named};
 use crate::controls::{attributes_usable, joined, not_opened};
 use crate::holders::clash_row;
-use crate::numbers::{NAME_UNKNOWN, NOT_PERMITTED, refused};
+use crate::numbers::refused;
 use crate::{Association, Selection};
 use std::alloc::Global;
 use vf_attr::File;
 use vf_base::{Diagnostic, NoMemory};
+use vf_filestore::diagnostics::{NAME_UNKNOWN, NOT_PERMITTED};
 use vf_locks::Locks;
 use vf_tables::Tables;
 

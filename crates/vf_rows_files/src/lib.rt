@@ -1,12 +1,10 @@
-//! Tests of public calls of the file model: trees, document types, attributes, transfers, locks and tables of files.
+//! Tests of public calls of the file model: trees, document types, attributes, transfers and locks.
 #![tactic(auto)]
 
 #[cfg(test)]
 mod attr;
 #[cfg(test)]
 mod doctype;
-#[cfg(test)]
-mod files;
 #[cfg(test)]
 mod locks;
 #[cfg(test)]

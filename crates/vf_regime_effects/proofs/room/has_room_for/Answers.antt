@@ -1,6 +1,6 @@
 use Rattle.std.proofs.Common.{◌∙◌, ap, sym}
-use Rattle.vf_files.proofs.Rooms.{room}
-use Rattle.vf_files.specs.Files.{file_named, octets_of_option}
+use Rattle.vf_filestore.specs.Files.{file_named}
+use Rattle.vf_regime_effects.proofs.Rooms.{room, octets_of_option}
 use Rattle.vf_regime_effects.proofs.room.has_room_for.Goals as goal
 
 pub returns : goal.returns

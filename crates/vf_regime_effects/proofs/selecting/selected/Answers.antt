@@ -1,6 +1,5 @@
 use Rattle.std.proofs.Common.{◌∙◌}
-use Rattle.vf_files.proofs.Deltas.{named_itself}
-use Rattle.vf_regime_effects.proofs.Names.{found_same}
+use Rattle.vf_regime_effects.proofs.Names.{found_same, named_itself}
 use Rattle.vf_regime_effects.proofs.selecting.selected.Goals as goal
 
 pub returns-clause-found : goal.returns-clause-found

@@ -2,9 +2,6 @@ use Rattle.std.proofs.Common.{◌≡◌, ℕ, true, List, ◌∷◌, None, Some,
 use Rattle.vf_base.specs.declared.action.Controls.{Controls}
 use Rattle.vf_elements.specs.Stages.{takes}
 use Rattle.vf_elements.specs.declared.message.Message.TheVariants as messages
-use Rattle.vf_files.specs.Files.{file_named}
-use Rattle.vf_files.specs.Rows.{unit_row}
-use Rattle.vf_files.specs.declared.creation.NewFile.{NewFile}
 use Rattle.vf_filestore.specs.Aborts.{Setting}
 use Rattle.vf_filestore.specs.Changes.{file_changes}
 use Rattle.vf_filestore.specs.Controls.{attribute_controls, joined, not_opened}
@@ -12,11 +9,13 @@ use Rattle.vf_filestore.specs.Decision.{Refuses, granted_unless, made_unless, me
 use Rattle.vf_filestore.specs.Diagnostics.{Row, first_row}
 use Rattle.vf_filestore.specs.Effects.{created_where}
 use Rattle.vf_filestore.specs.Ending.{stamp_of}
+use Rattle.vf_filestore.specs.Files.{file_named}
 use Rattle.vf_filestore.specs.HoldersAfter.{concluded_by}
 use Rattle.vf_filestore.specs.Selecting.{Wanted, create_rows}
 use Rattle.vf_filestore.specs.Stage.{regime_stage}
 use Rattle.vf_filestore.specs.State.{identity_in, units_in, activity_in}
-use Rattle.vf_filestore.specs.Units.{limited_management}
+use Rattle.vf_filestore.specs.Units.{limited_management, unit_row}
+use Rattle.vf_filestore.specs.declared.creation.NewFile.{NewFile}
 use Rattle.vf_filestore.proofs.Decided.{later_passed}
 use Rattle.vf_filestore.proofs.HeldCalls.{calls_follow}
 use Rattle.vf_locks.specs.Clash.{conflict}

@@ -1,12 +1,12 @@
 use Rattle.std.proofs.Common.{◌≡◌, true, unwrap_or, List, [], ◌++◌, None, refl, ap, sym, subst, ◌∙◌}
 use Rattle.vf_elements.specs.Stages.{takes}
 use Rattle.vf_elements.specs.declared.message.Message.TheVariants as messages
-use Rattle.vf_files.specs.Files.{file_named}
 use Rattle.vf_filestore.specs.Aborts.{Setting}
 use Rattle.vf_filestore.specs.Decision.{Refuses, granted_unless, message_decision}
 use Rattle.vf_filestore.specs.Diagnostics.{Row}
 use Rattle.vf_filestore.specs.Effects.{erased, put_where}
 use Rattle.vf_filestore.specs.Ending.{Ending, stamp_of}
+use Rattle.vf_filestore.specs.Files.{file_named}
 use Rattle.vf_filestore.specs.History.{position}
 use Rattle.vf_filestore.specs.Stage.{regime_stage}
 use Rattle.vf_filestore.specs.State.{name_in, selected_file}

@@ -1,10 +1,10 @@
 use Rattle.std.proofs.Common.{◌≡◌, ℕ, true, [], ◌∷◌, None, refl, ap, sym, subst, ◌∙◌}
 use Rattle.vf_elements.specs.Stages.{takes}
 use Rattle.vf_elements.specs.declared.message.Message.TheVariants as messages
-use Rattle.vf_files.specs.Files.{file_named}
 use Rattle.vf_filestore.specs.Aborts.{Setting}
 use Rattle.vf_filestore.specs.Conclusion.{entry_of}
 use Rattle.vf_filestore.specs.Decision.{Grants}
+use Rattle.vf_filestore.specs.Files.{file_named}
 use Rattle.vf_filestore.specs.History.{placed_by}
 use Rattle.vf_filestore.specs.Opening.{write_given}
 use Rattle.vf_filestore.specs.Stage.{regime_stage}

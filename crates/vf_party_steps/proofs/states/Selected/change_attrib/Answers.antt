@@ -2,8 +2,6 @@ use Rattle.std.proofs.Common.{◌≡◌, ℕ, List, ◌∷◌, Option, Some, opt
 use Rattle.vf_attr.specs.declared.changes.AttributeChange.{AttributeChange}
 use Rattle.vf_elements.specs.Stages.{takes}
 use Rattle.vf_elements.specs.declared.message.Message.TheVariants as messages
-use Rattle.vf_files.specs.Files.{file_named}
-use Rattle.vf_files.specs.Rows.{unit_row}
 use Rattle.vf_filestore.specs.Aborts.{Setting}
 use Rattle.vf_filestore.specs.Changes.{file_changes}
 use Rattle.vf_filestore.specs.Controls.{joined, not_opened}
@@ -11,12 +9,13 @@ use Rattle.vf_filestore.specs.Decision.{granted_unless}
 use Rattle.vf_filestore.specs.Diagnostics.{Row, first_row}
 use Rattle.vf_filestore.specs.Effects.{changed, put_where}
 use Rattle.vf_filestore.specs.Ending.{stamp_of}
+use Rattle.vf_filestore.specs.Files.{file_named}
 use Rattle.vf_filestore.specs.History.{Nothing, Regime, Selection, regime, renamed}
 use Rattle.vf_filestore.specs.HoldersAfter.{IsRenamed, concluded_by}
 use Rattle.vf_filestore.specs.Selecting.{change_attrib_rows}
 use Rattle.vf_filestore.specs.Stage.{regime_stage}
 use Rattle.vf_filestore.specs.State.{activity_in, file_in, identity_in, name_in, selected_file, units_in}
-use Rattle.vf_filestore.specs.Units.{enhanced_management}
+use Rattle.vf_filestore.specs.Units.{enhanced_management, unit_row}
 use Rattle.vf_pdu.specs.declared.pdu.Pdu.{Pdu}
 use Rattle.vf_pdu.specs.declared.pdu.Pdu.TheVariants.{ChangeAttribRequest}
 use Rattle.vf_regime_refusals.specs.Asked.{selection_of, stamp_by}

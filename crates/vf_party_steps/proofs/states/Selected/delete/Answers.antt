@@ -2,7 +2,6 @@ use Rattle.std.proofs.Common.{◌≡◌, ℕ, true, [], ◌∷◌, Option, refl,
 use Rattle.std.specs.Prelude.{IfSome}
 use Rattle.vf_elements.specs.Stages.{takes}
 use Rattle.vf_elements.specs.declared.message.Message.TheVariants as messages
-use Rattle.vf_files.specs.Rows.{unit_row}
 use Rattle.vf_filestore.specs.Aborts.{Setting}
 use Rattle.vf_filestore.specs.Changes.{file_changes}
 use Rattle.vf_filestore.specs.Decision.{granted_unless}
@@ -14,7 +13,7 @@ use Rattle.vf_filestore.specs.Selecting.{delete_rows}
 use Rattle.vf_filestore.specs.Sound.{IsThere}
 use Rattle.vf_filestore.specs.Stage.{regime_stage}
 use Rattle.vf_filestore.specs.State.{file_in, name_in, units_in, activity_in}
-use Rattle.vf_filestore.specs.Units.{limited_management}
+use Rattle.vf_filestore.specs.Units.{limited_management, unit_row}
 use Rattle.vf_filestore.proofs.Decisions.{party_sound}
 use Rattle.vf_filestore.proofs.HeldCalls.{calls_follow}
 use Rattle.vf_locks.specs.Holders.{others}

@@ -5,12 +5,12 @@ use Rattle.vf_base.specs.declared.action.Controls.{Controls}
 use Rattle.vf_elements.specs.Stages.{takes}
 use Rattle.vf_elements.specs.declared.message.Message.TheVariants as messages
 use Rattle.vf_elements.specs.declared.message.Said.TheVariants as answers
-use Rattle.vf_files.specs.Files.{file_named}
 use Rattle.vf_filestore.specs.Aborts.{Setting}
 use Rattle.vf_filestore.specs.Conclusion.{entry_of}
 use Rattle.vf_filestore.specs.Controls.{content_controls, joined}
 use Rattle.vf_filestore.specs.Decision.{Grants, Refuses, granted_unless, message_decision}
 use Rattle.vf_filestore.specs.Diagnostics.{Row}
+use Rattle.vf_filestore.specs.Files.{file_named}
 use Rattle.vf_filestore.specs.History.{Entry, Nothing, Selection}
 use Rattle.vf_filestore.specs.HoldersAfter.{IsOpened, concluded_by}
 use Rattle.vf_filestore.specs.Replies.{contents_of}

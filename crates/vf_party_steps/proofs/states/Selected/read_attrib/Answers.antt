@@ -2,17 +2,16 @@ use Rattle.std.proofs.Common.{◌≡◌, true, [], ◌∷◌, None, option_map, 
 use Rattle.vf_elements.specs.Stages.{takes}
 use Rattle.vf_elements.specs.declared.message.Message.TheVariants as messages
 use Rattle.vf_elements.specs.declared.message.Said.TheVariants as answers
-use Rattle.vf_files.specs.Files.{file_named}
-use Rattle.vf_files.specs.Rows.{unit_row}
 use Rattle.vf_filestore.specs.Aborts.{Setting}
 use Rattle.vf_filestore.specs.Decision.{granted_unless}
 use Rattle.vf_filestore.specs.Diagnostics.{Row, first_row}
+use Rattle.vf_filestore.specs.Files.{file_named}
 use Rattle.vf_filestore.specs.History.{Nothing}
 use Rattle.vf_filestore.specs.Replies.{attributes_of}
 use Rattle.vf_filestore.specs.Selecting.{read_attrib_rows}
 use Rattle.vf_filestore.specs.Stage.{regime_stage}
 use Rattle.vf_filestore.specs.State.{file_in, units_in, activity_in}
-use Rattle.vf_filestore.specs.Units.{limited_management}
+use Rattle.vf_filestore.specs.Units.{limited_management, unit_row}
 use Rattle.vf_pdu.specs.declared.pdu.Pdu.{Pdu}
 use Rattle.vf_pdu.specs.declared.pdu.Pdu.TheVariants.{ReadAttribRequest, ReadAttribResponse}
 use Rattle.vf_party_steps.specs.declared.states.Selected.{Selected}

@@ -1,4 +1,0 @@
-pub mod Deltas
-pub mod Keyed
-pub mod Led
-pub mod Rooms

@@ -1,8 +1,0 @@
-pub mod Delta
-pub mod Diagnostics
-pub mod Effects
-pub mod Files
-pub mod Laws
-pub mod Readings
-pub mod Rows
-pub mod Table
