@@ -8,7 +8,9 @@ ghost use Rattle.vf_party_steps.specs.Recoveries.{changed_row_in, docket_row, is
 
 use std::alloc::Global;
 use vf_base::{Diagnostic, Name, NoMemory};
-use vf_filestore::diagnostics::{DOCKET_UNKNOWN, FILE_CHANGED, UNIT_NOT_AGREED, WRONG_TRANSFER, plain};
+use vf_filestore::diagnostics::{
+    DOCKET_UNKNOWN, FILE_CHANGED, UNIT_NOT_AGREED, WRONG_TRANSFER, plain,
+};
 use vf_locks::{Holder, Locks};
 use vf_regime_effects::selected;
 use vf_tables::{Direction, Docket, Files, Regime, Tables};

@@ -13,7 +13,9 @@ use crate::{Open, Said, Step, StepError};
 use std::alloc::Global;
 use vf_attr::File;
 use vf_base::{Diagnostic, FaduId, Moment};
-use vf_filestore::diagnostics::{BAD_CONTEXT, FADU_NOT_FOUND, NAME_UNKNOWN, OUTSIDE_CONSTRAINT_SET, UNIT_NOT_AGREED, plain};
+use vf_filestore::diagnostics::{
+    BAD_CONTEXT, FADU_NOT_FOUND, NAME_UNKNOWN, OUTSIDE_CONSTRAINT_SET, UNIT_NOT_AGREED, plain,
+};
 use vf_locks::Locks;
 use vf_pdu::Pdu;
 use vf_regime_effects::selected;
