@@ -26,8 +26,7 @@ use Rattle.vf_party_steps.specs.Reads.{stage_of as reading_stage_of}
 use Rattle.vf_party_steps.specs.Represents.{IsIdle}
 use Rattle.vf_party_steps.specs.Writes.{IsWriting}
 use Rattle.vf_party_steps.specs.declared.idle.Idle.{Idle}
-use Rattle.vf_party_steps.specs.Movements.{Reading}
-use Rattle.vf_party_steps.specs.Movements.{Writing}
+use Rattle.vf_party_steps.specs.States.{Reading, Writing}
 use Rattle.vf_party.specs.declared.quiet.Quiet.{Quiet}
 use Rattle.vf_party.specs.declared.quiet.Quiet.TheVariants as quiets
 use Rattle.vf_pdu.specs.PduNumbers.{number_of}

@@ -19,7 +19,7 @@ use Rattle.vf_party_steps.specs.declared.idle.Idle.{Idle}
 use Rattle.vf_party.specs.declared.party.Outcome.{Outcome}
 use Rattle.vf_party.specs.declared.party.Party.{Party}
 use Rattle.vf_party.specs.declared.party.Party.TheVariants as parties
-use Rattle.vf_party_steps.specs.declared.states.Associated.{Associated}
+use Rattle.vf_party_steps.specs.States.{Associated}
 use Rattle.vf_party_steps.specs.declared.step.Step.{Step}
 use Rattle.vf_party_steps.specs.declared.step.StepError.{StepError}
 use Rattle.vf_party_steps.specs.declared.step.StepError.TheVariants as errors

@@ -35,8 +35,7 @@ use Rattle.vf_party.specs.declared.party.Party.{Party}
 use Rattle.vf_party.specs.declared.party.Party.TheVariants as parties
 use Rattle.vf_party.specs.declared.quiet.Quiet.TheVariants as quiets
 use Rattle.vf_party_steps.specs.declared.recovering.Recovered.TheVariants as recovered
-use Rattle.vf_party_steps.specs.declared.states.Associated.{Associated}
-use Rattle.vf_party_steps.specs.declared.states.Open.{Open}
+use Rattle.vf_party_steps.specs.States.{Associated, Open}
 use Rattle.vf_party.specs.Quiets.{IsQuiet}
 use Rattle.vf_party_steps.specs.Represents.{IsAssociated, IsOpen}
 use Rattle.vf_party_steps.specs.declared.step.Step.{Step}

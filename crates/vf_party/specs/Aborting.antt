@@ -10,8 +10,7 @@ use Rattle.vf_filestore.specs.Units.{grouping_unit, has_checks}
 use Rattle.vf_tables.specs.Validity.{includes}
 use Rattle.vf_party.specs.declared.quiet.Quiet.{Quiet}
 use Rattle.vf_party.specs.declared.quiet.Quiet.TheVariants as quiets
-use Rattle.vf_party_steps.specs.Movements.{Reading}
-use Rattle.vf_party_steps.specs.Movements.{Writing}
+use Rattle.vf_party_steps.specs.States.{Reading, Writing}
 use Rattle.vf_pdu.specs.declared.pdu.Pdu.{Pdu}
 use Rattle.vf_pdu.specs.declared.pdu.Pdu.TheVariants.{BeginGroupRequest, ReadRequest, WriteRequest, CancelRequest, RestartRequest}
 use Rattle.vf_transfer.specs.Checks.{offered}

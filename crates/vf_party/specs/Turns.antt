@@ -34,7 +34,7 @@ use Rattle.vf_party_steps.specs.declared.recovering.Recovered.{Recovered}
 use Rattle.vf_party_steps.specs.declared.recovering.Recovered.TheVariants as recovered
 use Rattle.vf_party.specs.declared.quiet.Quiet.{Quiet}
 use Rattle.vf_party.specs.declared.quiet.Quiet.TheVariants as quiets
-use Rattle.vf_party_steps.specs.declared.states.Associated.{Associated}
+use Rattle.vf_party_steps.specs.States.{Associated}
 use Rattle.vf_party_steps.specs.declared.step.Step.{Step}
 use Rattle.vf_party_steps.specs.declared.step.StepError.{StepError}
 use Rattle.vf_party_steps.specs.declared.step.StepError.TheVariants as errors
@@ -122,11 +122,6 @@ pub record IsBegun (quiet : Quiet) (threshold : ℕ) (outcome : Outcome) : Type 
   pub groups : outcome.party ≡ Some (parties.Grouping (record { quiet = quiet; threshold = threshold; items = [] }))
   pub says : outcome.said.items ≡ []
   pub differs : outcome.changes ≡ []
-
--- without memory the party is given back
-abbrev pub Begins : Quiet → (threshold : ℕ) → Result Outcome (Party × NoMemory) → Type 0
-Begins quiet threshold (Ok outcome) = IsBegun quiet threshold outcome
-Begins quiet threshold (Err (back, error)) = back ≡ parties.Quiet quiet
 
 -- the association of an idle party is as its request's step has it
 abbrev pub Associates : (before after : HoldersOfFiles) → Result (Step Associated) (Idle × StepError) → Result Outcome (Party × NoMemory) → Type 0

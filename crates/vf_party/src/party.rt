@@ -23,7 +23,6 @@ use crate::{Associated, Idle, Message, Open, Quiet, Reading, Recovered, Said, Se
 use std::alloc::Global;
 use vf_base::{NoMemory, Sequence};
 use vf_locks::Locks;
-use vf_party_steps::Room;
 use vf_pdu::Pdu;
 use vf_tables::{Changes, Tables};
 
@@ -94,7 +93,7 @@ pub struct Grouping {
     pub(crate) quiet: Quiet,
     /// How many items have to succeed.
     pub(crate) threshold: u8,
-    pub(crate) items: Room<Sequence<Pdu>>,
+    pub(crate) items: Sequence<Pdu>,
 }
 
 /// What came of a message.

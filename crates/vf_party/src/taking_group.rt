@@ -16,7 +16,7 @@ use crate::leaving::leave_quiet;
 use crate::party::{Grouping, Outcome, Party, PartyState};
 use crate::{Message, Setting};
 use std::alloc::Global;
-use vf_base::{NoMemory, Sequence};
+use vf_base::NoMemory;
 use vf_elements::Stage;
 use vf_locks::Locks;
 use vf_pdu::Pdu;
@@ -116,9 +116,7 @@ fn added(alloc: Global, grouping: Grouping, item: Pdu) -> Result<Outcome, (Party
         items,
     } = grouping;
     let mut items = items;
-    let mut list = items.replace(Sequence::new(alloc));
-    let pushed = list.push(item);
-    let _empty = items.replace(list);
+    let pushed = items.push(item);
     let grouping = Grouping {
         quiet,
         threshold,

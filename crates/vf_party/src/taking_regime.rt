@@ -10,7 +10,7 @@ ghost use Rattle.vf_party.specs.Items.{is_item as is_item_meant};
 ghost use Rattle.vf_party.specs.Quiets.{IsQuiet, stage_of};
 ghost use Rattle.vf_party_steps.specs.Represents.{IsAssociated};
 ghost use Rattle.vf_party.specs.Settings.{setting_of};
-ghost use Rattle.vf_party.specs.Turns.{Begins, EndsSaying, IsTurnOf};
+ghost use Rattle.vf_party.specs.Turns.{EndsSaying, IsBegun, IsTurnOf};
 ghost use Rattle.vf_party.specs.declared.party.Party.TheVariants as parties;
 ghost use Rattle.vf_party.specs.declared.quiet.Quiet.TheVariants as quiets;
 ghost use Rattle.vf_pdu.specs.PduNumbers.{number_of};
@@ -25,7 +25,6 @@ use crate::{Associated, Open, Quiet, Said, Setting};
 use std::alloc::Global;
 use vf_base::{NoMemory, Sequence};
 use vf_locks::Locks;
-use vf_party_steps::Room;
 use vf_pdu::Pdu;
 use vf_tables::{Changes, Tables};
 
@@ -45,7 +44,7 @@ pub(crate) fn take_own(
     ensures { IsTurnOf IsQuiet parties.Quiet tables.now locks.old locks.new quiet (setting_of setting) (messages.Pdu request) result }
 {
     if let Pdu::BeginGroupRequest { threshold } = request {
-        return grouped(alloc, quiet, threshold);
+        return Ok(grouped(alloc, quiet, threshold));
     }
     match quiet {
         Quiet::Associated(associated) => return take_associated(
@@ -57,22 +56,19 @@ pub(crate) fn take_own(
 }
 
 /// A group begins.
-fn grouped(alloc: Global, quiet: Quiet, threshold: u8) -> Result<Outcome, (Party, NoMemory)>
-    ensures { Begins quiet threshold result }
+fn grouped(alloc: Global, quiet: Quiet, threshold: u8) -> Outcome
+    ensures { IsBegun quiet threshold result }
 {
-    let Ok(items) = Room::new(alloc, Sequence::new(alloc)) else {
-        return Err((Party::Quiet(quiet), NoMemory));
-    };
     let grouping = Grouping {
         quiet,
         threshold,
-        items,
+        items: Sequence::new(alloc),
     };
-    Ok(Outcome {
+    Outcome {
         party: Some(Party::Grouping(grouping)),
         said: Vec::new(alloc),
         changes: Changes::new(alloc),
-    })
+    }
 }
 
 /// Takes such a request with an association and no selected file.

@@ -12,7 +12,7 @@ use Rattle.vf_locks.specs.declared.held.Held.{Held}
 use Rattle.vf_locks.specs.declared.holder.Holder.TheVariants.{Party, Docket}
 use Rattle.vf_party_steps.specs.Leaving.{LeavesFile, may_pass}
 use Rattle.vf_party_steps.specs.Steps.{HoldersOfFiles, StandsIn}
-use Rattle.vf_party_steps.specs.declared.states.Selected.{Selected}
+use Rattle.vf_party_steps.specs.States.{Selected}
 use Rattle.vf_regime_refusals.specs.Asked.{selection_of}
 use Rattle.vf_tables.specs.declared.tables.Tables.{Tables}
 

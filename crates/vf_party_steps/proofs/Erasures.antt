@@ -24,7 +24,7 @@ use Rattle.vf_tree.specs.TreeRefusal.{TreeRefusal}
 use Rattle.vf_party_steps.specs.Erasures.{changes_between, ending_decision, erase_of}
 use Rattle.vf_party_steps.specs.Represents.{IsOpened}
 use Rattle.vf_party_steps.specs.Steps.{HoldersOfFiles, StandsIn}
-use Rattle.vf_party_steps.specs.declared.states.Open.{Open}
+use Rattle.vf_party_steps.specs.States.{Open}
 use Rattle.vf_party_steps.proofs.FileChanges.{changes_placed}
 use Rattle.vf_tables.specs.declared.tables.Tables.{Tables}
 

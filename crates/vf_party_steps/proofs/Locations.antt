@@ -9,7 +9,7 @@ use Rattle.vf_filestore.specs.State.{State, StandingParty, file_in, selected_fil
 use Rattle.vf_party_steps.specs.Locations.{locate_of}
 use Rattle.vf_party_steps.specs.Represents.{IsOpened}
 use Rattle.vf_party_steps.specs.Steps.{HoldersOfFiles, StandsIn}
-use Rattle.vf_party_steps.specs.declared.states.Open.{Open}
+use Rattle.vf_party_steps.specs.States.{Open}
 use Rattle.vf_tables.specs.declared.tables.Tables.{Tables}
 
 locate_by : (party : StandingParty) (fadu : FaduId) (file : Option File) → locate_decision party fadu file ≡ locate_of (units_of party) (position party.history) fadu file

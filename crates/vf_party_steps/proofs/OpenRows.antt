@@ -15,7 +15,7 @@ use Rattle.vf_pdu.specs.declared.pdu.Pdu.TheVariants.{OpenRequest}
 use Rattle.vf_pdu_fields.specs.declared.controls.ContentControls.{ContentControls}
 use Rattle.vf_regime_refusals.specs.Asked.{activity_rows_in, found_in, opened_of, selection_of}
 use Rattle.vf_regime_refusals.specs.declared.opening.Opening.{Opening}
-use Rattle.vf_party_steps.specs.declared.states.Selected.{Selected}
+use Rattle.vf_party_steps.specs.States.{Selected}
 use Rattle.vf_party_steps.specs.Represents.{IsSelected}
 use Rattle.vf_party_steps.specs.Steps.{HoldersOfFiles, StandsIn}
 use Rattle.vf_party_steps.proofs.Activities.{activity_rows_are}

@@ -18,7 +18,7 @@ use Rattle.vf_party_steps.specs.Recoveries.{AbortsRead, IsRecovered, MeetsTaken,
 use Rattle.vf_party_steps.specs.Represents.{IsAssociated}
 use Rattle.vf_party_steps.specs.Steps.{HoldersOfFiles, MeetsStep, Represents, StandsIn}
 use Rattle.vf_party_steps.specs.declared.recovering.Recovered.{Recovered}
-use Rattle.vf_party_steps.specs.declared.states.Associated.{Associated}
+use Rattle.vf_party_steps.specs.States.{Associated}
 use Rattle.vf_party_steps.specs.declared.step.Step.{Step}
 use Rattle.vf_party_steps.proofs.FoundDockets.{row_found, row_there}
 use Rattle.vf_party_steps.proofs.TakenUp as up

@@ -12,7 +12,7 @@ use Rattle.vf_transfer.specs.Transfer as transfer
 use Rattle.vf_transfer.specs.Transfer.{standing}
 use Rattle.vf_party_steps.specs.Dockets.{docket_with, own_changes}
 use Rattle.vf_party_steps.specs.Writes.{IsWriting, cut_docket, fields_at, moving_of, restarted_docket}
-use Rattle.vf_party_steps.specs.Movements.{Writing}
+use Rattle.vf_party_steps.specs.States.{Writing}
 use Rattle.vf_party_steps.proofs.WriteDockets.{cut_is, own_same}
 use Rattle.vf_party_steps.proofs.Writes.{all_pieces, offered_is, pieces_counted}
 

@@ -8,7 +8,7 @@ use Rattle.vf_filestore.specs.State.{StandingParty, activity_in, identity_in, id
 use Rattle.vf_filestore.specs.Tables.{direction_of, fadu_of, point_of, refused_of, row_in, row_of, staged_of, version_of}
 use Rattle.vf_filestore.specs.Transfers.{under_way}
 use Rattle.vf_party_steps.specs.declared.dockets.Underway.{Underway}
-use Rattle.vf_party_steps.specs.declared.states.Open.{Open}
+use Rattle.vf_party_steps.specs.States.{Open}
 use Rattle.vf_party_steps.specs.Dockets.{docket_with, fields_by, fields_of, fields_with, no_transfer}
 use Rattle.vf_party_steps.specs.Represents.{IsOpen, IsOpened}
 use Rattle.vf_party_steps.proofs.Kept.{none_left}

@@ -24,8 +24,7 @@ use Rattle.vf_party_steps.specs.Leaving.{may_pass}
 use Rattle.vf_party_steps.specs.Recoveries.{open_by, refusal_in}
 use Rattle.vf_party_steps.specs.Represents.{IsAssociated, IsOpen, IsOpened}
 use Rattle.vf_party_steps.specs.Steps.{Concludes, HoldersOfFiles, StandsIn}
-use Rattle.vf_party_steps.specs.declared.states.Associated.{Associated}
-use Rattle.vf_party_steps.specs.declared.states.Open.{Open}
+use Rattle.vf_party_steps.specs.States.{Associated, Open}
 use Rattle.vf_party_steps.specs.declared.step.Step.{Step}
 use Rattle.vf_party_steps.proofs.FoundDockets.{IsFound, row_by}
 use Rattle.vf_party_steps.proofs.Kept.{nothing_due, with_history}

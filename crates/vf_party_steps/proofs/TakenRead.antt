@@ -44,8 +44,7 @@ use Rattle.vf_party_steps.specs.Recoveries.{again, changed_row_by, changed_row_i
 use Rattle.vf_party_steps.specs.Represents.{IsAssociated, association_of}
 use Rattle.vf_party_steps.specs.Steps.{Concludes, HoldersOfFiles, StandsIn}
 use Rattle.vf_party_steps.specs.declared.due.Due.{Due}
-use Rattle.vf_party_steps.specs.Movements.{Reading}
-use Rattle.vf_party_steps.specs.declared.states.Associated.{Associated}
+use Rattle.vf_party_steps.specs.States.{Associated, Reading}
 use Rattle.vf_party_steps.specs.declared.step.Step.{Step}
 use Rattle.vf_party_steps.proofs.FoundDockets.{IsFound, row_by}
 use Rattle.vf_party_steps.proofs.Kept.{with_history}

@@ -35,7 +35,7 @@ use Rattle.vf_party_steps.specs.Leaving.{may_pass}
 use Rattle.vf_party_steps.specs.Recoveries.{changed_row_by, is_idle, is_numbered_in, refusal_in, rows_of}
 use Rattle.vf_party_steps.specs.Represents.{IsAssociated}
 use Rattle.vf_party_steps.specs.Steps.{HoldersOfFiles, StandsIn, history_by}
-use Rattle.vf_party_steps.specs.declared.states.Associated.{Associated}
+use Rattle.vf_party_steps.specs.States.{Associated}
 use Rattle.vf_party_steps.proofs.Concluding.{held_then}
 use Rattle.vf_party_steps.proofs.FoundDockets.{IsFound, row_by}
 use Rattle.vf_party_steps.proofs.Kept.{with_history}

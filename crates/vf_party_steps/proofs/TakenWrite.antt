@@ -38,9 +38,8 @@ use Rattle.vf_party_steps.specs.Recoveries.{IsFilled, cut_to, given_by, open_by,
 use Rattle.vf_party_steps.specs.Represents.{IsAssociated, IsOpened}
 use Rattle.vf_party_steps.specs.Steps.{Concludes, HoldersOfFiles, StandsIn}
 use Rattle.vf_party_steps.specs.Writes.{IsGivenAs, IsWriting, moving_of, rows_by}
-use Rattle.vf_party_steps.specs.declared.states.Associated.{Associated}
+use Rattle.vf_party_steps.specs.States.{Associated, Writing}
 use Rattle.vf_party_steps.specs.declared.step.Step.{Step}
-use Rattle.vf_party_steps.specs.Movements.{Writing}
 use Rattle.vf_party_steps.proofs.CutDockets.{cut_changes, cut_row, take_less}
 use Rattle.vf_party_steps.proofs.FoundDockets.{IsFound, row_by}
 use Rattle.vf_party_steps.proofs.Kept.{with_history}

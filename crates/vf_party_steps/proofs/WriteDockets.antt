@@ -10,7 +10,7 @@ use Rattle.vf_filestore.proofs.Unchanged.{no_piece, regime_itself}
 use Rattle.vf_party_steps.specs.Dockets.{docket_with, field_changes, fields_by, fields_with, own_changes}
 use Rattle.vf_party_steps.specs.Writes.{cut_docket, put_docket, staged_docket}
 use Rattle.vf_party_steps.specs.declared.dockets.Underway.{Underway}
-use Rattle.vf_party_steps.specs.declared.states.Open.{Open}
+use Rattle.vf_party_steps.specs.States.{Open}
 use Rattle.vf_tables.specs.Snapshot.{stages_after}
 use Rattle.vf_tables.specs.declared.change.Change.{Change}
 use Rattle.vf_tables.specs.declared.change.Change.TheVariants.{CutStage, PutDocket, Stage}

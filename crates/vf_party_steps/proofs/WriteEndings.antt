@@ -21,7 +21,7 @@ use Rattle.vf_party_steps.specs.Dockets.{docket_with, fields_of, no_transfer, ow
 use Rattle.vf_party_steps.specs.Erasures.{changes_between}
 use Rattle.vf_party_steps.specs.Steps.{HoldersOfFiles, StandsIn}
 use Rattle.vf_party_steps.specs.Writes.{IsWriting, cancel_by, changes_at, cut_docket, ending_by, fields_at, moving_of, open_after}
-use Rattle.vf_party_steps.specs.Movements.{Writing}
+use Rattle.vf_party_steps.specs.States.{Writing}
 use Rattle.vf_party_steps.proofs.FileChanges.{changes_placed}
 use Rattle.vf_party_steps.proofs.WriteDockets.{cut_is}
 use Rattle.vf_party_steps.proofs.Writes.{offered_is, pieces_counted}

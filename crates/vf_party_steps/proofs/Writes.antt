@@ -29,7 +29,7 @@ use Rattle.vf_party_steps.specs.Represents.{IsOpened}
 use Rattle.vf_party_steps.specs.Steps.{Concludes, HoldersOfFiles, StandsIn, history_by}
 use Rattle.vf_party_steps.specs.Writes.{IsWriting, fields_at, moving_of, party_with, rows_by}
 use Rattle.vf_party_steps.specs.declared.step.Step.{Step}
-use Rattle.vf_party_steps.specs.Movements.{Writing}
+use Rattle.vf_party_steps.specs.States.{Writing}
 use Rattle.vf_party_steps.proofs.Concluding.{opened_step}
 use Rattle.vf_party_steps.proofs.Kept.{with_history}
 use Rattle.vf_party_steps.proofs.Retained.{docket_at, placed_message, rows_left}

@@ -5,7 +5,7 @@ use Rattle.vf_base.specs.declared.element.Element.{Element}
 use Rattle.vf_filestore.specs.Changes.{is_same_regime, piece_changes}
 use Rattle.vf_filestore.specs.Controls.{joined}
 use Rattle.vf_party_steps.specs.declared.dockets.Underway.{Underway}
-use Rattle.vf_party_steps.specs.declared.states.Open.{Open}
+use Rattle.vf_party_steps.specs.States.{Open}
 use Rattle.vf_tables.specs.declared.change.Change.{Change}
 use Rattle.vf_tables.specs.declared.change.Change.TheVariants.{PutDocket}
 use Rattle.vf_tables.specs.declared.docket.Direction.TheVariants.{Idle}

@@ -8,7 +8,7 @@ use Rattle.vf_locks.specs.Holders.{controls_of}
 use Rattle.vf_locks.specs.Table.{held}
 use Rattle.vf_locks.specs.declared.holder.Holder.{Holder}
 use Rattle.vf_party_steps.specs.Steps.{HoldersOfFiles, Represents, StandsIn}
-use Rattle.vf_party_steps.specs.declared.states.Selected.{Selected}
+use Rattle.vf_party_steps.specs.States.{Selected}
 use Rattle.vf_regime_refusals.specs.Asked.{selection_of}
 use Rattle.vf_tables.specs.declared.tables.Tables.{Tables}
 

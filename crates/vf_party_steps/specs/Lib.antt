@@ -5,7 +5,6 @@ pub mod Erasures
 pub mod Files
 pub mod Leaving
 pub mod Locations
-pub mod Movements
 pub mod Moving
 pub mod Openings
 pub mod Reads
@@ -14,5 +13,6 @@ pub mod Regimes
 pub mod Renames
 pub mod Represents
 pub mod Sameness
+pub mod States
 pub mod Steps
 pub mod Writes

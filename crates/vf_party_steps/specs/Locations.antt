@@ -8,7 +8,7 @@ use Rattle.vf_filestore.specs.Diagnostics.{plain, name_unknown}
 use Rattle.vf_filestore.specs.History.{Placed}
 use Rattle.vf_filestore.specs.Opening.{locate_rows, placed}
 use Rattle.vf_filestore.specs.Units.{file_access, unit_row}
-use Rattle.vf_party_steps.specs.declared.states.Open.{Open}
+use Rattle.vf_party_steps.specs.States.{Open}
 use Rattle.vf_tree.specs.Acts.{Locates, does}
 
 -- an open with another position

@@ -19,7 +19,7 @@ use Rattle.vf_filestore.specs.Tables.{refused_in}
 use Rattle.vf_filestore.specs.Transfers.{Reads, last_check, point, refusal_of, start, under_way, was_shown}
 use Rattle.vf_party_steps.specs.declared.dockets.Underway.{Underway}
 use Rattle.vf_party_steps.specs.declared.due.Due.{Due}
-use Rattle.vf_party_steps.specs.Movements.{Reading}
+use Rattle.vf_party_steps.specs.States.{Reading}
 use Rattle.vf_party_steps.specs.Dues.{progress_at}
 use Rattle.vf_party_steps.specs.Files.{changes_of_file}
 use Rattle.vf_party_steps.specs.Represents.{IsOpened, association_of}

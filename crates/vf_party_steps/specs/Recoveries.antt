@@ -30,8 +30,7 @@ use Rattle.vf_party_steps.specs.Steps.{Concludes, HoldersOfFiles, MeetsStep, Rep
 use Rattle.vf_party_steps.specs.Writes.{IsWriting}
 use Rattle.vf_party_steps.specs.declared.recovering.Recovered.{Recovered}
 use Rattle.vf_party_steps.specs.declared.recovering.Recovered.TheVariants as recovered
-use Rattle.vf_party_steps.specs.declared.states.Associated.{Associated}
-use Rattle.vf_party_steps.specs.declared.states.Open.{Open}
+use Rattle.vf_party_steps.specs.States.{Associated, Open}
 use Rattle.vf_party_steps.specs.declared.states.OpenRegime.{OpenRegime}
 use Rattle.vf_party_steps.specs.declared.step.Step.{Step}
 use Rattle.vf_party_steps.specs.declared.step.StepError.{StepError}

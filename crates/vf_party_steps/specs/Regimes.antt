@@ -1,7 +1,7 @@
 -- What an open regime becomes by a transfer in it, and the changes of its docket by which it does.
 use Rattle.std.specs.Prelude.{List, []}
 use Rattle.vf_party_steps.specs.declared.dockets.Underway.{Underway}
-use Rattle.vf_party_steps.specs.declared.states.Open.{Open}
+use Rattle.vf_party_steps.specs.States.{Open}
 use Rattle.vf_party_steps.specs.declared.states.OpenRegime.{OpenRegime}
 use Rattle.vf_party_steps.specs.Dockets.{docket_with, fields_of, own_changes}
 use Rattle.vf_tables.specs.declared.change.Change.{Change}

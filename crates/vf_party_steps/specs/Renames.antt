@@ -12,7 +12,7 @@ use Rattle.vf_locks.specs.Table.{IsAsBefore, IsWith, held}
 use Rattle.vf_locks.specs.declared.held.Held.{Held}
 use Rattle.vf_locks.specs.declared.holder.Holder.TheVariants.{Party}
 use Rattle.vf_party_steps.specs.Files.{changes_of_file}
-use Rattle.vf_party_steps.specs.declared.states.Selected.{Selected}
+use Rattle.vf_party_steps.specs.States.{Selected}
 use Rattle.vf_tables.specs.declared.change.Change.{Change}
 
 -- what changes in the tables, where the file is there

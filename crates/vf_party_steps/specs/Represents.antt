@@ -5,10 +5,8 @@ use Rattle.vf_filestore.specs.History as whole
 use Rattle.vf_filestore.specs.History.{History, association, done, last, position, regime, selection}
 use Rattle.vf_filestore.specs.Transfers.{under_way}
 use Rattle.vf_party_steps.specs.declared.idle.Idle.{Idle}
-use Rattle.vf_party_steps.specs.declared.states.Associated.{Associated}
-use Rattle.vf_party_steps.specs.declared.states.Open.{Open}
+use Rattle.vf_party_steps.specs.States.{Associated, Open, Selected}
 use Rattle.vf_party_steps.specs.declared.states.OpenRegime.{OpenRegime}
-use Rattle.vf_party_steps.specs.declared.states.Selected.{Selected}
 use Rattle.vf_regime_refusals.specs.Asked.{selection_of}
 use Rattle.vf_regime_refusals.specs.declared.association.Association.{Association}
 

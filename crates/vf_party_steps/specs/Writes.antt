@@ -18,9 +18,8 @@ use Rattle.vf_party_steps.specs.Dockets.{docket_with, fields_of, no_transfer}
 use Rattle.vf_party_steps.specs.Erasures.{changes_between}
 use Rattle.vf_party_steps.specs.Represents.{IsOpened}
 use Rattle.vf_party_steps.specs.declared.dockets.Underway.{Underway}
-use Rattle.vf_party_steps.specs.declared.states.Open.{Open}
+use Rattle.vf_party_steps.specs.States.{Open, Writing}
 use Rattle.vf_party_steps.specs.declared.step.Step.{Step}
-use Rattle.vf_party_steps.specs.Movements.{Writing}
 use Rattle.vf_pdu.specs.declared.pdu.Pdu.TheVariants.{RestartResponse}
 use Rattle.vf_pdu_fields.specs.declared.operation.WriteOperation.{WriteOperation}
 use Rattle.vf_regime_effects.specs.Meanings.{ending_of, given_of_writing}

@@ -4,8 +4,8 @@ ghost use Rattle.vf_party_steps.specs.Represents.{IsAssociated, IsSelected};
 ghost use Rattle.vf_party_steps.specs.Steps.{IsStep};
 ghost use Rattle.vf_pdu.specs.PduNumbers.{number_of};
 
+use crate::boxed::boxed;
 use crate::holding::hold_selected;
-use crate::room::Room;
 use crate::{Associated, Selected, Step, StepError};
 use std::alloc::Global;
 use vf_base::{Moment, NoMemory};
@@ -49,17 +49,18 @@ impl Associated {
             controls: attribute_controls(requested, controls),
             password,
         };
-        let Ok(refused) = refused_select(alloc, tables, locks, &self.association, &selection) else {
+        let Ok(refused) = refused_select(alloc, tables, locks, &*self.association, &selection)
+        else {
             return Err((self, StepError::NoMemory));
         };
         if let Some(diagnostic) = refused {
             return Err((self, StepError::Refused(diagnostic)));
         }
-        let Ok(selection) = Room::new(alloc, selection) else {
+        let Ok(selection) = boxed(alloc, selection) else {
             return Err((self, StepError::NoMemory));
         };
         let answer = Pdu::SelectResponse { diagnostic: None };
-        let Ok(said) = hold_selected(alloc, &self, &selection, answer, locks) else {
+        let Ok(said) = hold_selected(alloc, &self, &*selection, answer, locks) else {
             return Err((self, StepError::NoMemory));
         };
         let state = Selected {

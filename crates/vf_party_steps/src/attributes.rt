@@ -41,8 +41,8 @@ impl Selected {
             unreachable!()
         };
         if let Some(diagnostic) = refused_read_attrib(
-            &self.associated.association,
-            &self.selection,
+            &*self.associated.association,
+            &*self.selection,
             names,
         ) {
             return Err((self, StepError::Refused(diagnostic)));

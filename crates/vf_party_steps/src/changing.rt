@@ -54,8 +54,8 @@ impl Selected {
         if let Some(diagnostic) = refused_change_attrib(
             tables,
             locks,
-            &self.associated.association,
-            &self.selection,
+            &*self.associated.association,
+            &*self.selection,
             name.as_ref(),
             others,
         ) {
@@ -140,7 +140,7 @@ fn with_name(mut state: Selected, name: Option<Name>) -> Selected
     ensures { result ≡ named_as name state }
 {
     if let Some(name) = name {
-        state.selection.kept.file = name;
+        state.selection.file = name;
     }
     state
 }

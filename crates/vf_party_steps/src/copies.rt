@@ -1,7 +1,7 @@
 //! Copies of typed states, which share their octets: what is tried on a copy leaves the party as it was.
 ghost use Rattle.std.specs.Prelude.{◌≡◌, IfOk};
 
-use crate::room::Room;
+use crate::boxed::boxed;
 use crate::states::OpenRegime;
 use crate::{Associated, Open, Selected};
 use std::alloc::Global;
@@ -20,7 +20,7 @@ impl Associated {
             units: self.association.units,
             window: self.association.window,
         };
-        let association = Room::new(alloc, association)?;
+        let association = boxed(alloc, association)?;
         Ok(Associated { association })
     }
 }
@@ -31,8 +31,8 @@ impl Selected {
         ensures { IfOk result (λ made. made ≡ self.now) }
     {
         let associated = self.associated.copy(alloc)?;
-        let selection = copy_selection(alloc, &self.selection)?;
-        let selection = Room::new(alloc, selection)?;
+        let selection = copy_selection(alloc, &*self.selection)?;
+        let selection = boxed(alloc, selection)?;
         Ok(Selected {
             associated,
             selection,
@@ -46,7 +46,7 @@ impl Open {
         ensures { IfOk result (λ made. made ≡ self.now) }
     {
         let selected = self.selected.copy(alloc)?;
-        let regime = Room::new(alloc, same_regime(&self.regime))?;
+        let regime = boxed(alloc, same_regime(&*self.regime))?;
         Ok(Open { selected, regime })
     }
 }

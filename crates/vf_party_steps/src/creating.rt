@@ -5,8 +5,8 @@ ghost use Rattle.vf_party_steps.specs.Represents.{IsAssociated, IsSelected};
 ghost use Rattle.vf_party_steps.specs.Steps.{IsStep};
 ghost use Rattle.vf_pdu.specs.PduNumbers.{number_of};
 
+use crate::boxed::boxed;
 use crate::holding::hold_selected;
-use crate::room::Room;
 use crate::step::one_change;
 use crate::{Associated, Selected, Step, StepError};
 use std::alloc::Global;
@@ -70,7 +70,7 @@ impl Associated {
             alloc,
             tables,
             locks,
-            &self.association,
+            &*self.association,
             &selection,
             over,
             moment,
@@ -85,11 +85,11 @@ impl Associated {
             Ok(changes) => changes,
             Err(diagnostic) => return Err((self, StepError::Refused(diagnostic))),
         };
-        let Ok(selection) = Room::new(alloc, selection) else {
+        let Ok(selection) = boxed(alloc, selection) else {
             return Err((self, StepError::NoMemory));
         };
         let answer = Pdu::CreateResponse { diagnostic: None };
-        let Ok(said) = hold_selected(alloc, &self, &selection, answer, locks) else {
+        let Ok(said) = hold_selected(alloc, &self, &*selection, answer, locks) else {
             return Err((self, StepError::NoMemory));
         };
         let state = Selected {

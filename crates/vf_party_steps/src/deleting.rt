@@ -37,8 +37,8 @@ impl Selected {
         };
         if let Some(diagnostic) = refused_delete(
             locks,
-            &self.associated.association,
-            &self.selection,
+            &*self.associated.association,
+            &*self.selection,
         ) {
             return Err((self, StepError::Refused(diagnostic)));
         }

@@ -62,7 +62,7 @@ fn fields_with(
 ) -> Result<Regime, NoMemory>
     ensures { IfOk result (λ fields. fields ≡ fields_with_meant activity regimes.now moving) }
 {
-    let selection = &regimes.selected.selection;
+    let selection = &*regimes.selected.selection;
     let Some(number) = regimes.regime.done.checked_add(1) else {
         return Err(NoMemory);
     };

@@ -219,7 +219,9 @@ fn after(regimes: Open, position: Option<u32>, done: u32, last: u16) -> Open
         done,
         last,
     };
-    regimes.with(regime)
+    let mut state = regimes;
+    *state.regime = regime;
+    state
 }
 
 /// The fields of the docket of the open after such a transfer.

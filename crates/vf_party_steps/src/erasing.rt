@@ -15,7 +15,7 @@ ghost use Rattle.vf_tree.specs.Acts.{Erases, does};
 
 use crate::files::file_change;
 use crate::locating::has_access;
-use crate::regimes::{placed, position_changes};
+use crate::regimes::position_changes;
 use crate::step::{followed_by, one_said};
 use crate::{Open, Said, Step, StepError};
 use std::alloc::Global;
@@ -57,7 +57,7 @@ impl Open {
         let Pdu::EraseRequest { fadu } = request else {
             unreachable!()
         };
-        let association = &self.selected.associated.association;
+        let association = &*self.selected.associated.association;
         let file = selected(&tables.files, &self.selected.selection.file);
         let Ok(ending) = erase_ending(alloc, association, self.regime.mode, moment, fadu, file)
         else {
@@ -73,9 +73,10 @@ impl Open {
         let Ok(said) = one_said(alloc, Said::Pdu(Pdu::EraseResponse { diagnostic: None })) else {
             return Err((self, StepError::NoMemory));
         };
-        let regime = placed(&self.regime, position);
+        let mut state = self;
+        state.regime.position = position;
         Ok(Step {
-            state: self.with(regime),
+            state,
             said,
             changes,
         })

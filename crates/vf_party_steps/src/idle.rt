@@ -7,7 +7,7 @@ ghost use Rattle.vf_party_steps.specs.Represents.{IsAssociated, IsIdle};
 ghost use Rattle.vf_party_steps.specs.Steps.{IsStep};
 ghost use Rattle.vf_pdu.specs.PduNumbers.{number_of};
 
-use crate::room::Room;
+use crate::boxed::boxed;
 use crate::step::one_said;
 use crate::{Associated, Said, Step, StepError};
 use std::alloc::Global;
@@ -79,7 +79,7 @@ impl Idle {
             units,
             window,
         };
-        let Ok(association) = Room::new(alloc, association) else {
+        let Ok(association) = boxed(alloc, association) else {
             return Err((self, StepError::NoMemory));
         };
         Ok(Step {

@@ -37,7 +37,8 @@ impl Open {
     pub fn leave(self, locks: &mut Locks)
         ensures { LeavesHolders IsOpen self locks.old locks.new }
     {
-        leave(self.selected, self.regime.activity, locks);
+        let activity = self.regime.activity;
+        leave(self.selected, activity, locks);
     }
 }
 
@@ -46,7 +47,8 @@ impl Reading {
     pub fn leave(self, locks: &mut Locks)
         ensures { LeavesHolders IsReading self locks.old locks.new }
     {
-        leave(self.opened.selected, self.opened.regime.activity, locks);
+        let activity = self.opened.regime.activity;
+        leave(self.opened.selected, activity, locks);
     }
 }
 
@@ -55,7 +57,8 @@ impl Writing {
     pub fn leave(self, locks: &mut Locks)
         ensures { LeavesHolders IsWriting self locks.old locks.new }
     {
-        leave(self.regimes.selected, self.regimes.regime.activity, locks);
+        let activity = self.regimes.regime.activity;
+        leave(self.regimes.selected, activity, locks);
     }
 }
 
@@ -63,14 +66,14 @@ impl Writing {
 fn leave(selected: Selected, activity: Option<u32>, locks: &mut Locks)
     ensures { LeavesFile selected activity locks.old locks.new }
 {
-    let association = selected.associated.association.into_value();
     let party = Holder::Party {
-        link: association.link,
+        link: selected.associated.association.link,
     };
     let Some(activity) = activity else {
         locks.release(&selected.selection.file, &party);
         return;
     };
+    let association = Box::into_inner(selected.associated.association);
     let docket = Holder::Docket {
         identity: association.identity,
         activity,

@@ -4,6 +4,7 @@
 
 mod associated;
 mod attributes;
+mod boxed;
 mod changing;
 mod checking;
 mod copies;
@@ -29,7 +30,6 @@ mod recovered_read;
 mod recovered_write;
 mod recovering;
 mod regimes;
-mod room;
 mod sameness;
 mod selected;
 mod states;
@@ -39,7 +39,6 @@ mod writing;
 pub use idle::Idle;
 pub use reading::Reading;
 pub use recovering::Recovered;
-pub use room::Room;
 pub use sameness::are_same;
 pub use states::{Associated, Open, Selected};
 pub use step::{Step, StepError, followed_by, one_said};

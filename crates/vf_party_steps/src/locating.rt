@@ -7,7 +7,7 @@ ghost use Rattle.vf_party_steps.specs.Represents.{IsOpen};
 ghost use Rattle.vf_party_steps.specs.Steps.{IsStep};
 ghost use Rattle.vf_pdu.specs.PduNumbers.{number_of};
 
-use crate::regimes::{placed, position_changes};
+use crate::regimes::position_changes;
 use crate::step::one_said;
 use crate::{Open, Said, Step, StepError};
 use std::alloc::Global;
@@ -64,9 +64,10 @@ impl Open {
         let Ok(changes) = position_changes(alloc, &self, position) else {
             return Err((self, StepError::NoMemory));
         };
-        let regime = placed(&self.regime, position);
+        let mut state = self;
+        state.regime.position = position;
         Ok(Step {
-            state: self.with(regime),
+            state,
             said,
             changes,
         })

@@ -9,8 +9,8 @@ ghost use Rattle.vf_party_steps.specs.Steps.{IsStep};
 ghost use Rattle.vf_pdu.specs.PduNumbers.{number_of};
 ghost use Rattle.vf_pdu.specs.declared.pdu.Pdu.TheVariants as pdus;
 
+use crate::boxed::boxed;
 use crate::dockets::{Underway, fields_of};
-use crate::room::Room;
 use crate::states::OpenRegime;
 use crate::step::{one_change, one_said};
 use crate::{Open, Said, Selected, Step, StepError};
@@ -61,9 +61,15 @@ impl Selected {
             controls: content_controls(mode, controls),
             activity,
         };
-        let association = &self.associated.association;
-        let Ok(refused) = refused_open(alloc, tables, locks, association, &self.selection, &opening)
-        else {
+        let association = &*self.associated.association;
+        let Ok(refused) = refused_open(
+            alloc,
+            tables,
+            locks,
+            association,
+            &*self.selection,
+            &opening,
+        ) else {
             return Err((self, StepError::NoMemory));
         };
         if let Some(diagnostic) = refused {
@@ -80,7 +86,7 @@ impl Selected {
             done: 0,
             last: 0,
         };
-        let Ok(regime) = Room::new(alloc, regime) else {
+        let Ok(regime) = boxed(alloc, regime) else {
             return Err((self, StepError::NoMemory));
         };
         let state = Open {

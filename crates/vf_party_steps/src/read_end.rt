@@ -52,14 +52,16 @@ impl Reading {
         let Ok(said) = one_said(alloc, Said::Pdu(Pdu::TransferEndResponse { diagnostic })) else {
             return Err((self, StepError::NoMemory));
         };
-        let Ok(regime) = concluded(&self.opened.regime, outcome_of(diagnostic)) else {
+        let Ok(regime) = concluded(&*self.opened.regime, outcome_of(diagnostic)) else {
             return Err((self, StepError::NoMemory));
         };
         let Ok(changes) = self.ended(alloc, moment, &tables.files, &regime) else {
             return Err((self, StepError::NoMemory));
         };
+        let mut state = self.opened;
+        *state.regime = regime;
         Ok(Step {
-            state: self.opened.with(regime),
+            state,
             said,
             changes,
         })
@@ -90,14 +92,16 @@ impl Reading {
         let Ok(said) = one_said(alloc, Said::Pdu(Pdu::CancelResponse)) else {
             return Err((self, StepError::NoMemory));
         };
-        let Ok(regime) = concluded(&self.opened.regime, CANCELLED) else {
+        let Ok(regime) = concluded(&*self.opened.regime, CANCELLED) else {
             return Err((self, StepError::NoMemory));
         };
         let Ok(changes) = self.ended(alloc, moment, &tables.files, &regime) else {
             return Err((self, StepError::NoMemory));
         };
+        let mut state = self.opened;
+        *state.regime = regime;
         Ok(Step {
-            state: self.opened.with(regime),
+            state,
             said,
             changes,
         })
@@ -132,8 +136,8 @@ impl Reading {
         if refusal_of(&self.read.given).is_some() {
             return Ok(Changes::new(alloc));
         }
-        let selection = &self.opened.selected.selection;
-        let association = &self.opened.selected.associated.association;
+        let selection = &*self.opened.selected.selection;
+        let association = &*self.opened.selected.associated.association;
         let identity = association.identity.copy(alloc)?;
         let stamp = Stamp { moment, identity };
         let changes = read_changed(alloc, stamp, selected(files, &selection.file))?;

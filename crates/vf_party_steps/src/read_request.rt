@@ -9,6 +9,7 @@ ghost use Rattle.vf_party_steps.specs.Steps.{IsStep};
 ghost use Rattle.vf_pdu.specs.PduNumbers.{number_of};
 ghost use Rattle.vf_regime_effects.specs.Meanings.{given_of_reading};
 
+use crate::boxed::boxed;
 use crate::dockets::Underway;
 use crate::due::Due;
 use crate::reading::{Read, read_at};
@@ -54,11 +55,11 @@ impl Open {
             unacknowledged: 0,
             serial: u64::from(serial),
         };
-        let association = &self.selected.associated.association;
+        let association = &*self.selected.associated.association;
         let Ok(shown) = due.say(alloc, association, &given) else {
             return Err((self, StepError::NoMemory));
         };
-        let regime = placed(&self.regime, position_after(&given, self.regime.position));
+        let regime = placed(&*self.regime, position_after(&given, self.regime.position));
         let is = read_at(fadu, context, &given, 0);
         let Ok(changes) = changed(alloc, &self, Underway::none(), &regime, is) else {
             return Err((self, StepError::NoMemory));
@@ -72,13 +73,12 @@ impl Open {
             start: 0,
             shown,
         };
-        let Ok(read) = Box::new(alloc, read) else {
+        let Ok(read) = boxed(alloc, read) else {
             return Err((self, StepError::NoMemory));
         };
-        let state = Reading {
-            opened: self.with(regime),
-            read,
-        };
+        let mut opened = self;
+        *opened.regime = regime;
+        let state = Reading { opened, read };
         Ok(Step {
             state,
             said: due.said,

@@ -46,7 +46,7 @@ pub(crate) struct Read {
 }
 
 impl Model for Reading {
-    ghost use Rattle.vf_party_steps.specs.Movements.{Reading as ReadingMeant};
+    ghost use Rattle.vf_party_steps.specs.States.{Reading as ReadingMeant};
 
     ghost Value = { ReadingMeant };
 
@@ -67,7 +67,7 @@ impl Reading {
     pub fn association(&self) -> &Association
         ensures { result.now ≡ self.now.opened.selected.associated.association }
     {
-        &self.opened.selected.associated.association
+        &*self.opened.selected.associated.association
     }
 
     /// The number of the last check that stands.
@@ -158,7 +158,7 @@ impl Reading {
                 self.read.check,
             )),
         };
-        let association = &self.opened.selected.associated.association;
+        let association = &*self.opened.selected.associated.association;
         let Ok(shown) = due.say(alloc, association, &self.read.given) else {
             return Err((self, StepError::NoMemory));
         };
@@ -183,7 +183,7 @@ impl Reading {
         if self.read.shown {
             return Ok(true);
         }
-        let association = &self.opened.selected.associated.association;
+        let association = &*self.opened.selected.associated.association;
         let shown = due.say(alloc, association, &self.read.given)?;
         Ok(shown)
     }
@@ -205,7 +205,7 @@ impl Reading {
         ensures { IfOk result (λ changes. changes ≡ docket_changes self.now.opened (moving_of self.now) self.now.opened.regime (read_at_meant self.now.fadu self.now.context self.now.given point)) }
     {
         let is = read_at(self.read.fadu, self.read.context, &self.read.given, point);
-        let regime = &self.opened.regime;
+        let regime = &*self.opened.regime;
         let changes = changed(alloc, &self.opened, self.moving(), regime, is)?;
         Ok(changes)
     }

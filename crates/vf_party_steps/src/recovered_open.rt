@@ -10,9 +10,9 @@ ghost use Rattle.vf_pdu.specs.declared.pdu.Pdu.TheVariants.{RecoverRequest};
 ghost use Rattle.vf_tables.specs.declared.docket.Direction.TheVariants.{Idle};
 ghost use Rattle.vf_party_steps.specs.Leaving.{may_pass as may_pass_meant};
 
+use crate::boxed::boxed;
 use crate::found_docket::holder_of;
 use crate::leaving::may_pass;
-use crate::room::Room;
 use crate::states::OpenRegime;
 use crate::step::one_said;
 use crate::{Associated, Open, Said, Selected, Step};
@@ -81,10 +81,10 @@ pub(crate) fn reopened(
     let Ok(selection) = selection_in(alloc, regime) else {
         return Err(associated);
     };
-    let Ok(selection) = Room::new(alloc, selection) else {
+    let Ok(selection) = boxed(alloc, selection) else {
         return Err(associated);
     };
-    let Ok(regime) = Room::new(alloc, opened_in(regime)) else {
+    let Ok(regime) = boxed(alloc, opened_in(regime)) else {
         return Err(associated);
     };
     let selected = Selected {

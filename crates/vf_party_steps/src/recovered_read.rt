@@ -9,6 +9,7 @@ ghost use Rattle.vf_filestore.specs.History.{Refused};
 ghost use Rattle.vf_regime_effects.specs.Meanings.{given_of_reading};
 ghost use Rattle.vf_tree.specs.Acts.{Reads, does, shown_of};
 
+use crate::boxed::boxed;
 use crate::due::Due;
 use crate::found_docket::holder_of;
 use crate::reading::Read;
@@ -71,7 +72,7 @@ impl Associated {
             unacknowledged: 0,
             serial: u64::from(serial),
         };
-        let Ok(shown) = due.say(alloc, &self.association, &given) else {
+        let Ok(shown) = due.say(alloc, &*self.association, &given) else {
             return Err(self);
         };
         let Ok(changes) = put_at(alloc, &docket.regime, check) else {
@@ -86,7 +87,7 @@ impl Associated {
             start: check,
             shown,
         };
-        let Ok(read) = Box::new(alloc, read) else {
+        let Ok(read) = boxed(alloc, read) else {
             return Err(self);
         };
         let link = self.association.link;

@@ -7,6 +7,7 @@ ghost use Rattle.vf_party_steps.specs.Writes.{IsWriting};
 ghost use Rattle.vf_pdu.specs.declared.pdu.Pdu.TheVariants.{RecoverRequest};
 ghost use Rattle.vf_tables.specs.declared.docket.Direction.TheVariants.{Write};
 
+use crate::boxed::boxed;
 use crate::found_docket::holder_of;
 use crate::received::Received;
 use crate::recovered_open::{reopened, take_hold};
@@ -74,7 +75,7 @@ impl Associated {
             start: check,
             ended: None,
         };
-        let Ok(write) = Box::new(alloc, written) else {
+        let Ok(write) = boxed(alloc, written) else {
             return Err(self);
         };
         let link = self.association.link;

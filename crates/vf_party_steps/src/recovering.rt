@@ -109,7 +109,7 @@ impl Associated {
         ensures exact { IfOk result (λ reads. reads ≡ would_read_meant tables.now locks.now self.now.association activity number) }
         ensures aborts { IfOk result (AbortsRead tables.now locks.now self.now activity number point) }
     {
-        let reads = would_read(alloc, &self.association, activity, number, tables, locks)?;
+        let reads = would_read(alloc, &*self.association, activity, number, tables, locks)?;
         Ok(reads)
     }
 }

@@ -68,7 +68,7 @@ pub(crate) fn position_changes(
     ensures { IfOk result (λ changes. changes ≡ own_changes (docket_with (fields_meant regimes.now no_transfer) []) (docket_with (fields_meant (at_position position regimes.now) no_transfer) [])) }
 {
     let none = Underway::none();
-    let regime = placed(&regimes.regime, position);
+    let regime = placed(&*regimes.regime, position);
     let changes = changed(alloc, regimes, none, &regime, none)?;
     Ok(changes)
 }

@@ -1,6 +1,6 @@
 ghost use Rattle.std.specs.Prelude.{◌≡◌};
 
-use crate::room::Room;
+use std::marker::Model;
 use vf_base::Actions;
 use vf_pdu_fields::ContentControls;
 use vf_regime_refusals::{Association, Selection};
@@ -8,21 +8,45 @@ use vf_regime_refusals::{Association, Selection};
 /// A party with an association and no selected file.
 #[derive(Drop)]
 pub struct Associated {
-    pub(crate) association: Room<Association>,
+    pub(crate) association: Box<Association>,
+}
+
+impl Model for Associated {
+    ghost use Rattle.vf_party_steps.specs.States.{Associated as AssociatedMeant};
+
+    ghost Value = { AssociatedMeant };
+
+    ghost view = { λ associated. record { association = associated.association.value } };
 }
 
 /// A party with a selected file that isn't open.
 #[derive(Drop)]
 pub struct Selected {
     pub(crate) associated: Associated,
-    pub(crate) selection: Room<Selection>,
+    pub(crate) selection: Box<Selection>,
+}
+
+impl Model for Selected {
+    ghost use Rattle.vf_party_steps.specs.States.{Selected as SelectedMeant};
+
+    ghost Value = { SelectedMeant };
+
+    ghost view = { λ selected. record { associated = selected.associated; selection = selected.selection.value } };
 }
 
 /// A party with an open file, in which no transfer is under way.
 #[derive(Drop)]
 pub struct Open {
     pub(crate) selected: Selected,
-    pub(crate) regime: Room<OpenRegime>,
+    pub(crate) regime: Box<OpenRegime>,
+}
+
+impl Model for Open {
+    ghost use Rattle.vf_party_steps.specs.States.{Open as OpenMeant};
+
+    ghost Value = { OpenMeant };
+
+    ghost view = { λ regimes. record { selected = regimes.selected; regime = regimes.regime.value } };
 }
 
 /// What is kept of an open regime beside its selection (ISO 8571-3, F-OPEN).
@@ -44,7 +68,7 @@ impl Associated {
     pub fn association(&self) -> &Association
         ensures { result.now ≡ self.now.association }
     {
-        &self.association
+        &*self.association
     }
 }
 
@@ -52,24 +76,15 @@ impl Selected {
     pub fn association(&self) -> &Association
         ensures { result.now ≡ self.now.associated.association }
     {
-        &self.associated.association
+        &*self.associated.association
     }
 }
 
 impl Open {
-    /// The same selection, opened so.
-    pub(crate) fn with(self, regime: OpenRegime) -> Open
-        ensures { result ≡ record self { regime = regime } }
-    {
-        let mut state = self;
-        let _before = state.regime.replace(regime);
-        state
-    }
-
     pub fn association(&self) -> &Association
         ensures { result.now ≡ self.now.selected.associated.association }
     {
-        &self.selected.associated.association
+        &*self.selected.associated.association
     }
 
     /// How many transfers are concluded.

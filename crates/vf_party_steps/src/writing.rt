@@ -9,6 +9,7 @@ ghost use Rattle.vf_party_steps.specs.Writes.{IsWriting, fields_at, moving_of, p
 ghost use Rattle.vf_pdu.specs.PduNumbers.{number_of};
 ghost use Rattle.vf_transfer.specs.Checks.{offered};
 
+use crate::boxed::boxed;
 use crate::dockets::{Underway, fields_of};
 use crate::received::Received;
 use crate::step::one_change;
@@ -49,7 +50,7 @@ pub(crate) struct Written {
 }
 
 impl Model for Writing {
-    ghost use Rattle.vf_party_steps.specs.Movements.{Writing as WritingMeant};
+    ghost use Rattle.vf_party_steps.specs.States.{Writing as WritingMeant};
 
     ghost Value = { WritingMeant };
 
@@ -102,7 +103,7 @@ impl Open {
             start: 0,
             ended: None,
         };
-        let Ok(write) = Box::new(alloc, written) else {
+        let Ok(write) = boxed(alloc, written) else {
             return Err((self, StepError::NoMemory));
         };
         let state = Writing {
@@ -131,7 +132,7 @@ impl Writing {
     pub fn association(&self) -> &Association
         ensures { result.now ≡ self.now.regimes.selected.associated.association }
     {
-        &self.regimes.selected.associated.association
+        &*self.regimes.selected.associated.association
     }
 
     /// The number of the last check that stands.

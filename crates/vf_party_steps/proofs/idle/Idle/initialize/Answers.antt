@@ -11,7 +11,7 @@ use Rattle.vf_filestore.specs.Stage.{regime_stage}
 use Rattle.vf_filestore.specs.State.{activity_in}
 use Rattle.vf_pdu.specs.declared.pdu.Pdu.{Pdu}
 use Rattle.vf_pdu.specs.declared.pdu.Pdu.TheVariants.{InitializeRequest, InitializeResponse}
-use Rattle.vf_party_steps.specs.declared.states.Associated.{Associated}
+use Rattle.vf_party_steps.specs.States.{Associated}
 use Rattle.vf_party_steps.specs.declared.step.Step.{Step}
 use Rattle.vf_party_steps.specs.Represents.{IsAssociated}
 use Rattle.vf_party_steps.specs.Steps.{Concludes, history_by}

@@ -5,7 +5,7 @@ use Rattle.vf_filestore.specs.Conclusion.{entry_of}
 use Rattle.vf_filestore.specs.History.{Nothing}
 use Rattle.vf_filestore.specs.Transfers.{has_data_end, was_shown}
 use Rattle.vf_party_steps.specs.declared.due.Due.{Due}
-use Rattle.vf_party_steps.specs.Movements.{Reading}
+use Rattle.vf_party_steps.specs.States.{Reading}
 use Rattle.vf_party_steps.specs.declared.step.Step.{Step}
 use Rattle.vf_party_steps.specs.Dockets.{docket_with, fields_of}
 use Rattle.vf_party_steps.specs.Reads.{moving_of}

@@ -13,7 +13,7 @@ use Rattle.vf_filestore.specs.State.{name_in, selected_file}
 use Rattle.vf_filestore.specs.Transfers.{refusal_of}
 use Rattle.vf_pdu.specs.declared.pdu.Pdu.{Pdu}
 use Rattle.vf_pdu.specs.declared.pdu.Pdu.TheVariants.{TransferEndRequest, TransferEndResponse}
-use Rattle.vf_party_steps.specs.declared.states.Open.{Open}
+use Rattle.vf_party_steps.specs.States.{Open}
 use Rattle.vf_party_steps.specs.declared.step.Step.{Step}
 use Rattle.vf_party_steps.specs.Dockets.{docket_with, fields_of, no_transfer, own_changes}
 use Rattle.vf_party_steps.specs.Reads.{ended_changes, moving_of}

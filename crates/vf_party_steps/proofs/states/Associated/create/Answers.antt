@@ -27,7 +27,7 @@ use Rattle.vf_pdu.specs.declared.pdu.Pdu.TheVariants.{CreateRequest}
 use Rattle.vf_pdu_fields.specs.declared.controls.AttributeControls.{AttributeControls}
 use Rattle.vf_regime_refusals.specs.Asked.{found_in, stamp_by}
 use Rattle.vf_regime_refusals.specs.declared.association.Selection.{Selection}
-use Rattle.vf_party_steps.specs.declared.states.Selected.{Selected}
+use Rattle.vf_party_steps.specs.States.{Selected}
 use Rattle.vf_party_steps.specs.declared.step.Step.{Step}
 use Rattle.vf_party_steps.specs.Creations.{changes_of}
 use Rattle.vf_party_steps.specs.Represents.{IsSelected}

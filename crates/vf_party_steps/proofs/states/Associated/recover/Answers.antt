@@ -12,7 +12,7 @@ use Rattle.vf_party_steps.specs.Steps.{MeetsStep}
 use Rattle.vf_party_steps.specs.Writes.{IsWriting}
 use Rattle.vf_party_steps.specs.declared.recovering.Recovered.{Recovered}
 use Rattle.vf_party_steps.specs.declared.recovering.Recovered.TheVariants as recovered
-use Rattle.vf_party_steps.specs.declared.states.Associated.{Associated}
+use Rattle.vf_party_steps.specs.States.{Associated}
 use Rattle.vf_party_steps.specs.declared.step.Step.{Step}
 use Rattle.vf_party_steps.specs.declared.step.StepError.{StepError}
 use Rattle.vf_party_steps.proofs.Recovers.{decision_refused, meets}

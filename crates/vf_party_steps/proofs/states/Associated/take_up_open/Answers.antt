@@ -7,7 +7,7 @@ use Rattle.vf_locks.specs.declared.holder.Holder.{Holder}
 use Rattle.vf_locks.specs.declared.holder.Holder.TheVariants.{Party}
 use Rattle.vf_party_steps.specs.Leaving.{may_pass}
 use Rattle.vf_party_steps.specs.Recoveries.{docket_row}
-use Rattle.vf_party_steps.specs.declared.states.Open.{Open}
+use Rattle.vf_party_steps.specs.States.{Open}
 use Rattle.vf_party_steps.specs.declared.step.Step.{Step}
 use Rattle.vf_party_steps.proofs.FoundDockets.{row_found}
 use Rattle.vf_party_steps.proofs.TakenOpen.{takes_open}

@@ -10,7 +10,7 @@ use Rattle.vf_locks.specs.declared.holder.Holder.TheVariants.{Party}
 use Rattle.vf_party_steps.specs.Leaving.{may_pass}
 use Rattle.vf_party_steps.specs.Recoveries.{docket_row, put_at, read_by}
 use Rattle.vf_party_steps.specs.declared.due.Due.{Due}
-use Rattle.vf_party_steps.specs.Movements.{Reading}
+use Rattle.vf_party_steps.specs.States.{Reading}
 use Rattle.vf_party_steps.specs.declared.step.Step.{Step}
 use Rattle.vf_party_steps.proofs.FoundDockets.{row_found}
 use Rattle.vf_party_steps.proofs.TakenRead.{takes_read}

@@ -10,7 +10,7 @@ use Rattle.vf_locks.specs.declared.holder.Holder.TheVariants.{Party}
 use Rattle.vf_party_steps.specs.Leaving.{may_pass}
 use Rattle.vf_party_steps.specs.Recoveries.{IsFilled, cut_to, docket_row}
 use Rattle.vf_party_steps.specs.declared.step.Step.{Step}
-use Rattle.vf_party_steps.specs.Movements.{Writing}
+use Rattle.vf_party_steps.specs.States.{Writing}
 use Rattle.vf_party_steps.proofs.FoundDockets.{row_found}
 use Rattle.vf_party_steps.proofs.TakenWrite.{takes_write}
 use Rattle.vf_party_steps.proofs.states.Associated.take_up_write.Goals as goal

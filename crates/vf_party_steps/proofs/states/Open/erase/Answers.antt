@@ -21,7 +21,7 @@ use Rattle.vf_party_steps.specs.Erasures.{changes_between, ending_decision, eras
 use Rattle.vf_party_steps.specs.Locations.{at_position}
 use Rattle.vf_party_steps.specs.Represents.{IsOpen}
 use Rattle.vf_party_steps.specs.Steps.{Concludes, history_by}
-use Rattle.vf_party_steps.specs.declared.states.Open.{Open}
+use Rattle.vf_party_steps.specs.States.{Open}
 use Rattle.vf_party_steps.specs.declared.step.Step.{Step}
 use Rattle.vf_party_steps.proofs.Erasures.{erase_changes, erase_is, placed_after}
 use Rattle.vf_party_steps.proofs.Concluding.{nested_then, opened_step, replied}

@@ -14,7 +14,7 @@ use Rattle.vf_party_steps.specs.Locations.{at_position, locate_of}
 use Rattle.vf_party_steps.specs.Dockets.{docket_with, fields_of, no_transfer, own_changes}
 use Rattle.vf_party_steps.specs.Represents.{IsOpen}
 use Rattle.vf_party_steps.specs.Steps.{Concludes, history_by}
-use Rattle.vf_party_steps.specs.declared.states.Open.{Open}
+use Rattle.vf_party_steps.specs.States.{Open}
 use Rattle.vf_party_steps.specs.declared.step.Step.{Step}
 use Rattle.vf_party_steps.proofs.Locations.{locate_is}
 use Rattle.vf_party_steps.proofs.Concluding.{nested_then, opened_step, replied}

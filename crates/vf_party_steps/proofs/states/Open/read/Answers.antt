@@ -13,8 +13,7 @@ use Rattle.vf_filestore.proofs.Decisions.{party_sound}
 use Rattle.vf_pdu.specs.declared.pdu.Pdu.{Pdu}
 use Rattle.vf_pdu.specs.declared.pdu.Pdu.TheVariants.{ReadRequest}
 use Rattle.vf_party_steps.specs.declared.due.Due.{Due}
-use Rattle.vf_party_steps.specs.Movements.{Reading}
-use Rattle.vf_party_steps.specs.declared.states.Open.{Open}
+use Rattle.vf_party_steps.specs.States.{Open, Reading}
 use Rattle.vf_party_steps.specs.declared.step.Step.{Step}
 use Rattle.vf_party_steps.specs.Dockets.{docket_with, fields_of, no_transfer, own_changes}
 use Rattle.vf_party_steps.specs.Reads.{IsReading}

@@ -22,7 +22,7 @@ use Rattle.vf_party_steps.specs.Represents.{IsOpened}
 use Rattle.vf_party_steps.specs.Steps.{Concludes}
 use Rattle.vf_party_steps.specs.Writes.{IsWriting, moving_of, put_docket}
 use Rattle.vf_party_steps.specs.declared.step.Step.{Step}
-use Rattle.vf_party_steps.specs.Movements.{Writing}
+use Rattle.vf_party_steps.specs.States.{Writing}
 use Rattle.vf_party_steps.proofs.Retained.{retained_secured}
 use Rattle.vf_party_steps.proofs.Rows.{rows_open}
 use Rattle.vf_party_steps.proofs.WriteDockets.{put_is}

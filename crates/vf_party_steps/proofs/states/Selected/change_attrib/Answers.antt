@@ -19,7 +19,7 @@ use Rattle.vf_filestore.specs.Units.{enhanced_management, unit_row}
 use Rattle.vf_pdu.specs.declared.pdu.Pdu.{Pdu}
 use Rattle.vf_pdu.specs.declared.pdu.Pdu.TheVariants.{ChangeAttribRequest}
 use Rattle.vf_regime_refusals.specs.Asked.{selection_of, stamp_by}
-use Rattle.vf_party_steps.specs.declared.states.Selected.{Selected}
+use Rattle.vf_party_steps.specs.States.{Selected}
 use Rattle.vf_party_steps.specs.declared.step.Step.{Step}
 use Rattle.vf_party_steps.specs.Renames as moves
 use Rattle.vf_party_steps.specs.Renames.{named_as}

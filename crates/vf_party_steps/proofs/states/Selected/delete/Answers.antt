@@ -22,7 +22,7 @@ use Rattle.vf_locks.specs.declared.holder.Holder.TheVariants.{Party}
 use Rattle.vf_pdu.specs.declared.pdu.Pdu.{Pdu}
 use Rattle.vf_pdu.specs.declared.pdu.Pdu.TheVariants.{DeleteRequest}
 use Rattle.vf_tables.specs.declared.change.Change.TheVariants.{DropFile}
-use Rattle.vf_party_steps.specs.declared.states.Associated.{Associated}
+use Rattle.vf_party_steps.specs.States.{Associated}
 use Rattle.vf_party_steps.specs.declared.step.Step.{Step}
 use Rattle.vf_party_steps.specs.Represents.{IsAssociated}
 use Rattle.vf_party_steps.specs.Steps.{Concludes, history_by}

@@ -14,7 +14,7 @@ use Rattle.vf_filestore.specs.State.{file_in, units_in, activity_in}
 use Rattle.vf_filestore.specs.Units.{limited_management, unit_row}
 use Rattle.vf_pdu.specs.declared.pdu.Pdu.{Pdu}
 use Rattle.vf_pdu.specs.declared.pdu.Pdu.TheVariants.{ReadAttribRequest, ReadAttribResponse}
-use Rattle.vf_party_steps.specs.declared.states.Selected.{Selected}
+use Rattle.vf_party_steps.specs.States.{Selected}
 use Rattle.vf_party_steps.specs.declared.step.Step.{Step}
 use Rattle.vf_party_steps.specs.Represents.{IsSelected}
 use Rattle.vf_party_steps.specs.Steps.{Concludes, history_by}

@@ -14,7 +14,7 @@ use Rattle.vf_party_steps.specs.Dockets.{docket_with, own_changes}
 use Rattle.vf_party_steps.specs.Represents.{IsOpened}
 use Rattle.vf_party_steps.specs.Writes.{fields_at, moving_of, staged_docket}
 use Rattle.vf_party_steps.specs.declared.step.Step.{Step}
-use Rattle.vf_party_steps.specs.Movements.{Writing}
+use Rattle.vf_party_steps.specs.States.{Writing}
 use Rattle.vf_party_steps.proofs.Retained.{retained_secured}
 use Rattle.vf_party_steps.proofs.WriteDockets.{staged_is}
 use Rattle.vf_party_steps.proofs.Writes.{acknowledged_after, goes_on, left_then, nested_with, offered_is, pieces_after, pieces_counted, point_after, rows_alone, weighed_checked}

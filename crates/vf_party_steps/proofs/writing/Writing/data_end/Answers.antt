@@ -13,7 +13,7 @@ use Rattle.vf_party_steps.specs.Dockets.{docket_with}
 use Rattle.vf_party_steps.specs.Steps.{Concludes}
 use Rattle.vf_party_steps.specs.Writes.{IsWriting, fields_at}
 use Rattle.vf_party_steps.specs.declared.step.Step.{Step}
-use Rattle.vf_party_steps.specs.Movements.{Writing}
+use Rattle.vf_party_steps.specs.States.{Writing}
 use Rattle.vf_party_steps.proofs.WriteDockets.{own_same}
 use Rattle.vf_party_steps.proofs.Writes.{goes_on, left_as, rows_alone}
 use Rattle.vf_party_steps.proofs.writing.Writing.data_end.Goals as goal

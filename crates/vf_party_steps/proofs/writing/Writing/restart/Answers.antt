@@ -14,7 +14,7 @@ use Rattle.vf_party_steps.specs.Represents.{IsOpened}
 use Rattle.vf_party_steps.specs.Steps.{Concludes}
 use Rattle.vf_party_steps.specs.Writes.{IsWriting, fields_at}
 use Rattle.vf_party_steps.specs.declared.step.Step.{Step}
-use Rattle.vf_party_steps.specs.Movements.{Writing}
+use Rattle.vf_party_steps.specs.States.{Writing}
 use Rattle.vf_party_steps.proofs.Restarts.{acknowledged_back, changes_back, known_within, pieces_back, point_back}
 use Rattle.vf_party_steps.proofs.Retained.{retained_secured}
 use Rattle.vf_party_steps.proofs.Writes.{goes_on, left_then, nested_with, offered_is, rows_alone}

@@ -19,9 +19,8 @@ use Rattle.vf_party_steps.specs.Dockets.{docket_with, fields_of, no_transfer}
 use Rattle.vf_party_steps.specs.Represents.{IsOpen}
 use Rattle.vf_party_steps.specs.Steps.{Concludes, history_by}
 use Rattle.vf_party_steps.specs.Writes.{fields_at, open_after}
-use Rattle.vf_party_steps.specs.declared.states.Open.{Open}
+use Rattle.vf_party_steps.specs.States.{Open, Writing}
 use Rattle.vf_party_steps.specs.declared.step.Step.{Step}
-use Rattle.vf_party_steps.specs.Movements.{Writing}
 use Rattle.vf_party_steps.proofs.Concluding.{nested_then, opened_step}
 use Rattle.vf_party_steps.proofs.Erasures.{placed_after}
 use Rattle.vf_party_steps.proofs.Kept.{with_history}
