@@ -18,6 +18,7 @@ use Rattle.vf_party_steps.specs.Steps.{Concludes, history_by}
 use Rattle.vf_party_steps.proofs.Concluding.{quiet_step}
 use Rattle.vf_party_steps.proofs.Kept.{none_left, tables_stay, with_history}
 use Rattle.vf_party_steps.proofs.idle.Idle.initialize.Goals as goal
+use Rattle.vf_regime_refusals.specs.declared.association.Association.{Association}
 use Rattle.vf_tables.specs.declared.tables.Tables.{Tables}
 
 pub returns-clause-consequence : goal.returns-clause-consequence
@@ -28,7 +29,9 @@ returns-clause-consequence c = λ state party stands represents.
     let step : Step Associated = record { state = made; said = c.in-Ok-one_said.said; changes = c.new.result } in
     let next = history_by state party setting (messages.Pdu request) Nothing in
     let tables = c.args.tables.now in
-    subst (λ (r : Pdu). takes (regime_stage party.history) (messages.Pdu r) ≡ true → Concludes IsAssociated tables c.args.locks.now state party setting (messages.Pdu r) step) (sym c.in-InitializeRequest.is)
+    subst (λ (one : Association). takes (regime_stage party.history) (messages.Pdu c.args.request) ≡ true
+    → Concludes IsAssociated tables c.args.locks.now state party setting (messages.Pdu c.args.request) (record { state = record { association = one }; said = step.said; changes = step.changes })) (sym c.in-Ok-boxed.ensures)
+    (subst (λ (r : Pdu). takes (regime_stage party.history) (messages.Pdu r) ≡ true → Concludes IsAssociated tables c.args.locks.now state party setting (messages.Pdu r) step) (sym c.in-InitializeRequest.is)
     (λ taken. quiet_step IsAssociated tables c.args.locks.now c.args.locks.now state party setting (messages.Pdu request) Nothing step stands taken
     (ap (λ (row : Row). granted_unless row Nothing)
     ((λ i. first_row (initialize_rows (ap (λ (t : Tables). t.users) stands.kept i) (sym c.in-Ok.ensures i) (sym c.as_ref.ensures.value i))) ∙ sym c.in_default-refused_initialize.ensures))
@@ -43,4 +46,4 @@ returns-clause-consequence c = λ state party stands represents.
     })
     c.new.ensures
     (tables_stay state party next stands.stands (none_left (with_history next party) (ap activity_in represents.opened) ∙ sym (none_left party (ap activity_in represents.opened))))
-    (λ held file. stands.held file ∙ sym (held file)))
+    (λ held file. stands.held file ∙ sym (held file))))

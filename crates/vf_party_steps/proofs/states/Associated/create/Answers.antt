@@ -68,9 +68,10 @@ hold_selected-requires c =
     let stamp = stamp_by association c.args.moment in
     let free = ap refusal_in (sym (c.in-Ok-changes_of.ensures ∙ ap changes_of c.in-Ok-create.ensures) ∙ c.in-Ok-made.is) in
     let rows = create_rows found wanted asks.over stamp new in
-    subst (λ (file : List ℕ). conflict (Party association.link) (joined not_opened c.attribute_controls.result) (held file old) ≡ None) (sym c.in-Ok.ensures)
+    subst (λ (one : Selection). conflict (Party association.link) (joined not_opened one.controls) (held one.file old) ≡ None) (sym c.in-Ok-boxed.ensures)
+    (subst (λ (file : List ℕ). conflict (Party association.link) (joined not_opened c.attribute_controls.result) (held file old) ≡ None) (sym c.in-Ok.ensures)
     (creation_unopposed found wanted asks.over stamp new
-    (later_passed (unit_row association.units limited_management) rows (sym (refusal_is found wanted asks.over stamp new association.units) ∙ free)))
+    (later_passed (unit_row association.units limited_management) rows (sym (refusal_is found wanted asks.over stamp new association.units) ∙ free))))
 
 pub returns-clause-consequence : goal.returns-clause-consequence
 returns-clause-consequence c = λ state party stands represents.
@@ -101,8 +102,11 @@ returns-clause-consequence c = λ state party stands represents.
     let with_controls : IsWith name (granted (Party party.link) controls (held name old)) old new =
     subst (λ (file : List ℕ). IsWith file (granted (Party party.link) controls (held file old)) old new) c.in-Ok.ensures
     (subst (λ (link : ℕ). IsWith c.in-Ok.file (granted (Party link) controls (held c.in-Ok.file old)) old new) (sym represents.linked)
-    (subst (λ (all : AttributeControls). IsWith c.in-Ok.file (granted (Party association.link) (joined not_opened all) (held c.in-Ok.file old)) old new) c.attribute_controls.ensures c.in-Ok-hold_selected.ensures.held)) in
-    subst (λ (r : Pdu). takes (regime_stage party.history) (messages.Pdu r) ≡ true → Concludes IsSelected tables new state party setting (messages.Pdu r) step) (sym asks.is)
+    (subst (λ (all : AttributeControls). IsWith c.in-Ok.file (granted (Party association.link) (joined not_opened all) (held c.in-Ok.file old)) old new) c.attribute_controls.ensures
+    (subst (λ (one : Selection). IsWith one.file (granted (Party association.link) (joined not_opened one.controls) (held one.file old)) old new) c.in-Ok-boxed.ensures c.in-Ok-hold_selected.ensures.held))) in
+    subst (λ (one : Selection). takes (regime_stage party.history) (messages.Pdu c.args.request) ≡ true
+    → Concludes IsSelected tables new state party setting (messages.Pdu c.args.request) (record { state = record { associated = c.args.self; selection = one }; said = step.said; changes = step.changes })) (sym c.in-Ok-boxed.ensures)
+    (subst (λ (r : Pdu). takes (regime_stage party.history) (messages.Pdu r) ≡ true → Concludes IsSelected tables new state party setting (messages.Pdu r) step) (sym asks.is)
     (λ taken. filed_step IsSelected tables old new state party setting message given files step stands taken
     (ap (λ (row : Row). granted_unless row given)
     ((λ i. first_row (unit_row (units_in (represents.stands i)) limited_management
@@ -119,4 +123,4 @@ returns-clause-consequence c = λ state party stands represents.
     (ap made_in (sym c.in-Ok-made.is ∙ comes) ∙ changes_are found wanted_is asks.over stamp new_file association.units free
     ∙ (λ i. file_changes tables.files (created_where (made_unless (file_named name (sym stands.kept i).files)) new_file (record { moment = c.args.moment; identity = identity_in (sym represents.stands i) }) (sym stands.kept i).files)))
     (tables_filed state party next files stands.stands (none_left (with_history next party) (ap activity_in represents.opened) ∙ sym (none_left party (ap activity_in represents.opened))))
-    (λ after_held. calls_follow old new state after name (granted (Party party.link) controls) stands.held with_controls after_held))
+    (λ after_held. calls_follow old new state after name (granted (Party party.link) controls) stands.held with_controls after_held)))

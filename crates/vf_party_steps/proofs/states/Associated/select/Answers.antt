@@ -1,4 +1,4 @@
-use Rattle.std.proofs.Common.{◌≡◌, ℕ, true, Some, ap, sym, subst, ◌∙◌}
+use Rattle.std.proofs.Common.{◌≡◌, ℕ, true, None, Some, ap, sym, subst, ◌∙◌}
 use Rattle.vf_base.specs.declared.action.Controls.{Controls}
 use Rattle.vf_elements.specs.Stages.{takes}
 use Rattle.vf_elements.specs.declared.message.Message.TheVariants as messages
@@ -12,6 +12,7 @@ use Rattle.vf_filestore.specs.Selecting.{select_rows}
 use Rattle.vf_filestore.specs.Stage.{regime_stage}
 use Rattle.vf_filestore.specs.State.{identity_in, activity_in}
 use Rattle.vf_filestore.proofs.HeldCalls.{calls_follow}
+use Rattle.vf_locks.specs.Clash.{conflict}
 use Rattle.vf_locks.specs.Holders.{granted}
 use Rattle.vf_locks.specs.Table.{IsWith, held}
 use Rattle.vf_locks.specs.declared.holder.Holder.TheVariants.{Party}
@@ -32,7 +33,8 @@ use Rattle.vf_party_steps.proofs.states.Associated.select.Goals as goal
 pub hold_selected-requires : goal.hold_selected-requires
 hold_selected-requires c =
     let selection : Selection = record { file = c.in-SelectRequest.name; requested = c.in-SelectRequest.requested; controls = c.attribute_controls.result; password = c.in-SelectRequest.password } in
-    selection_unopposed (found_in c.args.tables.now.files c.args.locks.now) (wanted_of c.args.self.association selection) c.in-SelectRequest.name (sym c.in-Ok.ensures ∙ c.in_default-refused.is)
+    subst (λ (one : Selection). conflict (Party c.args.self.association.link) (joined not_opened one.controls) (held one.file c.args.locks.now) ≡ None) (sym c.in-Ok-boxed.ensures)
+    (selection_unopposed (found_in c.args.tables.now.files c.args.locks.now) (wanted_of c.args.self.association selection) c.in-SelectRequest.name (sym c.in-Ok.ensures ∙ c.in_default-refused.is))
 
 pub returns-clause-consequence : goal.returns-clause-consequence
 returns-clause-consequence c = λ state party stands represents.
@@ -52,8 +54,11 @@ returns-clause-consequence c = λ state party stands represents.
     let controls : Controls = joined not_opened (attribute_controls requested c.in-SelectRequest.controls) in
     let with_controls : IsWith name (granted (Party party.link) controls (held name old)) old new =
     subst (λ (link : ℕ). IsWith name (granted (Party link) controls (held name old)) old new) (sym represents.linked)
-    (subst (λ (all : AttributeControls). IsWith name (granted (Party c.args.self.association.link) (joined not_opened all) (held name old)) old new) c.attribute_controls.ensures c.in-Ok-hold_selected.ensures.held) in
-    subst (λ (r : Pdu). takes (regime_stage party.history) (messages.Pdu r) ≡ true → Concludes IsSelected tables new state party setting (messages.Pdu r) step) (sym c.in-SelectRequest.is)
+    (subst (λ (all : AttributeControls). IsWith name (granted (Party c.args.self.association.link) (joined not_opened all) (held name old)) old new) c.attribute_controls.ensures
+    (subst (λ (one : Selection). IsWith one.file (granted (Party c.args.self.association.link) (joined not_opened one.controls) (held one.file old)) old new) c.in-Ok-boxed.ensures c.in-Ok-hold_selected.ensures.held)) in
+    subst (λ (one : Selection). takes (regime_stage party.history) (messages.Pdu c.args.request) ≡ true
+    → Concludes IsSelected tables new state party setting (messages.Pdu c.args.request) (record { state = record { associated = c.args.self; selection = one }; said = step.said; changes = step.changes })) (sym c.in-Ok-boxed.ensures)
+    (subst (λ (r : Pdu). takes (regime_stage party.history) (messages.Pdu r) ≡ true → Concludes IsSelected tables new state party setting (messages.Pdu r) step) (sym c.in-SelectRequest.is)
     (λ taken. quiet_step IsSelected tables old new state party setting message Nothing step stands taken
     (ap (λ (row : Row). granted_unless row Nothing)
     ((λ i. first_row (select_rows (found_is tables old state party stands i) (record { link = represents.linked i; identity = identity_in (represents.stands i); password = c.in-SelectRequest.password; requested = requested; controls = sym c.attribute_controls.ensures i }) name)) ∙ sym c.in-Ok.ensures ∙ c.in_default-refused.is))
@@ -67,4 +72,4 @@ returns-clause-consequence c = λ state party stands represents.
     })
     c.new.ensures
     (tables_stay state party next stands.stands (none_left (with_history next party) (ap activity_in represents.opened) ∙ sym (none_left party (ap activity_in represents.opened))))
-    (λ after_held. calls_follow old new state after name (granted (Party party.link) controls) stands.held with_controls after_held))
+    (λ after_held. calls_follow old new state after name (granted (Party party.link) controls) stands.held with_controls after_held)))

@@ -15,6 +15,7 @@ use Rattle.vf_party_steps.specs.declared.step.Step.{Step}
 use Rattle.vf_party_steps.proofs.FoundDockets.{row_found}
 use Rattle.vf_party_steps.proofs.TakenRead.{takes_read}
 use Rattle.vf_party_steps.proofs.states.Associated.take_up_read.Goals as goal
+use Rattle.vf_party_steps.specs.declared.reading.Read.{Read}
 use Rattle.vf_pdu.specs.declared.pdu.Pdu.TheVariants.{RecoverResponse}
 
 pub returns-clause-consequence : goal.returns-clause-consequence
@@ -27,23 +28,24 @@ returns-clause-consequence c = λ state party stands kept represents taken asked
     let check = c.min-check.result in
     let first : Due = record { said = c.in-Ok.said; check = check; unacknowledged = 0; serial = c.from.result } in
     let after = c.say.new.self in
-    let made : Reading = record {
+    let of : Read → Reading = λ one. record {
       opened = c.in_ok-opened.opened;
-      fadu = row.regime.fadu;
-      context = c.args.context;
-      given = c.in-Ok-read_by.given;
-      check = after.check;
-      point = check;
-      start = check;
-      shown = c.in-Ok-say.shown;
+      fadu = one.fadu;
+      context = one.context;
+      given = one.given;
+      check = one.check;
+      point = one.point;
+      start = one.start;
+      shown = one.shown;
     } in
+    let made : Reading = of c.in-Ok-boxed.read.value in
     let step : Step Reading = record { state = made; said = after.said; changes = c.in-Ok-put_at.changes } in
     let is = row_found tables old state party stands (identity_of party) c.args.activity row (subst (λ (n : List ℕ). docket_row tables old n c.args.activity ≡ Some row) name asked) in
     takes_read tables old state party c.args.self stands represents setting c.args.activity c.args.number c.args.point row is kept c.args.context c.requires.directed free
     c.in-Ok-read_by.given (c.in-Ok-read_by.ensures ∙ ap (λ (file : Option File). read_by file row.regime c.args.context) c.selected-file.ensures.found)
     first after c.in-Ok-say.shown c.min-check.ensures refl c.from.ensures c.in-Ok-say.ensures
     step c.take_hold.new.locks c.requires.may_send taken
-    (λ i. record {
+    (ap of c.in-Ok-boxed.ensures ∙ (λ i. record {
       opened = c.in_ok-opened.ensures.ok i;
       fadu = row.regime.fadu;
       context = c.args.context;
@@ -52,7 +54,7 @@ returns-clause-consequence c = λ state party stands kept represents taken asked
       point = c.min-check.ensures i;
       start = c.min-check.ensures i;
       shown = c.in-Ok-say.shown;
-    })
+    }))
     (c.in-Ok.ensures ∙ (λ i. answers.Pdu (RecoverResponse None (Some row.regime.number) (c.min-check.ensures i) true 0) ∷ []))
     refl
     (c.in-Ok-put_at.ensures ∙ ap (put_at row.regime) c.min-check.ensures)

@@ -14,6 +14,7 @@ use Rattle.vf_party_steps.specs.States.{Writing}
 use Rattle.vf_party_steps.proofs.FoundDockets.{row_found}
 use Rattle.vf_party_steps.proofs.TakenWrite.{takes_write}
 use Rattle.vf_party_steps.proofs.states.Associated.take_up_write.Goals as goal
+use Rattle.vf_party_steps.specs.declared.writing.Written.{Written}
 use Rattle.vf_pdu.specs.declared.pdu.Pdu.TheVariants.{RecoverResponse}
 
 pub returns-clause-consequence : goal.returns-clause-consequence
@@ -25,22 +26,23 @@ returns-clause-consequence c = λ state party stands kept represents taken asked
     let name = sym (ap identity_in represents.stands) in
     let received = c.in-Ok-refilled.received in
     let check = c.min-check.result in
-    let made : Writing = record {
+    let of : Written → Writing = λ one. record {
       regimes = c.in_ok-regimes.regimes;
-      operation = c.write_by.result;
-      fadu = row.regime.fadu;
-      given = c.given_by.result;
-      received = received;
-      octets = c.in-Ok-octets.octets;
-      start = check;
-      ended = None;
+      operation = one.operation;
+      fadu = one.fadu;
+      given = one.given;
+      received = one.received;
+      octets = one.octets;
+      start = one.start;
+      ended = one.ended;
     } in
+    let made : Writing = of c.in-Ok-boxed.write.value in
     let step : Step Writing = record { state = made; said = c.in-Ok.said; changes = c.in-Ok-cut_to.changes } in
     let is = row_found tables old state party stands (identity_of party) c.args.activity row (subst (λ (n : List ℕ). docket_row tables old n c.args.activity ≡ Some row) name asked) in
     takes_write tables old state party c.args.self stands represents setting c.args.activity c.args.number c.args.point row is kept c.args.operation c.requires received
     (subst (λ (pieces : List (List Element)). IsFilled received pieces []) (c.first_pieces.ensures ∙ (λ i. take (c.min-check.ensures i) row.staged)) c.in-Ok-refilled.ensures)
     free step c.take_hold.new.locks taken
-    (λ i. record {
+    (ap of c.in-Ok-boxed.ensures ∙ (λ i. record {
       regimes = c.in_ok-regimes.ensures.ok i;
       operation = c.write_by.ensures i;
       fadu = row.regime.fadu;
@@ -49,7 +51,7 @@ returns-clause-consequence c = λ state party stands kept represents taken asked
       octets = c.in-Ok-octets.ensures i;
       start = c.min-check.ensures i;
       ended = None;
-    })
+    }))
     (c.in-Ok.ensures ∙ (λ i. answers.Pdu (RecoverResponse None (Some row.regime.number) (c.min-check.ensures i) true 0) ∷ []))
     (c.in-Ok-cut_to.ensures ∙ ap (cut_to row.regime) c.min-check.ensures)
     (subst (λ (holder : Holder). may_pass old row.regime.file holder (Party c.args.self.association.link) ≡ true

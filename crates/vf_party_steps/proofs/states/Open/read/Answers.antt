@@ -21,6 +21,7 @@ use Rattle.vf_party_steps.specs.Steps.{Concludes, history_by}
 use Rattle.vf_party_steps.proofs.ReadsOn.{due_is, opened_moved, reading_step, reads_on, regime_moved}
 use Rattle.vf_party_steps.proofs.Rows.{rows_open}
 use Rattle.vf_party_steps.proofs.states.Open.read.Goals as goal
+use Rattle.vf_party_steps.specs.declared.reading.Read.{Read}
 use Rattle.vf_regime_effects.specs.Meanings.{given_of_reading}
 
 pub returns-clause-consequence : goal.returns-clause-consequence
@@ -54,7 +55,14 @@ returns-clause-consequence c = λ state party stands represents.
     let due = due_is replied party.history setting.serial party.link association opened fadu context shows first after 0 0 false c.in-Ok-say.shown
     within.associated refl refl refl refl refl c.from.ensures in
     let was = docket_with (fields_of regimes no_transfer) [] in
-    subst (λ (r : Pdu). takes (regime_stage party.history) (messages.Pdu r) ≡ true → Concludes IsReading tables locks state party setting (messages.Pdu r) step) (sym c.in-ReadRequest.is)
+    subst (λ (one : Read). takes (regime_stage party.history) (messages.Pdu c.args.request) ≡ true
+    → Concludes IsReading tables locks state party setting (messages.Pdu c.args.request)
+    (record {
+      state = record { opened = opened; fadu = one.fadu; context = one.context; given = one.given; check = one.check; point = one.point; start = one.start; shown = one.shown };
+      said = step.said;
+      changes = step.changes;
+    })) (sym c.in-Ok-boxed.ensures)
+    (subst (λ (r : Pdu). takes (regime_stage party.history) (messages.Pdu r) ≡ true → Concludes IsReading tables locks state party setting (messages.Pdu r) step) (sym c.in-ReadRequest.is)
     (λ taken. reading_step tables locks locks state party setting message given was step stands taken granted
     (c.in-Ok-say.ensures.said ∙ (λ i. c.new.ensures.items i ++ sym due i))
     (reads_on replied party.history setting.serial party.link association opened fadu context shows first after 0 0 false c.in-Ok-say.shown
@@ -64,4 +72,4 @@ returns-clause-consequence c = λ state party stands represents.
     (rows_open regimes party (party_sound state party.link party stands.sound stands.stands).sound.nested represents)
     (c.in-Ok-changed.ensures
     ∙ (λ i. own_changes (docket_with (fields_of regimes (c.none.ensures i)) []) (docket_with (fields_of (regime_moved regimes regime place regimes.regime.done regimes.regime.last moved i) (c.read_at-is.ensures i)) [])))
-    (λ held file. stands.held file ∙ sym (held file)))
+    (λ held file. stands.held file ∙ sym (held file))))

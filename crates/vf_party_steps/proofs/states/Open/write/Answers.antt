@@ -27,6 +27,7 @@ use Rattle.vf_party_steps.proofs.Retained.{retained_secured}
 use Rattle.vf_party_steps.proofs.Rows.{rows_open}
 use Rattle.vf_party_steps.proofs.WriteDockets.{put_is}
 use Rattle.vf_party_steps.proofs.Writes.{goes_on, left_then, nested_with}
+use Rattle.vf_party_steps.specs.declared.writing.Written.{Written}
 use Rattle.vf_party_steps.proofs.states.Open.write.Goals as goal
 
 -- the request of a write sets no position
@@ -63,7 +64,14 @@ returns-clause-consequence c = λ state party stands represents.
       counted = opened.counted;
       ended = opened.ended;
     } in
-    subst (λ (r : Pdu). takes (regime_stage party.history) (messages.Pdu r) ≡ true → Concludes IsWriting c.args.tables.now c.args.locks.now state party setting (messages.Pdu r) step) (sym asks.is)
+    subst (λ (one : Written). takes (regime_stage party.history) (messages.Pdu c.args.request) ≡ true
+    → Concludes IsWriting c.args.tables.now c.args.locks.now state party setting (messages.Pdu c.args.request)
+    (record {
+      state = record { regimes = regimes; operation = one.operation; fadu = one.fadu; given = one.given; received = one.received; octets = one.octets; start = one.start; ended = one.ended };
+      said = step.said;
+      changes = step.changes;
+    })) (sym c.in-Ok-boxed.ensures)
+    (subst (λ (r : Pdu). takes (regime_stage party.history) (messages.Pdu r) ≡ true → Concludes IsWriting c.args.tables.now c.args.locks.now state party setting (messages.Pdu r) step) (sym asks.is)
     (λ taken. goes_on c.args.tables.now c.args.locks.now state party setting message (given_of_writing given) was step stands taken (ap Grants granted) c.new-2.ensures.items
     (record {
       opened = opened_now;
@@ -83,4 +91,4 @@ returns-clause-consequence c = λ state party stands represents.
     (rows_open regimes party (party_sound state party.link party stands.sound stands.stands).sound.nested represents)
     (c.in-Ok-put_docket.ensures ∙ ap put_docket (c.in-Ok.ensures ∙ ap (fields_of regimes) c.moving-moving.ensures)
     ∙ sym (put_is regimes regimes no_transfer moving (λ activity is. idle_differs _ (λ i. (is i).direction)) regimes.regime.activity))
-    (λ held. held))
+    (λ held. held)))

@@ -37,6 +37,7 @@ use Rattle.vf_party_steps.proofs.OpenRows.{open_decided}
 use Rattle.vf_party_steps.proofs.Opens.{docket_opened, sound_then}
 use Rattle.vf_party_steps.proofs.Rows.{rows_open}
 use Rattle.vf_tables.specs.declared.docket.Docket.{Docket}
+use Rattle.vf_party_steps.specs.Openings.{put_of}
 use Rattle.vf_party_steps.proofs.states.Selected.open.Goals as goal
 
 pub returns-in-Some-clause-consequence : goal.returns-in-Some-clause-consequence
@@ -72,7 +73,7 @@ returns-clause-consequence c = λ state party stands represents.
     let new = c.grant.new.self in
     let contents : ContentControls = content_controls mode asks.controls in
     let controls : Controls = joined contents selection.controls in
-    let wanted : c.joined-wanted.result ≡ controls = c.joined-wanted.ensures ∙ (λ i. joined (c.content_controls.ensures i) selection.controls) in
+    let wanted : c.joined-wanted.result ≡ controls = c.joined-wanted.ensures ∙ ap (λ (one : OpenRegime). joined one.controls selection.controls) c.in-Ok-boxed.ensures ∙ (λ i. joined (c.content_controls.ensures i) selection.controls) in
     let with_controls : IsWith selection.file (granted (Party party.link) controls (held selection.file old)) old new =
     subst (λ (link : ℕ). IsWith selection.file (granted (Party link) controls (held selection.file old)) old new) (sym represents.linked)
     (subst (λ (all : Controls). IsWith selection.file (granted (Party selected.associated.association.link) all (held selection.file old)) old new) wanted c.in-Ok-grant.ensures.ok) in
@@ -92,7 +93,9 @@ returns-clause-consequence c = λ state party stands represents.
       };
       moved = represents.moved;
     } in
-    subst (λ (r : Pdu). takes (regime_stage party.history) (messages.Pdu r) ≡ true → Concludes IsOpen tables new state party setting (messages.Pdu r) step) (sym asks.is)
+    subst (λ (one : OpenRegime). takes (regime_stage party.history) (messages.Pdu c.args.request) ≡ true
+    → Concludes IsOpen tables new state party setting (messages.Pdu c.args.request) (record { state = record { selected = selected; regime = one }; said = step.said; changes = step.changes })) (sym c.in-Ok-boxed.ensures)
+    (subst (λ (r : Pdu). takes (regime_stage party.history) (messages.Pdu r) ≡ true → Concludes IsOpen tables new state party setting (messages.Pdu r) step) (sym asks.is)
     (λ taken.
     let nested = nested_then IsOpen tables old new state party setting message Nothing stands taken refl in
     let rows = rows_open made (with_history next party) nested opens in
@@ -103,10 +106,10 @@ returns-clause-consequence c = λ state party stands represents.
           ∙ (λ i. answers.Pdu (OpenResponse None (option_map contents_of (file_named (file_in (sym represents.stands i)) (sym stands.kept i).files))) ∷ [])
           ∙ nothing_due party.history setting.serial entry represents.moved;
       next = opens;
-      changes = c.in-Ok-docket_put.ensures ∙ sym (docket_opened tables state party next stands.sound (sound_then state party setting request Nothing stands.sound stands.stands taken granting tt)
+      changes = c.in-Ok-docket_put.ensures ∙ ap (λ (one : OpenRegime). put_of (fields_of (record { selected = selected; regime = one }) no_transfer)) c.in-Ok-boxed.ensures ∙ sym (docket_opened tables state party next stands.sound (sound_then state party setting request Nothing stands.sound stands.stands taken granting tt)
           stands.kept stands.stands nested represents.opened refl (subst (λ (left : List Docket). AllByRecursion IsBare left) (sym rows) (bare_with (fields_of made no_transfer)))
           ∙ ap (map put) rows ∙ put_with (fields_of made no_transfer));
       held = calls_follow old new state after selection.file (granted (Party party.link) controls) stands.held with_controls
           (subst (λ (one : Option Selection). IsOpened party.link contents one state after) represents.stands
           (held_then IsOpen tables old new state party setting message Nothing stands taken granting));
-    })
+    }))
