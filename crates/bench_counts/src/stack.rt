@@ -3,15 +3,19 @@
 //! `hear COUNT` takes the stream of a calling end from standard input, a CR, a CN and then P-DATA, as the called end that
 //! accepts it, the P-DATA in pieces of COUNT octets. It writes how many data elements came, how many octets their strings
 //! have, and how many octets are held. `hold COUNT` takes the CR and the CN of the same stream, and writes how many octets
-//! of P-DATA follow, so that what `hear` costs beyond it is what hearing these costs.
+//! of P-DATA follow, so that what `hear` costs beyond it is what hearing these costs. `send COUNT` takes them too, and sends
+//! so many P-DATA, each with one string of 60,000 octets; it writes how many octets went out.
 use bench_base::{Fault, input, number, put_count, put_number};
 use std::alloc::Global;
-use vf_base::Element;
+use vf_base::{Element, Octets};
 use vf_pdu::{Boxed, Pdu};
 use vf_stack::{Indication, Item, Request, Stack};
 
 /// The octets of a CR without parameters in its packet.
 const CR: usize = 11;
+
+/// The octets of a string that is sent.
+const STRING: usize = 60_000;
 
 /// What came.
 #[derive(Clone, Copy)]
@@ -30,6 +34,7 @@ pub fn put(rt: &HostRuntime, words: &str, out: &mut Vec<u8>) -> Result<(), Fault
     match way {
         "hold" => put_count(rt.alloc(), data.len(), out),
         "hear" => put_heard(rt.alloc(), &mut stack, count, data, out),
+        "send" => put_sent(rt.alloc(), &mut stack, count, out),
         _ => Err(Fault::Words),
     }
 }
@@ -122,4 +127,26 @@ fn put_counts(alloc: Global, counts: Counts, held: u64, out: &mut Vec<u8>) -> Re
     put_number(alloc, "elements ", counts.elements, " ", out)?;
     put_number(alloc, "octets ", counts.octets, " ", out)?;
     put_number(alloc, "held ", held, "\n", out)
+}
+
+/// Appends how many octets an end sends of so many strings.
+fn put_sent(
+    alloc: Global,
+    stack: &mut Stack,
+    count: usize,
+    out: &mut Vec<u8>,
+) -> Result<(), Fault> {
+    let octets = Octets::from_vec(vec![in alloc; 7; STRING]?)?;
+    let request = Request::Item(Item::Element(Element::Binary { octets }));
+    let mut sent = Vec::new(alloc);
+    let mut total = 0;
+    for _ in 0..count {
+        if !stack.may(&request) {
+            return Err(Fault::Received);
+        }
+        sent.clear();
+        stack.send(alloc, &request, &mut sent)?;
+        total = sent.len().saturating_add(total);
+    }
+    put_count(alloc, total, out)
 }
