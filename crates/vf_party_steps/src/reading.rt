@@ -55,6 +55,13 @@ impl Reading {
         &self.opened.selected.associated.association
     }
 
+    /// The activity of a recoverable open.
+    pub fn activity(&self) -> Option<u32>
+        ensures { result ≡ self.now.opened.regime.activity }
+    {
+        self.opened.regime.activity
+    }
+
     /// The number of the last check that stands.
     pub fn check_number(&self) -> u32
         ensures { result ≡ self.now.check }

@@ -62,6 +62,13 @@ impl Open {
         &self.selected.associated.association
     }
 
+    /// The activity of a recoverable open.
+    pub fn activity(&self) -> Option<u32>
+        ensures { result ≡ self.now.regime.activity }
+    {
+        self.regime.activity
+    }
+
     /// How many transfers are concluded.
     pub fn done(&self) -> u32
         ensures { result ≡ self.now.regime.done }

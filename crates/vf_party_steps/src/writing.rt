@@ -113,6 +113,13 @@ impl Writing {
         &self.regimes.selected.associated.association
     }
 
+    /// The activity of a recoverable open.
+    pub fn activity(&self) -> Option<u32>
+        ensures { result ≡ self.now.regimes.regime.activity }
+    {
+        self.regimes.regime.activity
+    }
+
     /// The number of the last check that stands.
     pub fn check_number(&self) -> u32
         ensures { result ≡ offered self.now.received.checks }
