@@ -38,7 +38,7 @@ feeds-reading kept kept' a piece out out' answers rep e transport received =
     transport ∙ ap (λ (x : Reading). x.kept) same ∙ sym (kept-onward (end_of own) a.stream piece) in
     let Q : TokenSide → Type 0 = λ s. HasReceived kept'.transport (end_of s) (a.stream ++ piece) in
     let done : Feeds (fed_by a piece r0 (reading_received own a.exchange r0)) out answers kept' out' (answers ++ r0.answers) =
-    record { indications = t.0; answered = refl; represents = record { stream_is = subst Q (sym received.0) stream; stands = t.1 } } in
+    record { indications = t.0; answered = refl; represents = record { stream_is = subst Q (sym received.0.0) stream; stands = t.1 } } in
     let F : Fed → Type 0 = λ f. Feeds f out answers kept' out' (answers ++ r0.answers) in
     let told : piece_received own a piece ≡ fed_by a piece r0 (reading_received own a.exchange r0) =
     piece-open own a piece goes ∙ ap (λ (x : Reading). fed_by a piece x (reading_received own a.exchange x)) (sym same) in

@@ -4,6 +4,7 @@ pub mod OctetLemmas
 pub mod MutualLemmas
 pub mod SentLemmas
 pub mod ReceivedLemmas
+pub mod EndLemmas
 pub mod FoldLemmas
 pub mod UnitLemmas
 pub mod SpduLemmas

@@ -5,11 +5,12 @@ use Rattle.vf_session.specs.declared.units.TokenSide.{TokenSide}
 use Rattle.vf_stack.specs.Association.{Association, Exchange, end_of}
 use Rattle.vf_stack.specs.Pieces.{TellOnce}
 use Rattle.vf_stack.specs.Receiving.{Fed, octets_received, piece_received}
-use Rattle.vf_stack.specs.Represents.{Feeds, FeedsOnward, Kept, Represents, Stands, after_told, side_of}
+use Rattle.vf_stack.specs.Represents.{Feeds, FeedsOnward, IsSame as IsSameEnd, Kept, Represents, Stands, after_told, side_of}
 use Rattle.vf_stack.specs.declared.indication.Indication.{Indication}
 use Rattle.vf_tpkt.specs.Receiving.{Kept as TransportKept}
 use Rattle.vf_tpkt.specs.Stream.{HasReceived, reading as stream_reading}
 use Rattle.vf_tpkt.specs.Wanting.{TellsOnce}
+use Rattle.vf_stack.proofs.EndLemmas.{same-then}
 use Rattle.vf_stack.proofs.OctetLemmas.{IsSame, cuts-few, same-octets, tells-once}
 use Rattle.vf_stack.proofs.PieceLemmas.{octets-cut}
 
@@ -50,19 +51,19 @@ told-twice out answers f g = rw (append_assoc out f.indications g.indications, a
 
 -- the front of what is left was received
 feeds-front : (kept kept' kept'' : Kept) (most : ℕ) (out out' out'' : List Indication) (answers answers' answers'' piece front more : List ℕ)
-    → FeedsOnward kept out answers piece kept' out' answers' (front ++ more) → side_of kept'' ≡ side_of kept'
+    → FeedsOnward kept out answers piece kept' out' answers' (front ++ more) → IsSameEnd kept'.exchange kept''.exchange
     → 1 ≤ length front → TellsOnce kept'.transport most → length front ≤ most
     → ((a : Association) → Represents kept' a → Feeds (piece_received (side_of kept') a front) out' answers' kept'' out'' answers'')
     → FeedsOnward kept out answers piece kept'' out'' answers'' more
-feeds-front kept kept' kept'' most out out' out'' answers answers' answers'' piece front more before side some once few one = (
-  side ∙ before.0,
+feeds-front kept kept' kept'' most out out' out'' answers answers' answers'' piece front more before same some once few one = (
+  same-then kept.exchange kept'.exchange kept''.exchange before.0 same,
   λ a r.
       let own = side_of kept in
       let b = before.1 a r in
       let a' = b.0 in
-      let whole = feeds-octets kept' kept'' a' most front out' out'' answers' answers'' b.1 side some once few (one a' b.1) in
+      let whole = feeds-octets kept' kept'' a' most front out' out'' answers' answers'' b.1 same.0 some once few (one a' b.1) in
       let P : TokenSide → Type 0 = λ s. Feeds (octets_received s a' front) out' answers' kept'' out'' answers'' in
-      let f1 : P own = subst P before.0 whole in
+      let f1 : P own = subst P before.0.0 whole in
       let f = octets_received own a' front in
       let s = octets_received own f.association more in (
         f.association,
@@ -74,14 +75,14 @@ feeds-front kept kept' kept'' most out out' out'' answers answers' answers'' pie
 
 pub feeds-few : (kept kept' kept'' : Kept) (most count : ℕ) (out out' out'' : List Indication) (answers answers' answers'' piece rest front more : List ℕ)
     → 1 ≤ count → count ≤ most → length front ≡ count → front ≡ take count rest → more ≡ drop count rest
-    → FeedsOnward kept out answers piece kept' out' answers' rest → side_of kept'' ≡ side_of kept'
+    → FeedsOnward kept out answers piece kept' out' answers' rest → IsSameEnd kept'.exchange kept''.exchange
     → TellsOnce kept'.transport most
     → ((a : Association) → Represents kept' a → Feeds (piece_received (side_of kept') a front) out' answers' kept'' out'' answers'')
     → FeedsOnward kept out answers piece kept'' out'' answers'' more
-feeds-few kept kept' kept'' most count out out' out'' answers answers' answers'' piece rest front more some few size f m before side once one =
+feeds-few kept kept' kept'' most count out out' out'' answers answers' answers'' piece rest front more some few size f m before same once one =
     let joined : rest ≡ front ++ more = sym (rw (f, m) (take-append-drop count rest)) in
     let R : List ℕ → Type 0 = λ rest. FeedsOnward kept out answers piece kept' out' answers' rest in
-    feeds-front kept kept' kept'' most out out' out'' answers answers' answers'' piece front more (subst R joined before) side (omega (arith, size)) once (omega (arith, size)) one
+    feeds-front kept kept' kept'' most out out' out'' answers answers' answers'' piece front more (subst R joined before) same (omega (arith, size)) once (omega (arith, size)) one
 
 -- all of it was received
 pub feeds-rest : (kept kept' : Kept) (out out' : List Indication) (answers answers' piece rest : List ℕ)

@@ -23,10 +23,10 @@ use Rattle.vf_session.specs.declared.units.TokenSide.{TokenSide}
 use Rattle.vf_session.specs.declared.units.TokenSide.TheVariants.{Initiator, Responder}
 use Rattle.vf_stack.specs.Association.{Association, Exchange, end_of}
 use Rattle.vf_stack.specs.Contexts.{Standing, accepted, accepts, proposals, proposes}
-use Rattle.vf_stack.specs.Represents.{IsInSession, Kept, Represents, Stands, side_of}
+use Rattle.vf_stack.specs.Represents.{IsInSession, IsSame, Kept, Represents, Stands, side_of}
 use Rattle.vf_stack.specs.Requests.{data_of, in_sequence, octets_by, octets_of, pdu_carried, unit_of}
 use Rattle.vf_stack.specs.Sending.{IsWritten, ending_after, permits, tsdu_of, unit_sent, with_sent_unit}
-use Rattle.vf_stack.specs.Sends.{Advances, IsPermitted, IsSame, Joins, Sends, unit_kept}
+use Rattle.vf_stack.specs.Sends.{Advances, IsPermitted, Joins, Sends, unit_kept}
 use Rattle.vf_stack.specs.declared.ending.Ending.{Ending}
 use Rattle.vf_stack.specs.declared.ending.Ending.TheVariants.{Open, Closed, Broken, Refused, Partly}
 use Rattle.vf_stack.specs.declared.exchange.KeptExchange.{KeptExchange}

@@ -1,6 +1,6 @@
 -- An SPDU.
 use Rattle.std.proofs.Common.{◌≡◌, ℕ, false, List, [], ◌∷◌, refl, ap, sym, subst, ◌∙◌, append-nil, ◌≢◌, Result, Ok, Err}
-use Rattle.vf_session.specs.Kept.{Kept as SessionKept}
+use Rattle.vf_session.specs.Kept.{IsSameEnd, Kept as SessionKept}
 use Rattle.vf_session.specs.Receiving.{receives}
 use Rattle.vf_session.specs.Represents.{MeetsMeaning, Represents as Keeps, Takes}
 use Rattle.vf_session.specs.Trace.{Trace, state, with_received}
@@ -19,13 +19,14 @@ use Rattle.vf_stack.specs.Association.{Exchange, is_ended}
 use Rattle.vf_stack.specs.Contexts.{accepted}
 use Rattle.vf_stack.specs.Faults.{of_form, of_state}
 use Rattle.vf_stack.specs.Receiving.{Received, meaning_received, read_received, refused, spdu_received, unit_received}
-use Rattle.vf_stack.specs.Represents.{IsInSession, IsTraced, Receives, Refuses, Stands, Tells, TellsUnits}
+use Rattle.vf_stack.specs.Represents.{IsInSession, IsSame, IsTraced, Receives, Refuses, Stands, Tells, TellsUnits}
 use Rattle.vf_stack.specs.declared.ending.Ending.{Ending}
 use Rattle.vf_stack.specs.declared.ending.Ending.TheVariants.{Open, Closed, Broken, Refused, Partly}
 use Rattle.vf_stack.specs.declared.exchange.KeptExchange.{KeptExchange}
 use Rattle.vf_stack.specs.declared.fault.Fault.{Fault}
 use Rattle.vf_stack.specs.declared.indication.Indication.{Indication}
-use Rattle.vf_stack.proofs.UnitLemmas.{refused-traced, tells-side, tells-unit}
+use Rattle.vf_stack.proofs.EndLemmas.{same-session, same-then}
+use Rattle.vf_stack.proofs.UnitLemmas.{refused-traced, tells-same, tells-unit}
 
 -- what stands for an exchange that goes on
 pub record IsOpen (kept : KeptExchange) (x : Exchange) : Type 0 where
@@ -53,13 +54,13 @@ tells-refused kept kept2 out out2 fault x t r =
     let P : KeptExchange → Type 0 = λ k. Stands k (record x { ending = Refused }) in
     (r.1, subst P (sym r.0) (record { ending_is = refl; traced = refused-traced kept x.trace t; in_session = tt }))
 
-refused-side : (kept kept2 : KeptExchange) (out out2 : List Indication) (fault : Fault) → Refuses kept out fault kept2 out2 → kept2.session.side ≡ kept.session.side
-refused-side kept kept2 out out2 fault r = ap (λ (k : KeptExchange). k.session.side) r.0
+refused-same : (kept kept2 : KeptExchange) (out out2 : List Indication) (fault : Fault) → Refuses kept out fault kept2 out2 → IsSame kept kept2
+refused-same kept kept2 out out2 fault r = same-session kept kept2 (ap (λ (k : KeptExchange). k.session) r.0)
 
 pub receives-refusal : (kept kept2 : KeptExchange) (out out2 : List Indication) (fault : Fault) (receive : TokenSide → Exchange → Received)
     → ((x : Exchange) → Stands kept x → receive kept.session.side x ≡ refused x fault) → Refuses kept out fault kept2 out2 → Receives kept out receive kept2 out2
 receives-refusal kept kept2 out out2 fault receive same r = (
-  refused-side kept kept2 out out2 fault r,
+  refused-same kept kept2 out out2 fault r,
   λ x s.
       let P : Received → Type 0 = λ received. Tells out received kept2 out2 in
       subst P (sym (same x s)) (tells-refused kept kept2 out out2 fault x s.traced r),
@@ -101,18 +102,18 @@ spdu-open own place x spdu e = rw e refl
 
 -- Session has taken the SPDU.
 pub receives-told : (kept kept2 : KeptExchange) (s : SessionKept) (units : List SessionSay) (out out2 : List Indication) (place : ℕ) (spdu : Spdu)
-    → is_ended kept.ending ≡ false → s.side ≡ kept.session.side
+    → is_ended kept.ending ≡ false → IsSameEnd kept.session s
     → ((trace : Trace) → Keeps kept.session trace → Takes kept.session spdu [] s units trace (Ok tt))
     → TellsUnits (record kept { session = s }) out units kept2 out2
     → Receives kept out (λ own x. spdu_received own place x spdu) kept2 out2
-receives-told kept kept2 s units out out2 place spdu e side takes told = (
-  tells-side (record kept { session = s }) kept2 out out2 units told ∙ side,
+receives-told kept kept2 s units out out2 place spdu e same takes told = (
+  same-then kept (record kept { session = s }) kept2 same (tells-same (record kept { session = s }) kept2 out out2 units told),
   λ x st.
       let o = is-open kept x st e in
       let own = kept.session.side in
       let P : Received → Type 0 = λ r. Tells out r kept2 out2 in
       subst P (sym (spdu-open own place x spdu o.exchange_is))
-      (by-meaning kept kept2 s units out out2 place x (receives own (state own x.trace) spdu) side o (takes x.trace o.keeps) told),
+      (by-meaning kept kept2 s units out out2 place x (receives own (state own x.trace) spdu) same.0 o (takes x.trace o.keeps) told),
 )
 
 -- Session refuses it.
@@ -120,19 +121,19 @@ by-fault : (own : TokenSide) (trace : Trace) (spdu : Spdu) (fault : SessionError
 by-fault own trace spdu fault e place x = rw e refl
 
 pub receives-fault : (kept kept2 : KeptExchange) (s : SessionKept) (out out2 : List Indication) (place : ℕ) (spdu : Spdu) (fault : SessionError)
-    → is_ended kept.ending ≡ false → s.side ≡ kept.session.side
+    → is_ended kept.ending ≡ false → IsSameEnd kept.session s
     → ((trace : Trace) → Keeps kept.session trace → receives kept.session.side (state kept.session.side trace) spdu ≡ Faulty fault)
     → Refuses (record kept { session = s }) out (of_state place fault) kept2 out2
     → Receives kept out (λ own x. spdu_received own place x spdu) kept2 out2
-receives-fault kept kept2 s out out2 place spdu fault e side faulty r =
+receives-fault kept kept2 s out out2 place spdu fault e same faulty r =
     let kept1 = record kept { session = s } in (
-      refused-side kept1 kept2 out out2 (of_state place fault) r ∙ side,
+      same-then kept kept1 kept2 same (refused-same kept1 kept2 out out2 (of_state place fault) r),
       λ x st.
           let o = is-open kept x st e in
           let own = kept.session.side in
           let P : Received → Type 0 = λ received. Tells out received kept2 out2 in
           subst P (sym (spdu-open own place x spdu o.exchange_is ∙ by-fault own x.trace spdu fault (faulty x.trace o.keeps) place x))
-          (tells-refused kept1 kept2 out out2 (of_state place fault) x (traced-taken kept s x.trace side o.traced) r),
+          (tells-refused kept1 kept2 out out2 (of_state place fault) x (traced-taken kept s x.trace same.0 o.traced) r),
     )
 
 -- ---- the faults of calls, where memory wasn't wanting

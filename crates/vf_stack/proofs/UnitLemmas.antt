@@ -16,7 +16,7 @@ use Rattle.vf_stack.specs.Carriage.{Told, all_told, carried_told, carrier, fault
 use Rattle.vf_stack.specs.Contexts.{Standing, accepted, accepted_by, accepts, contexts_among, offers_by, proposals, proposes, standing}
 use Rattle.vf_stack.specs.Faults.{indication_of}
 use Rattle.vf_stack.specs.Receiving.{ending_by, exchange_after, unit_received}
-use Rattle.vf_stack.specs.Represents.{Concludes, IsInSession, IsTraced, Puts, PutsRead, PutsUnit, Stands, Tells, TellsUnit, TellsUnits, kept_after, standing_of, with_unit}
+use Rattle.vf_stack.specs.Represents.{Concludes, IsInSession, IsSame, IsTraced, Puts, PutsRead, PutsUnit, Stands, Tells, TellsUnit, TellsUnits, kept_after, standing_of, with_unit}
 use Rattle.vf_stack.specs.declared.ending.Ending.{Ending}
 use Rattle.vf_stack.specs.declared.ending.Ending.TheVariants.{Refused, Partly}
 use Rattle.vf_stack.specs.declared.exchange.KeptExchange.{KeptExchange}
@@ -26,6 +26,7 @@ use Rattle.vf_stack.specs.declared.indication.Indication.{Indication}
 use Rattle.vf_upper.specs.Primitives.{reading as user_data_read}
 use Rattle.vf_upper.specs.declared.contexts.ContextEntry.{ContextEntry}
 use Rattle.vf_upper.specs.declared.contexts.Offer.{Offer}
+use Rattle.vf_stack.proofs.EndLemmas.{same-session}
 
 -- ---- an RS that is settled proposes and accepts nothing
 
@@ -243,22 +244,24 @@ tells-concluded kept kept2 unit before ending out out1 out2 n fault count same p
     let E : Ending → Type 0 = λ ending. Concludes kept (length out) ending n out1 fault kept2 out2 in
     concludes-unit kept kept2 unit out out1 out2 n fault puts (subst E same (subst B count c))
 
-after-side : (kept kept2 : KeptExchange) (unit : SessionSay) (told : List Indication) (fault : Option Fault) → kept2 ≡ kept_after kept unit told fault → kept2.session.side ≡ kept.session.side
-after-side kept kept2 unit told None e = ap (λ (k : KeptExchange). k.session.side) e
-after-side kept kept2 unit [] (Some fault) e = ap (λ (k : KeptExchange). k.session.side) e
-after-side kept kept2 unit (first ∷ told) (Some fault) e = ap (λ (k : KeptExchange). k.session.side) e
+-- ---- session keeps which end it is, and whether it proposes sync
 
-unit-side : (kept kept2 : KeptExchange) (out out2 : List Indication) (unit : SessionSay) → TellsUnit kept out unit kept2 out2 → kept2.session.side ≡ kept.session.side
-unit-side kept kept2 out out2 unit t =
+after-same : (kept kept2 : KeptExchange) (unit : SessionSay) (told : List Indication) (fault : Option Fault) → kept2 ≡ kept_after kept unit told fault → IsSame kept kept2
+after-same kept kept2 unit told None e = same-session kept kept2 (ap (λ (k : KeptExchange). k.session) e)
+after-same kept kept2 unit [] (Some fault) e = same-session kept kept2 (ap (λ (k : KeptExchange). k.session) e)
+after-same kept kept2 unit (first ∷ told) (Some fault) e = same-session kept kept2 (ap (λ (k : KeptExchange). k.session) e)
+
+unit-same : (kept kept2 : KeptExchange) (out out2 : List Indication) (unit : SessionSay) → TellsUnit kept out unit kept2 out2 → IsSame kept kept2
+unit-same kept kept2 out out2 unit t =
     let told = unit_told (standing_of kept) unit in
-    after-side kept kept2 unit told.indications told.fault t.0
+    after-same kept kept2 unit told.indications told.fault t.0
 
-pub tells-side : (kept kept2 : KeptExchange) (out out2 : List Indication) (units : List SessionSay) → TellsUnits kept out units kept2 out2 → kept2.session.side ≡ kept.session.side
-tells-side kept kept2 out out2 [] t = ap (λ (k : KeptExchange). k.session.side) t.0
-tells-side kept kept2 out out2 (unit ∷ []) t = unit-side kept kept2 out out2 unit t
-tells-side kept kept2 out out2 (unit ∷ other ∷ units) t = t
+pub tells-same : (kept kept2 : KeptExchange) (out out2 : List Indication) (units : List SessionSay) → TellsUnits kept out units kept2 out2 → IsSame kept kept2
+tells-same kept kept2 out out2 [] t = same-session kept kept2 (ap (λ (k : KeptExchange). k.session) t.0)
+tells-same kept kept2 out out2 (unit ∷ []) t = unit-same kept kept2 out out2 unit t
+tells-same kept kept2 out out2 (unit ∷ other ∷ units) t = t
 
 pub tells-last : (kept kept2 : KeptExchange) (out out2 : List Indication) (before : List SessionSay) (unit : SessionSay) → TellsUnit kept out unit kept2 out2 → TellsUnits kept out (before ++ unit ∷ []) kept2 out2
 tells-last kept kept2 out out2 [] unit t = t
-tells-last kept kept2 out out2 (first ∷ []) unit t = unit-side kept kept2 out out2 unit t
-tells-last kept kept2 out out2 (first ∷ second ∷ before) unit t = unit-side kept kept2 out out2 unit t
+tells-last kept kept2 out out2 (first ∷ []) unit t = unit-same kept kept2 out out2 unit t
+tells-last kept kept2 out out2 (first ∷ second ∷ before) unit t = unit-same kept kept2 out out2 unit t

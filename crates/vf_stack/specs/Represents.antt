@@ -2,6 +2,7 @@
 use Rattle.std.specs.BTreeSet.{BTreeSet, contains}
 use Rattle.std.specs.Ordering.{int_cmp}
 use Rattle.std.specs.Prelude.{◌≡◌, ℕ, ℤ, Bool, nat_eq, List, [], ◌∷◌, ◌++◌, length, unwrap_or, Option, None, Some, Result, if◌then◌else◌}
+use Rattle.vf_session.specs.Kept.{IsSameEnd}
 use Rattle.vf_session.specs.Represents.{Represents as Keeps}
 use Rattle.vf_session.specs.Trace.{Trace, state}
 use Rattle.vf_session.specs.declared.parameters.SayParameters.{SayParameters}
@@ -62,22 +63,26 @@ pub record Represents (kept : Kept) (a : Association) : Type 0 where
 abbrev pub AreMet : BTreeSet ℤ → List ℤ → Type 0
 AreMet set ids = (id : ℤ) → contains int_cmp set id ≡ is_met ids id
 
+-- which end it is, and whether it proposes sync, stays
+abbrev pub IsSame : KeptExchange → KeptExchange → Type 0
+IsSame kept kept' = IsSameEnd kept.session kept'.session
+
 -- ---- what is received
 
 -- What was received was appended, and the exchange with it is represented.
 abbrev pub Tells : List Indication → Received → KeptExchange → List Indication → Type 0
 Tells out received kept' out' = (out' ≡ out ++ received.indications) × Stands kept' received.exchange
 
--- Something was received, of every exchange that may be kept so; which end it is stays.
+-- Something was received, of every exchange that may be kept so; the end stays the same.
 abbrev pub Receives : KeptExchange → List Indication → (TokenSide → Exchange → Received) → KeptExchange → List Indication → Type 0
 Receives kept out receive kept' out' =
-    (kept'.session.side ≡ kept.session.side)
+    IsSame kept kept'
     × ((x : Exchange) → Stands kept x → Tells out (receive kept.session.side x) kept' out')
 
 -- Some of a list was received, and what is left tells the rest of what the whole tells.
 abbrev pub Onward : {A : Type 0} → KeptExchange → List Indication → (TokenSide → Exchange → A → Received) → List A → KeptExchange → List Indication → List A → Type 0
 Onward kept out receive all kept' out' rest =
-    (kept'.session.side ≡ kept.session.side)
+    IsSame kept kept'
     × ((x : Exchange) → Stands kept x → (x' : Exchange) × Stands kept' x'
     × (preceded out (each (receive kept.session.side) x all) ≡ preceded out' (each (receive kept.session.side) x' rest)))
 
@@ -122,11 +127,11 @@ TellsUnit kept out unit kept' out' =
     let told = unit_told (standing_of kept) unit in
     (kept' ≡ kept_after kept unit told.indications told.fault) × (out' ≡ out ++ all_told told)
 
--- Session tells one unit at most, and of more nothing is promised but which end it is.
+-- Session tells one unit at most, and of more nothing is promised but that the end stays the same.
 abbrev pub TellsUnits : KeptExchange → List Indication → List SessionSay → KeptExchange → List Indication → Type 0
 TellsUnits kept out [] kept' out' = (kept' ≡ kept) × (out' ≡ out)
 TellsUnits kept out (unit ∷ []) kept' out' = TellsUnit kept out unit kept' out'
-TellsUnits kept out (unit ∷ other ∷ units) kept' out' = kept'.session.side ≡ kept.session.side
+TellsUnits kept out (unit ∷ other ∷ units) kept' out' = IsSame kept kept'
 
 -- A fault of which nothing else was told ended receiving.
 abbrev pub Refuses : KeptExchange → List Indication → Fault → KeptExchange → List Indication → Type 0
@@ -170,6 +175,6 @@ after_told out answers f = record { indications = out ++ f.indications; answers 
 -- Some octets of a piece were received, and those that are left tell the rest.
 abbrev pub FeedsOnward : Kept → List Indication → List ℕ → List ℕ → Kept → List Indication → List ℕ → List ℕ → Type 0
 FeedsOnward kept out answers piece kept' out' answers' rest =
-    (side_of kept' ≡ side_of kept)
+    IsSame kept.exchange kept'.exchange
     × ((a : Association) → Represents kept a → (a' : Association) × Represents kept' a'
     × (after_told out answers (octets_received (side_of kept) a piece) ≡ after_told out' answers' (octets_received (side_of kept) a' rest)))

@@ -8,6 +8,7 @@ use Rattle.vf_session.specs.declared.units.TokenSide.{TokenSide}
 use Rattle.vf_stack.specs.Association.{Association, Exchange}
 use Rattle.vf_stack.specs.Requests.{unit_of}
 use Rattle.vf_stack.specs.Represents.{IsInSession, Kept, Represents, Stands, side_of, standing_of}
+pub use Rattle.vf_stack.specs.Represents.{IsSame}
 use Rattle.vf_stack.specs.Sending.{IsSendable, ending_after, octets_sent, permits, with_request, with_sent_unit}
 use Rattle.vf_stack.specs.declared.exchange.KeptExchange.{KeptExchange}
 use Rattle.vf_stack.specs.declared.request.Request.{Request}
@@ -31,10 +32,6 @@ pub record MaySend (kept : Kept) (request : Request) : Type 0 where
   pub connected : IsTrue (stands kept.transport)
   pub permitted : IsPermitted kept.exchange (unit_kept kept.exchange request)
   pub sendable : IsSendable (side_of kept) (standing_of kept.exchange) request
-
--- which end it is, and whether it proposes sync, stays
-abbrev pub IsSame : KeptExchange → KeptExchange → Type 0
-IsSame kept kept' = (kept'.session.side ≡ kept.session.side) × (kept'.session.offer ≡ kept.session.offer)
 
 -- Where the connection then stands by each trace that may be kept so, and session where more may be sent; all else that is
 -- kept stays.

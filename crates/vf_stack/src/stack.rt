@@ -3,9 +3,9 @@ ghost use Rattle.std.specs.Prelude.{◌≡◌, ◌↔◌, ◌+◌, ◌++◌, ◌
 ghost use Rattle.vf_stack.specs.Association.{Association, beginning, is_ended as is_over};
 ghost use Rattle.vf_stack.specs.Pieces.{TellOnce};
 ghost use Rattle.vf_stack.specs.Receiving.{octets_received, piece_received};
-ghost use Rattle.vf_stack.specs.Represents.{Feeds, Listens, Represents, offer_of, side_of};
+ghost use Rattle.vf_stack.specs.Represents.{Feeds, IsSame, Listens, Represents, offer_of, side_of};
 ghost use Rattle.vf_stack.specs.Sending.{May, is_associated as is_associated_now, tsdu_of};
-ghost use Rattle.vf_stack.specs.Sends.{IsPermitted, IsSame, MaySend, Sends};
+ghost use Rattle.vf_stack.specs.Sends.{IsPermitted, MaySend, Sends};
 ghost use Rattle.vf_session.specs.Sending.{holds_token};
 ghost use Rattle.vf_session.specs.Trace.{next, phase, state as state_of};
 ghost use Rattle.vf_session.specs.declared.units.TokenSide.TheVariants as sides;
@@ -96,7 +96,7 @@ impl Stack {
     ) -> Result<(), NoMemory>
         // Of every association that the stack represents.
         ensures received { (a : Association) → Represents self.old a → OnOk result (Feeds (octets_received (side_of self.old) a piece.now) out.old.items answers.old.items self.new out.new.items answers.new.items) }
-        ensures end { OnOk result (side_of self.new ≡ side_of self.old) }
+        ensures end { OnOk result (IsSame self.old.exchange self.new.exchange) }
     {
         let mut rest = piece;
         while !rest.is_empty() {
@@ -116,7 +116,7 @@ impl Stack {
         answers: &mut Vec<u8>,
     ) -> Result<(), NoMemory>
         ensures received { (a : Association) → Represents self.old a → OnOk result (Feeds (piece_received (side_of self.old) a piece.now) out.old.items answers.old.items self.new out.new.items answers.new.items) }
-        ensures end { OnOk result (side_of self.new ≡ side_of self.old) }
+        ensures end { OnOk result (IsSame self.old.exchange self.new.exchange) }
     {
         if self.ended() {
             return Ok(());

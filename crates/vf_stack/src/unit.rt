@@ -7,10 +7,10 @@ ghost use Rattle.vf_session.specs.Trace.{other as other_side};
 ghost use Rattle.vf_session.specs.Units.{parameters as parameters_in, user_data as data_in, with_data};
 ghost use Rattle.vf_session_spdu.specs.Spelling.{IsWritten as IsSpelled, octets_after, spelling};
 ghost use Rattle.vf_stack.specs.Contexts.{proposes};
-ghost use Rattle.vf_stack.specs.Represents.{standing_of};
+ghost use Rattle.vf_stack.specs.Represents.{IsSame, standing_of};
 ghost use Rattle.vf_stack.specs.Requests.{answer_to, passes_from as passes_by, returns_token as returns};
 ghost use Rattle.vf_stack.specs.Sending.{IsSendable, tsdu_of as tsdu_by};
-ghost use Rattle.vf_stack.specs.Sends.{Advances, IsPermitted, IsSame, Joins, unit_kept};
+ghost use Rattle.vf_stack.specs.Sends.{Advances, IsPermitted, Joins, unit_kept};
 
 use crate::contexts::offers_in;
 use crate::ending::ending_by;

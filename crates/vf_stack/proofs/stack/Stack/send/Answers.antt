@@ -1,9 +1,9 @@
 use Rattle.std.proofs.Common.{◌≤◌, length, ap, subst, sym, ◌∙◌}
 use Rattle.vf_base.specs.declared.limits.TheConstants.{MOST_VALUE_OCTETS}
 use Rattle.vf_session.specs.declared.units.SessionSay.{SessionSay}
-use Rattle.vf_stack.specs.Represents.{Kept, side_of}
+use Rattle.vf_stack.specs.Represents.{IsSame, Kept, side_of}
 use Rattle.vf_stack.specs.Sending.{tsdu_of}
-use Rattle.vf_stack.specs.Sends.{IsPermitted, IsSame, Joins, unit_kept}
+use Rattle.vf_stack.specs.Sends.{IsPermitted, Joins, unit_kept}
 use Rattle.vf_stack.proofs.SendLemmas.{sends-all}
 use Rattle.vf_stack.proofs.stack.Stack.send.Goals as goal
 
