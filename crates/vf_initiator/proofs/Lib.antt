@@ -1,0 +1,14 @@
+pub mod Answering
+pub mod Cuts
+pub mod Ended
+pub mod Gathers
+pub mod Greeting
+pub mod KeptRows
+pub mod KeptTalks
+pub mod Marks
+pub mod Sent
+pub mod Staged
+pub mod Taking
+pub mod TaskChanges
+pub mod TaskEntries
+pub mod Took

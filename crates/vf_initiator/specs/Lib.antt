@@ -1,0 +1,17 @@
+pub mod Asking
+pub mod Assignments
+pub mod Cutting
+pub mod Examples
+pub mod Few
+pub mod Gathering
+pub mod Hearing
+pub mod Keepable
+pub mod Keeping
+pub mod Output
+pub mod Owed
+pub mod Represents
+pub mod Rows
+pub mod Says
+pub mod Steps
+pub mod Talking
+pub mod Values

@@ -1,0 +1,34 @@
+use vf_base::Diagnostic;
+use vf_stack::{FaultName, Layer};
+
+/// Why a task failed.
+#[derive(Clone, Copy, Debug, PartialEq, Eq)]
+pub enum TaskError {
+    /// The task ended with this diagnostic, which the other end gave (ISO 8571-3).
+    Refused(Diagnostic),
+    /// What the other end sent is at fault.
+    PeerFault {
+        layer: Layer,
+        name: FaultName,
+        at: u64,
+    },
+    /// The other end aborted, with this number, or without one, which is 0.
+    PeerAbort {
+        number: u16,
+    },
+    /// After so many messages that were in place, one wasn't, or the other end released the connection.
+    OutOfPlace {
+        after: u32,
+    },
+    /// The connection gave 1,073,741,824 octets.
+    Budget,
+}
+
+/// How a task stands.
+#[derive(Clone, Copy, Debug, PartialEq, Eq)]
+pub enum Doing {
+    Going,
+    /// It ended well.
+    Ended,
+    Failed(TaskError),
+}

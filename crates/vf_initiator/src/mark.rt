@@ -1,0 +1,11 @@
+use crate::progress::Progress;
+
+/// How a task was kept as a call began.
+#[derive(Clone, Copy, Debug, PartialEq, Eq)]
+pub(crate) struct Mark {
+    /// None where it isn't kept, or not any more.
+    pub(crate) kept: Option<u32>,
+    pub(crate) progress: Progress,
+    /// How many pieces of a get were kept.
+    pub(crate) pieces: usize,
+}

@@ -1,0 +1,302 @@
+//! Rows of both ends' messages: what the other end says, or the octets that come from it, and after `=` what it is told then,
+//! after `|` the changes of the kept task, and after `!` how the task stands, where it isn't going on.
+use crate::ends::{Ends, keep};
+use crate::tasks::plan_of;
+use std::alloc::Global;
+use std::test::Fail;
+use vf_initiator::Plan;
+use vf_tables::Tables;
+
+/// Three strings, a check behind every second one, without an activity.
+const PUT: &str = "
+put 3 2 - 040131 040132 040133
+dial = -A00D80010F81056775657374830104
+Accept-:A10681010F820104 = AA12800101810161A207800528C27B0503850104
+Item:AB00 = B203800104
+Item:B309A107800528C27B0503 = BF2103800102 b31 b32 b33 BF2200 BF2300
+Item:BF2400 = B400
+Item:B500 = A800
+Item:A900 = A200
+Released:A300 =  ! ended
+";
+
+/// With activity 7 and a window of 1, broken after check 1 was acknowledged, and recovered.
+const PUT_RECOVERED: &str = "
+put 3 1 7 040131 040132 040133
+dial = +A00E800200CF81056775657374830104
+Accept+:A107810200CF820101 = AA12800101810161A207800528C27B0503850104
+Item:AB00 = B206800104830107 | 1.0.Open.0
+Item:B309A107800528C27B0503 = BF2103800102 b31 check1
+Acknowledge1 = b32 check2 | 1.1.Open.0
+dial = +A00E800200CF81056775657374830104
+Accept+:A107810200CF820104 = BA09800107810101820101
+Item:BB098101018201018301FF = b32 check1 b33 BF2200 BF2300
+Acknowledge1 =  | 1.2.Open.0
+Item:BF2400 = B400 | 1.2.Concluded.0
+Item:B500 = A800
+Item:A900 = A200
+Released:A300 =  | drop ! ended
+";
+
+/// The same, where the other end performed the transfer before the connection broke, and refused it.
+const PUT_REFUSED: &str = "
+put 3 1 7 040131 040132
+dial = +A00E800200CF81056775657374830104
+Accept+:A107810200CF820104 = AA12800101810161A207800528C27B0503850104
+Item:AB00 = B206800104830107 | 1.0.Open.0
+Item:B309A107800528C27B0503 = BF2103800102 b31 check1 b32 BF2200 BF2300
+Acknowledge1 =  | 1.1.Open.0
+dial = +A00E800200CF81056775657374830104
+Accept+:A107810200CF820104 = BA09800107810101820101
+Item:BB06810102840117 = B400 | 1.1.Concluded.23
+dial = +A00E800200CF81056775657374830104
+Accept+:A107810200CF820104 = BA09800107810101820101
+Item:BB05A00380011B = A200
+Released:A300 =  | drop ! refused 23 0 0
+";
+
+/// A get that broke behind a check, and was recovered there; and its end, which is told on a third connection.
+const GET: &str = "
+get 3 64 7
+dial = +A00E800200CF81056775657374830104
+Accept+:A107810200CF820104 = A606800161810101
+Item:A700 = B206800101830107 | 1.0.Open.0
+Item:B309A107800528C27B0503 = BF2000
+Item:040131 =
+Check1 = ack1 | 1.1.Open.0 stage1:1
+Item:040132 =
+elements = b31 b32
+dial = +A00E800200CF81056775657374830104
+Accept+:A107810200CF820104 = BA09800107810101820101
+Item:BB098101018201018301FF =
+elements = b31
+Item:040132 =
+Item:040133 =
+Item:BF2200 = BF2300 | 1.1.Whole.0 stage2:2
+dial = +A00E800200CF81056775657374830104
+Accept+:A107810200CF820104 = BA09800107810101820101
+Item:BB03810102 = B400 | 1.1.Concluded.0
+Item:B500 = A800
+Item:A900 = A200
+elements = b31 b32 b33
+Released:A300 =  | drop ! ended
+";
+
+/// A get that goes on before the check that it keeps; one that reads anew, since the other end has concluded the transfer; and
+/// one of which the other end keeps nothing.
+const GET_BEHIND: &str = "
+get 3 64 7
+dial = +A00E800200CF81056775657374830104
+Accept+:A107810200CF820104 = A606800161810101
+Item:A700 = B206800101830107 | 1.0.Open.0
+Item:B309A107800528C27B0503 = BF2000
+Item:040131 =
+Check1 = ack1 | 1.1.Open.0 stage1:1
+dial = +A00E800200CF81056775657374830104
+Accept+:A107810200CF820104 = BA09800107810101820101
+Item:BB068101018301FF =  | 1.0.Open.0 cut0
+Item:040134 =
+Check1 = ack1 | 1.1.Open.0 stage1:1
+dial = +A00E800200CF81056775657374830104
+Accept+:A107810200CF820104 = BA09800107810101820101
+Item:BB03810102 = BF2000 | 2.0.Open.0 cut0
+dial = +A00E800200CF81056775657374830104
+Accept+:A107810200CF820104 = BA06800107810102
+Item:BB05A00380011B = A606800161810101 | 1.0.New.0
+";
+
+/// A put of lines, which takes the place of the file's contents, and a get of records, which asks for the file's units.
+const KINDS: &str = "
+put 1 5 - 190131 190132
+dial = -A00D80010F81056775657374830104
+Accept-:A10681010F820104 = AA12800101810161A207800528C27B0501850104
+Item:AB00 = B203800104
+Item:B300 = BF2103800102 t31 t32 BF2200 BF2300
+get 2 1 -
+dial = -A00D80010F81056775657374830104
+Accept-:A10681010F820104 = A606800161810101
+Item:A700 = B203800101
+Item:B300 = BF2003810101
+Item:6000 =
+Item:190131 =
+Item:BF2200 = BF2300
+Item:BF2400 = B400
+Item:B500 = A800
+Item:A900 = A200
+elements = d t31
+Released:A300 =  ! ended
+";
+
+/// Refusals.
+const REFUSED: &str = "
+put 3 1 7 040131
+dial = +A00E800200CF81056775657374830104
+Refuse:A105A003800124 =  | drop ! refused 36 0 0
+put 3 1 7 040131
+dial = +A00E800200CF81056775657374830104
+Accept+:A105A003800124 = A400 | drop ! refused 36 0 0
+put 3 1 - 040131
+dial = -A00D80010F81056775657374830104
+Accept-:A10681010F820104 = AA12800101810161A207800528C27B0503850104
+Item:AB05A003800118 = A200 ! refused 24 0 0
+put 2 1 - 6000 190131
+dial = -A00D80010F81056775657374830104
+Accept-:A10681010F820104 = AA12800101810161A207800528C27B0502850102
+Item:AB00 = B203800102
+Item:B308A006800110820101 = A400 ! refused 16 0 1
+put 2 1 - 6000 190131
+dial = -A00D80010F81056775657374830104
+Accept-:A10681010F820104 = AA12800101810161A207800528C27B0502850102
+Item:AB00 = B203800102
+Item:B300 = BF21068001018101FF d t31 BF2200 BF2300
+Item:BF2405A003800117 = B400
+Item:B500 = A800
+Item:A900 = A200
+Released:A300 =  ! refused 23 0 0
+";
+
+/// What is out of place, at fault, or an abort.
+const FAILED: &str = "
+put 3 1 - 040131
+dial = -A00D80010F81056775657374830104
+Refuse:A103810100 =  ! out of place 0
+put 3 1 - 040131
+dial = -A00D80010F81056775657374830104
+Accept-:A10681010F820104 = AA12800101810161A207800528C27B0503850104
+Item:A700 =  ! out of place 1
+put 3 1 - 040131
+dial = -A00D80010F81056775657374830104
+Abort =  ! abort 0
+put 3 1 - 040131
+dial = -A00D80010F81056775657374830104
+Accept-:A10681010F820104 = AA12800101810161A207800528C27B0503850104
+Abort:A50380016A =  ! abort 106
+put 3 1 - 040131
+dial = -A00D80010F81056775657374830104
+octets 0400 =  ! fault Transport Version 11
+put 3 1 - 040131
+dial = -A00D80010F81056775657374830104
+octets 0300000B06800001000100 =  ! out of place 0
+get 3 1 -
+dial = -A00D80010F81056775657374830104
+Accept-:A10681010F820104 = A606800161810101
+Item:A700 = B203800101
+Item:B300 = BF2000
+Item:040131 =
+Item:BF2200 = BF2300
+Item:040131 =  ! out of place 5
+";
+
+/// What stands while rows are read.
+#[derive(Drop)]
+struct Rows {
+    tables: Tables,
+    /// The plan of a task before its first connection.
+    plan: Option<Plan>,
+    ends: Option<Ends>,
+    pieces: usize,
+    text: String,
+}
+
+impl Rows {
+    fn new(alloc: Global, pieces: usize) -> Result<Rows, Fail> {
+        Ok(Rows {
+            tables: Tables::new(alloc),
+            plan: None,
+            ends: None,
+            pieces,
+            text: String::from_str(alloc, "\n")?,
+        })
+    }
+
+    /// A task begins.
+    fn begin(&mut self, alloc: Global, words: &str) -> Result<(), Fail> {
+        self.tables = Tables::new(alloc);
+        self.ends = None;
+        self.plan = Some(plan_of(alloc, words)?);
+        self.put(words, "")
+    }
+
+    fn put(&mut self, row: &str, shown: &str) -> Result<(), Fail> {
+        self.text.push_str(row)?;
+        self.text.push_str(shown)?;
+        self.text.push('\n')?;
+        Ok(())
+    }
+
+    /// A new connection: the first one of the task, or one after another that broke.
+    fn dial(&mut self, alloc: Global) -> Result<(), Fail> {
+        if let Some(plan) = self.plan.take() {
+            keep(alloc, &plan, &mut self.tables)?;
+            self.ends = Some(Ends::dial(alloc, plan, None, self.pieces)?);
+            return Ok(());
+        }
+        if let Some(ends) = self.ends.take() {
+            let plan = ends.broke();
+            let kept = self.tables.task(7);
+            self.ends = Some(Ends::dial(alloc, plan, kept, self.pieces)?);
+        }
+        Ok(())
+    }
+
+    /// A row of a connection.
+    fn step(&mut self, alloc: Global, step: &str) -> Result<(), Fail> {
+        let mut shown = String::from_str(alloc, " =")?;
+        let mut said = String::new(alloc);
+        if step == "dial" {
+            self.dial(alloc)?;
+        }
+        let asked = if step == "dial" { "" } else { step };
+        if let Some(ends) = &mut self.ends {
+            ends.row(alloc, asked, &mut self.tables, &mut said)?;
+        }
+        if !said.is_empty() {
+            shown.push(' ')?;
+            shown.push_str(said.as_str())?;
+        }
+        self.put(step, shown.as_str())
+    }
+
+    fn row(&mut self, alloc: Global, row: &str) -> Result<(), Fail> {
+        if row.is_empty() {
+            return Ok(());
+        }
+        match row.split_once(" =") {
+            Some((step, _)) => self.step(alloc, step),
+            None => self.begin(alloc, row),
+        }
+    }
+}
+
+/// Rows with what comes of them.
+fn run(alloc: Global, rows: &str, pieces: usize) -> Result<String, Fail> {
+    let mut run = Rows::new(alloc, pieces)?;
+    for row in rows.lines() {
+        run.row(alloc, row)?;
+    }
+    Ok(run.text)
+}
+
+#[test]
+fn tasks_are_done(rt: HostRuntime) -> Result<(), Fail> {
+    for rows in [
+        PUT,
+        PUT_RECOVERED,
+        PUT_REFUSED,
+        GET,
+        GET_BEHIND,
+        KINDS,
+        REFUSED,
+        FAILED,
+    ] {
+        for pieces in [1, 7, 100_000] {
+            let found = run(rt.alloc(), rows, pieces)?;
+            let lines = found.as_str().lines().zip(rows.lines());
+            for (line, expected) in lines {
+                assert_eq!(rt; line, expected, "{pieces} octets at a time");
+            }
+            assert_eq!(rt; found.len(), rows.len());
+        }
+    }
+    Ok(())
+}
