@@ -1,5 +1,5 @@
 -- The last octets of a record.
-use Rattle.std.proofs.Common.{◌≡◌, ℕ, ◌+◌, ◌-◌, ◌≤◌, List, length, take, drop, refl, ap, sym, ◌∙◌, arith, drop-drop, length-drop}
+use Rattle.std.proofs.Common.{◌≡◌, ℕ, ◌+◌, ◌-◌, ◌≤◌, List, length, drop, refl, ap, ◌∙◌, arith, drop-drop, length-drop}
 
 -- the whole is the last of its octets
 pub all_left : (all : List ℕ) → all ≡ drop (length all - length all) all
