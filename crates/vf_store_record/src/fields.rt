@@ -1,4 +1,4 @@
-//! The fields of changes, read from the first octets of a slice; what follows them is left.
+//! The fields of changes, read from the first octets of what is left of a record; what follows them is left then.
 ghost use Rattle.std.specs.Prelude.{◌≡◌};
 ghost use Rattle.vf_store_record.specs.Fields.{actions, control, name, number16, number32, number64, optional_name, optional_stamp, optional_text, stamp, string, term, text, truth};
 ghost use Rattle.vf_store_record.specs.Formats.{first, these};

@@ -5,7 +5,7 @@ use std::alloc::Global;
 use std::marker::Model;
 use vf_base::{NoMemory, Octets};
 
-/// A string of so many octets and more is shared with its record.
+/// A string of so many octets and more is a part of its record; shorter ones keep none.
 const SHARED_FROM: usize = 4_096;
 
 /// The last octets of a record, after those that were read.
