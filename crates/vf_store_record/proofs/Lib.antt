@@ -1,6 +1,7 @@
 pub mod Exact
 pub mod Numbers
 pub mod Loop
+pub mod Rests
 pub mod Again
 pub mod Codes
 pub mod Ranges

@@ -1,26 +1,27 @@
-//! The fields of changes, read from the first octets of a slice; what follows them is left.
+//! The fields of changes, read from the first octets of what is left of a record; what follows them is left then.
 ghost use Rattle.std.specs.Prelude.{◌≡◌};
 ghost use Rattle.vf_store_record.specs.Fields.{actions, control, name, number16, number32, number64, optional_name, optional_stamp, optional_text, stamp, string, term, text, truth};
 ghost use Rattle.vf_store_record.specs.Formats.{first, these};
 ghost use Rattle.vf_store_record.specs.Reading.{Gives};
 
-use crate::ReadError;
+use crate::{ReadError, Rest};
 use std::alloc::Global;
 use vf_attr::Stamp;
 use vf_base::{Actions, BaseError, Control, Moment, Name, Octets, Term};
 
-pub(crate) fn octet_at(octets: &[u8]) -> Result<(u8, &[u8]), ReadError>
-    ensures { Gives (λ found. (found.0, found.1.now)) result (first octets.now) }
+pub(crate) fn octet_at(octets: Rest<'_>) -> Result<(u8, Rest<'_>), ReadError>
+    ensures { Gives (λ found. found) result (first octets.entry) }
 {
-    match octets {
-        [] => Err(ReadError::Foreign),
-        [octet, rest @ ..] => Ok((*octet, rest)),
+    if octets.is_empty() {
+        return Err(ReadError::Foreign);
     }
+    let (octet, rest) = octets.split_at(1);
+    Ok((octet[0], rest))
 }
 
 #[tactic(auto, unfolding(crate::specs::Fields::number16))]
-pub(crate) fn u16_at(octets: &[u8]) -> Result<(u16, &[u8]), ReadError>
-    ensures { Gives (λ found. (found.0, found.1.now)) result (number16.read octets.now) }
+pub(crate) fn u16_at(octets: Rest<'_>) -> Result<(u16, Rest<'_>), ReadError>
+    ensures { Gives (λ found. found) result (number16.read octets.entry) }
 {
     if octets.len() < 2 {
         return Err(ReadError::Foreign);
@@ -31,8 +32,8 @@ pub(crate) fn u16_at(octets: &[u8]) -> Result<(u16, &[u8]), ReadError>
 }
 
 #[tactic(auto, unfolding(crate::specs::Fields::number32))]
-pub(crate) fn u32_at(octets: &[u8]) -> Result<(u32, &[u8]), ReadError>
-    ensures { Gives (λ found. (found.0, found.1.now)) result (number32.read octets.now) }
+pub(crate) fn u32_at(octets: Rest<'_>) -> Result<(u32, Rest<'_>), ReadError>
+    ensures { Gives (λ found. found) result (number32.read octets.entry) }
 {
     if octets.len() < 4 {
         return Err(ReadError::Foreign);
@@ -43,8 +44,8 @@ pub(crate) fn u32_at(octets: &[u8]) -> Result<(u32, &[u8]), ReadError>
 }
 
 #[tactic(auto, unfolding(crate::specs::Fields::number64))]
-pub(crate) fn u64_at(octets: &[u8]) -> Result<(u64, &[u8]), ReadError>
-    ensures { Gives (λ found. (found.0, found.1.now)) result (number64.read octets.now) }
+pub(crate) fn u64_at(octets: Rest<'_>) -> Result<(u64, Rest<'_>), ReadError>
+    ensures { Gives (λ found. found) result (number64.read octets.entry) }
 {
     if octets.len() < 8 {
         return Err(ReadError::Foreign);
@@ -57,8 +58,8 @@ pub(crate) fn u64_at(octets: &[u8]) -> Result<(u64, &[u8]), ReadError>
 }
 
 /// So many octets.
-fn these_at(octets: &[u8], count: usize) -> Result<(&[u8], &[u8]), ReadError>
-    ensures { Gives (λ found. (found.0.now, found.1.now)) result (these count octets.now) }
+fn these_at(octets: Rest<'_>, count: usize) -> Result<(&[u8], Rest<'_>), ReadError>
+    ensures { Gives (λ found. (found.0.now, found.1)) result (these count octets.entry) }
 {
     if octets.len() < count {
         return Err(ReadError::Foreign);
@@ -68,8 +69,8 @@ fn these_at(octets: &[u8], count: usize) -> Result<(&[u8], &[u8]), ReadError>
 }
 
 #[tactic(auto, unfolding(crate::specs::Fields::text, crate::specs::Fields::number16))]
-pub(crate) fn text_at(alloc: Global, octets: &[u8]) -> Result<(Octets, &[u8]), ReadError>
-    ensures { Gives (λ found. (found.0, found.1.now)) result (text.read octets.now) }
+pub(crate) fn text_at(alloc: Global, octets: Rest<'_>) -> Result<(Octets, Rest<'_>), ReadError>
+    ensures { Gives (λ found. found) result (text.read octets.entry) }
 {
     let (count, rest) = u16_at(octets)?;
     let (text, rest) = these_at(rest, count as usize)?;
@@ -78,18 +79,22 @@ pub(crate) fn text_at(alloc: Global, octets: &[u8]) -> Result<(Octets, &[u8]), R
 }
 
 #[tactic(auto, unfolding(crate::specs::Fields::string, crate::specs::Fields::number32))]
-pub(crate) fn string_at(alloc: Global, octets: &[u8]) -> Result<(Octets, &[u8]), ReadError>
-    ensures { Gives (λ found. (found.0, found.1.now)) result (string.read octets.now) }
+pub(crate) fn string_at(alloc: Global, octets: Rest<'_>) -> Result<(Octets, Rest<'_>), ReadError>
+    ensures { Gives (λ found. found) result (string.read octets.entry) }
 {
     let (count, rest) = u32_at(octets)?;
-    let (string, rest) = these_at(rest, count as usize)?;
-    let string = Octets::of(alloc, string)?;
+    let count = count as usize;
+    if rest.len() < count {
+        return Err(ReadError::Foreign);
+    }
+    let string = rest.string(alloc, count)?;
+    let (_, rest) = rest.split_at(count);
     Ok((string, rest))
 }
 
 #[tactic(auto, unfolding(crate::specs::Fields::name, crate::specs::Fields::text, crate::specs::Fields::number16))]
-pub(crate) fn name_at(alloc: Global, octets: &[u8]) -> Result<(Name, &[u8]), ReadError>
-    ensures { Gives (λ found. (found.0, found.1.now)) result (name.read octets.now) }
+pub(crate) fn name_at(alloc: Global, octets: Rest<'_>) -> Result<(Name, Rest<'_>), ReadError>
+    ensures { Gives (λ found. found) result (name.read octets.entry) }
 {
     let (count, rest) = u16_at(octets)?;
     let (text, rest) = these_at(rest, count as usize)?;
@@ -101,8 +106,8 @@ pub(crate) fn name_at(alloc: Global, octets: &[u8]) -> Result<(Name, &[u8]), Rea
 }
 
 #[tactic(auto, unfolding(crate::specs::Fields::truth))]
-pub(crate) fn truth_at(octets: &[u8]) -> Result<(bool, &[u8]), ReadError>
-    ensures { Gives (λ found. (found.0, found.1.now)) result (truth.read octets.now) }
+pub(crate) fn truth_at(octets: Rest<'_>) -> Result<(bool, Rest<'_>), ReadError>
+    ensures { Gives (λ found. found) result (truth.read octets.entry) }
 {
     let (octet, rest) = octet_at(octets)?;
     match octet {
@@ -113,16 +118,16 @@ pub(crate) fn truth_at(octets: &[u8]) -> Result<(bool, &[u8]), ReadError>
 }
 
 #[tactic(auto, unfolding(crate::specs::Fields::actions))]
-pub(crate) fn actions_at(octets: &[u8]) -> Result<(Actions, &[u8]), ReadError>
-    ensures { Gives (λ found. (found.0, found.1.now)) result (actions.read octets.now) }
+pub(crate) fn actions_at(octets: Rest<'_>) -> Result<(Actions, Rest<'_>), ReadError>
+    ensures { Gives (λ found. found) result (actions.read octets.entry) }
 {
     let (value, rest) = octet_at(octets)?;
     Ok((Actions { value }, rest))
 }
 
 #[tactic(auto, unfolding(crate::specs::Fields::control))]
-pub(crate) fn control_at(octets: &[u8]) -> Result<(Control, &[u8]), ReadError>
-    ensures { Gives (λ found. (found.0, found.1.now)) result (control.read octets.now) }
+pub(crate) fn control_at(octets: Rest<'_>) -> Result<(Control, Rest<'_>), ReadError>
+    ensures { Gives (λ found. found) result (control.read octets.entry) }
 {
     let (octet, rest) = octet_at(octets)?;
     match octet {
@@ -135,8 +140,8 @@ pub(crate) fn control_at(octets: &[u8]) -> Result<(Control, &[u8]), ReadError>
 }
 
 #[tactic(auto, unfolding(crate::specs::Fields::stamp, crate::specs::Fields::moment))]
-pub(crate) fn stamp_at(alloc: Global, octets: &[u8]) -> Result<(Stamp, &[u8]), ReadError>
-    ensures { Gives (λ found. (found.0, found.1.now)) result (stamp.read octets.now) }
+pub(crate) fn stamp_at(alloc: Global, octets: Rest<'_>) -> Result<(Stamp, Rest<'_>), ReadError>
+    ensures { Gives (λ found. found) result (stamp.read octets.entry) }
 {
     let (seconds, rest) = u64_at(octets)?;
     let Ok(moment) = Moment::of(seconds) else {
@@ -149,13 +154,14 @@ pub(crate) fn stamp_at(alloc: Global, octets: &[u8]) -> Result<(Stamp, &[u8]), R
 #[tactic(auto, unfolding(crate::specs::Fields::optional_stamp))]
 pub(crate) fn optional_stamp_at(
     alloc: Global,
-    octets: &[u8],
-) -> Result<(Option<Stamp>, &[u8]), ReadError>
-    ensures { Gives (λ found. (found.0, found.1.now)) result (optional_stamp.read octets.now) }
+    octets: Rest<'_>,
+) -> Result<(Option<Stamp>, Rest<'_>), ReadError>
+    ensures { Gives (λ found. found) result (optional_stamp.read octets.entry) }
 {
-    match octets {
-        [0, rest @ ..] => Ok((None, rest)),
-        [1, rest @ ..] => {
+    let (octet, rest) = octet_at(octets)?;
+    match octet {
+        0 => Ok((None, rest)),
+        1 => {
             let (stamp, rest) = stamp_at(alloc, rest)?;
             Ok((Some(stamp), rest))
         }
@@ -166,13 +172,14 @@ pub(crate) fn optional_stamp_at(
 #[tactic(auto, unfolding(crate::specs::Fields::optional_name))]
 pub(crate) fn optional_name_at(
     alloc: Global,
-    octets: &[u8],
-) -> Result<(Option<Name>, &[u8]), ReadError>
-    ensures { Gives (λ found. (found.0, found.1.now)) result (optional_name.read octets.now) }
+    octets: Rest<'_>,
+) -> Result<(Option<Name>, Rest<'_>), ReadError>
+    ensures { Gives (λ found. found) result (optional_name.read octets.entry) }
 {
-    match octets {
-        [0, rest @ ..] => Ok((None, rest)),
-        [1, rest @ ..] => {
+    let (octet, rest) = octet_at(octets)?;
+    match octet {
+        0 => Ok((None, rest)),
+        1 => {
             let (name, rest) = name_at(alloc, rest)?;
             Ok((Some(name), rest))
         }
@@ -183,13 +190,14 @@ pub(crate) fn optional_name_at(
 #[tactic(auto, unfolding(crate::specs::Fields::optional_text))]
 pub(crate) fn optional_text_at(
     alloc: Global,
-    octets: &[u8],
-) -> Result<(Option<Octets>, &[u8]), ReadError>
-    ensures { Gives (λ found. (found.0, found.1.now)) result (optional_text.read octets.now) }
+    octets: Rest<'_>,
+) -> Result<(Option<Octets>, Rest<'_>), ReadError>
+    ensures { Gives (λ found. found) result (optional_text.read octets.entry) }
 {
-    match octets {
-        [0, rest @ ..] => Ok((None, rest)),
-        [1, rest @ ..] => {
+    let (octet, rest) = octet_at(octets)?;
+    match octet {
+        0 => Ok((None, rest)),
+        1 => {
             let (text, rest) = text_at(alloc, rest)?;
             Ok((Some(text), rest))
         }
@@ -198,8 +206,8 @@ pub(crate) fn optional_text_at(
 }
 
 #[tactic(auto, unfolding(crate::specs::Fields::term))]
-pub(crate) fn term_at(alloc: Global, octets: &[u8]) -> Result<(Term, &[u8]), ReadError>
-    ensures { Gives (λ found. (found.0, found.1.now)) result (term.read octets.now) }
+pub(crate) fn term_at(alloc: Global, octets: Rest<'_>) -> Result<(Term, Rest<'_>), ReadError>
+    ensures { Gives (λ found. found) result (term.read octets.entry) }
 {
     let (identity, rest) = optional_name_at(alloc, octets)?;
     let (actions, rest) = actions_at(rest)?;
