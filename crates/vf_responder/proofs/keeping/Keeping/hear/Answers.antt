@@ -1,0 +1,46 @@
+use Rattle.std.proofs.Common.{◌≡◌, ℕ, ◌+◌, List, Option, None, length, refl, ap, sym, subst, ◌∙◌}
+use Rattle.std.specs.Prelude.{IfNone, is_some, if◌then◌else◌}
+use Rattle.vf_responder.proofs.MoveLemmas.{out-by, out-represents}
+use Rattle.vf_responder.proofs.PutBackLemmas.{back-along, back-answers, back-represented, none-heard}
+use Rattle.vf_responder.specs.Answers.{octets_heard}
+use Rattle.vf_responder.specs.Represents.{Answers, kept_of, link_of}
+use Rattle.vf_responder.specs.declared.link.Link.{Link}
+use Rattle.vf_responder.proofs.keeping.Keeping.hear.Goals as goal
+
+pub returns-in_default-clause-answers : goal.returns-in_default-clause-answers
+returns-in_default-clause-answers g c = λ serving represents.
+    let none : link_of c.args.number c.args.self.now.links.entries ≡ None = sym c.swap_remove.ensures.value ∙ c.in_default.is in
+    let same = subst (λ (o : Option Link). IfNone o (c.swap_remove.new.self.entries ≡ c.args.self.now.links.entries)) c.in_default.is c.swap_remove.ensures.unchanged in
+    subst (λ (links : List (ℕ × Link)). Answers (octets_heard c.args.moment c.args.number serving c.args.octets.now) serving c.args.replies.now.items (record (kept_of c.args.self.now) { links = links }) c.args.replies.now.items) (sym same)
+    (none-heard c.args.moment c.args.number c.args.octets.now (kept_of c.args.self.now) c.args.replies.now.items none serving represents)
+
+pub returns-clause-answers : goal.returns-clause-answers
+returns-clause-answers g c =
+    let kept = kept_of c.args.self.now in
+    let rest = record kept { links = c.swap_remove.new.self.entries } in
+    let count : length c.swap_remove.new.self.entries + 1 ≡ length c.args.self.now.links.entries =
+    sym (ap (λ (o : Option Link). length c.swap_remove.new.self.entries + (if is_some o then 1 else 0)) c.in-Some.is) ∙ c.swap_remove.ensures.len in
+    let out = out-by c.args.number c.in-Some.link kept rest refl refl (sym c.swap_remove.ensures.value ∙ c.in-Some.is) c.swap_remove.ensures.updates.0 count c.swap_remove.ensures.unique in
+    back-answers c.args.moment c.args.number c.in-Some.link c.hear_all-heard.new.link c.args.octets.now kept rest (kept_of c.hear_all-heard.new.self) (kept_of c.put_back.new.self)
+    c.args.replies.now.items c.hear_all-heard.new.replies.items c.hear_all-heard.result c.put_back.result out c.hear_all-heard.ensures.answers c.put_back.ensures.error c.put_back.ensures.answers
+    c.hear_all-heard.ensures.number c.hear_all-heard.ensures.apart c.put_back.ensures.rest.0 c.put_back.ensures.rest.1
+
+pub returns-clause-represented : goal.returns-clause-represented
+returns-clause-represented g c = λ serving represents stands.
+    let kept = kept_of c.args.self.now in
+    let rest = record kept { links = c.swap_remove.new.self.entries } in
+    let count : length c.swap_remove.new.self.entries + 1 ≡ length c.args.self.now.links.entries =
+    sym (ap (λ (o : Option Link). length c.swap_remove.new.self.entries + (if is_some o then 1 else 0)) c.in-Some.is) ∙ c.swap_remove.ensures.len in
+    let out = out-by c.args.number c.in-Some.link kept rest refl refl (sym c.swap_remove.ensures.value ∙ c.in-Some.is) c.swap_remove.ensures.updates.0 count c.swap_remove.ensures.unique in
+    back-represented g.D.Disk.shown g.D.Disk.may_leave c.hear_all-heard.new.self.store c.put_back.new.self.store c.hear_all-heard.result c.put_back.result
+    (c.hear_all-heard.ensures.represented serving (out-represents c.args.number c.in-Some.link kept rest serving represents out) stands) c.put_back.ensures.error c.put_back.ensures.rest.0
+
+pub returns-clause-any_moment : goal.returns-clause-any_moment
+returns-clause-any_moment g c =
+    let kept = kept_of c.args.self.now in
+    let rest = record kept { links = c.swap_remove.new.self.entries } in
+    let count : length c.swap_remove.new.self.entries + 1 ≡ length c.args.self.now.links.entries =
+    sym (ap (λ (o : Option Link). length c.swap_remove.new.self.entries + (if is_some o then 1 else 0)) c.in-Some.is) ∙ c.swap_remove.ensures.len in
+    let out = out-by c.args.number c.in-Some.link kept rest refl refl (sym c.swap_remove.ensures.value ∙ c.in-Some.is) c.swap_remove.ensures.updates.0 count c.swap_remove.ensures.unique in
+    back-along g.D.Disk.shown g.D.Disk.may_leave g.D.Disk.moment g.D.Disk.left_since c.args.moment c.args.number c.in-Some.link c.args.octets.now kept rest
+    (kept_of c.hear_all-heard.new.self) (kept_of c.put_back.new.self) out c.hear_all-heard.ensures.any_moment c.put_back.ensures.rest.0

@@ -1,0 +1,135 @@
+use Rattle.std.proofs.Common.{◌≡◌, ◌≤◌, Bool, length, refl, subst, ◌∙◌, arith}
+use Rattle.std.proofs.lemmas.Grind.{common_steps}
+use Rattle.vf_responder.proofs.BegunLemmas.{still-along}
+use Rattle.vf_responder.proofs.ChainLemmas.{onward-none}
+use Rattle.vf_responder.proofs.LoopLemmas.{heard-end}
+use Rattle.vf_responder.proofs.MapLemmas.{last-free}
+use Rattle.vf_responder.proofs.PieceLoopLemmas.{apart-on, none-left, now, now-represents, part-heard, part-run}
+use Rattle.vf_responder.specs.Answers.{octets_heard}
+use Rattle.vf_responder.specs.Represents.{Does, kept_of, put_back, with_link}
+use Rattle.vf_responder.proofs.keeping.Keeping.hear_all.Goals as goal
+
+pub loop-rest-init : goal.loop-rest-init
+loop-rest-init g c =
+    let kept = with_link c.args.link.now (kept_of c.args.self.now) in
+    record {
+      answers = λ serving represents.
+          onward-none serving c.args.replies.now.items kept (λ s. octets_heard c.args.moment c.args.link.now.number s c.args.octets.now) represents;
+      represented = λ serving represents stands. stands;
+      run = λ serving represents stands.
+          still-along g.D.Disk.shown g.D.Disk.may_leave g.D.Disk.moment g.D.Disk.left_since g.met.D.Disk.only_now
+          (λ s. octets_heard c.args.moment c.args.link.now.number s c.args.octets.now) kept kept refl serving represents stands;
+      faults = refl;
+      limit = refl;
+      number = refl;
+      fewer = omega arith;
+      apart = λ free. free;
+    }
+
+pub hear_few-requires-clause-some : goal.hear_few-requires-clause-some
+hear_few-requires-clause-some g c =
+    let some : 1 ≤ c.min.result = grind (arith, common_steps) in
+    omega (arith, c.split_at.ensures.front_len)
+
+pub loop-rest-preserved : goal.loop-rest-preserved
+loop-rest-preserved g c =
+    let link = c.args.link.now in
+    let number = link.number in
+    let octets = c.args.octets.now in
+    let front = c.split_at.result.0.now in
+    let more = c.split_at.result.1.now in
+    let kept = with_link c.loop-rest.link (kept_of c.loop-rest.self) in
+    record {
+      answers = λ serving represents.
+          part-heard c.args.moment number c.loop-rest.link.number octets c.loop-rest.rest.now front more serving c.args.replies.now.items c.loop-rest.replies.items kept c.loop-rest.invariant.number
+          c.split_at.ensures.by_index.0 (c.loop-rest.invariant.answers serving represents)
+          (with_link c.hear_few.new.link (kept_of c.hear_few.new.self)) c.hear_few.new.replies.items
+          (subst (λ (goes : Bool). Does (λ s. octets_heard c.args.moment c.loop-rest.link.number s front) kept c.loop-rest.replies.items (put_back goes c.hear_few.new.link (kept_of c.hear_few.new.self)) c.hear_few.new.replies.items)
+          c.if-not-branch.false c.in_ok-hear_few.ensures.answers);
+      represented = λ serving represents stands.
+          c.in_ok-hear_few.ensures.represented (now c.args.moment number c.loop-rest.link.number octets c.loop-rest.rest.now front more serving c.args.replies.now.items c.loop-rest.replies.items kept c.loop-rest.invariant.number
+          c.split_at.ensures.by_index.0 (c.loop-rest.invariant.answers serving represents))
+          (now-represents c.args.moment number c.loop-rest.link.number octets c.loop-rest.rest.now front more serving c.args.replies.now.items c.loop-rest.replies.items kept c.loop-rest.invariant.number
+          c.split_at.ensures.by_index.0 (c.loop-rest.invariant.answers serving represents)) (c.loop-rest.invariant.represented serving represents stands);
+      run = λ serving represents stands.
+          part-run c.args.moment number c.loop-rest.link.number octets c.loop-rest.rest.now front more serving c.args.replies.now.items c.loop-rest.replies.items kept c.loop-rest.invariant.number
+          c.split_at.ensures.by_index.0 (c.loop-rest.invariant.answers serving represents)
+          c.args.self.now.store.disk c.loop-rest.self.store.disk c.hear_few.new.self.store.disk g.D.Disk.moment g.D.Disk.left_since (c.loop-rest.invariant.run serving represents stands)
+          (c.hear_few.ensures.any_moment (now c.args.moment number c.loop-rest.link.number octets c.loop-rest.rest.now front more serving c.args.replies.now.items c.loop-rest.replies.items kept c.loop-rest.invariant.number
+          c.split_at.ensures.by_index.0 (c.loop-rest.invariant.answers serving represents))
+          (now-represents c.args.moment number c.loop-rest.link.number octets c.loop-rest.rest.now front more serving c.args.replies.now.items c.loop-rest.replies.items kept c.loop-rest.invariant.number
+          c.split_at.ensures.by_index.0 (c.loop-rest.invariant.answers serving represents)) (c.loop-rest.invariant.represented serving represents stands));
+      faults = c.in_ok-hear_few.ensures.causes ∙ c.loop-rest.invariant.faults;
+      limit = c.hear_few.ensures.limit ∙ c.loop-rest.invariant.limit;
+      number = c.hear_few.ensures.number ∙ c.loop-rest.invariant.number;
+      fewer = omega (arith, c.hear_few.ensures.fewer, c.loop-rest.invariant.fewer);
+      apart = λ free. apart-on c.loop-rest.link.number number (kept_of c.loop-rest.self).links (kept_of c.hear_few.new.self).links c.loop-rest.invariant.number c.hear_few.ensures.apart (c.loop-rest.invariant.apart free);
+    }
+
+pub returns-in_err-hear_few-clause-any_moment : goal.returns-in_err-hear_few-clause-any_moment
+returns-in_err-hear_few-clause-any_moment g c = λ serving represents stands.
+    let link = c.args.link.now in
+    let number = link.number in
+    let octets = c.args.octets.now in
+    let front = c.split_at.result.0.now in
+    let more = c.split_at.result.1.now in
+    let kept = with_link c.loop-rest.link (kept_of c.loop-rest.self) in
+    part-run c.args.moment number c.loop-rest.link.number octets c.loop-rest.rest.now front more serving c.args.replies.now.items c.loop-rest.replies.items kept c.loop-rest.invariant.number
+    c.split_at.ensures.by_index.0 (c.loop-rest.invariant.answers serving represents)
+    c.args.self.now.store.disk c.loop-rest.self.store.disk c.hear_few.new.self.store.disk g.D.Disk.moment g.D.Disk.left_since (c.loop-rest.invariant.run serving represents stands)
+    (c.hear_few.ensures.any_moment (now c.args.moment number c.loop-rest.link.number octets c.loop-rest.rest.now front more serving c.args.replies.now.items c.loop-rest.replies.items kept c.loop-rest.invariant.number
+    c.split_at.ensures.by_index.0 (c.loop-rest.invariant.answers serving represents))
+    (now-represents c.args.moment number c.loop-rest.link.number octets c.loop-rest.rest.now front more serving c.args.replies.now.items c.loop-rest.replies.items kept c.loop-rest.invariant.number
+    c.split_at.ensures.by_index.0 (c.loop-rest.invariant.answers serving represents)) (c.loop-rest.invariant.represented serving represents stands))
+
+pub returns-then-not-branch-clause-answers : goal.returns-then-not-branch-clause-answers
+returns-then-not-branch-clause-answers g c = λ serving represents.
+    let link = c.args.link.now in
+    let number = link.number in
+    let octets = c.args.octets.now in
+    let front = c.split_at.result.0.now in
+    let more = c.split_at.result.1.now in
+    let kept = with_link c.loop-rest.link (kept_of c.loop-rest.self) in
+    heard-end c.args.moment number (octets_heard c.args.moment number serving octets) serving c.args.replies.now.items c.hear_few.new.replies.items (kept_of c.hear_few.new.self) more
+    (part-heard c.args.moment number c.loop-rest.link.number octets c.loop-rest.rest.now front more serving c.args.replies.now.items c.loop-rest.replies.items kept c.loop-rest.invariant.number
+    c.split_at.ensures.by_index.0 (c.loop-rest.invariant.answers serving represents)
+    (kept_of c.hear_few.new.self) c.hear_few.new.replies.items
+    (subst (λ (goes : Bool). Does (λ s. octets_heard c.args.moment c.loop-rest.link.number s front) kept c.loop-rest.replies.items (put_back goes c.hear_few.new.link (kept_of c.hear_few.new.self)) c.hear_few.new.replies.items)
+    c.if-not-branch.true c.in_ok-hear_few.ensures.answers))
+    (apart-on c.loop-rest.link.number number (kept_of c.loop-rest.self).links (kept_of c.hear_few.new.self).links c.loop-rest.invariant.number c.hear_few.ensures.apart
+    (c.loop-rest.invariant.apart (last-free c.args.self.now.links.entries number link represents.distinct)))
+
+pub returns-then-not-branch-clause-represented : goal.returns-then-not-branch-clause-represented
+returns-then-not-branch-clause-represented g c = λ serving represents stands.
+    let link = c.args.link.now in
+    let number = link.number in
+    let octets = c.args.octets.now in
+    let front = c.split_at.result.0.now in
+    let more = c.split_at.result.1.now in
+    let kept = with_link c.loop-rest.link (kept_of c.loop-rest.self) in
+    c.in_ok-hear_few.ensures.represented (now c.args.moment number c.loop-rest.link.number octets c.loop-rest.rest.now front more serving c.args.replies.now.items c.loop-rest.replies.items kept c.loop-rest.invariant.number
+    c.split_at.ensures.by_index.0 (c.loop-rest.invariant.answers serving represents))
+    (now-represents c.args.moment number c.loop-rest.link.number octets c.loop-rest.rest.now front more serving c.args.replies.now.items c.loop-rest.replies.items kept c.loop-rest.invariant.number
+    c.split_at.ensures.by_index.0 (c.loop-rest.invariant.answers serving represents)) (c.loop-rest.invariant.represented serving represents stands)
+
+pub returns-then-not-branch-clause-any_moment : goal.returns-then-not-branch-clause-any_moment
+returns-then-not-branch-clause-any_moment g c = λ serving represents stands.
+    let link = c.args.link.now in
+    let number = link.number in
+    let octets = c.args.octets.now in
+    let front = c.split_at.result.0.now in
+    let more = c.split_at.result.1.now in
+    let kept = with_link c.loop-rest.link (kept_of c.loop-rest.self) in
+    part-run c.args.moment number c.loop-rest.link.number octets c.loop-rest.rest.now front more serving c.args.replies.now.items c.loop-rest.replies.items kept c.loop-rest.invariant.number
+    c.split_at.ensures.by_index.0 (c.loop-rest.invariant.answers serving represents)
+    c.args.self.now.store.disk c.loop-rest.self.store.disk c.hear_few.new.self.store.disk g.D.Disk.moment g.D.Disk.left_since (c.loop-rest.invariant.run serving represents stands)
+    (c.hear_few.ensures.any_moment (now c.args.moment number c.loop-rest.link.number octets c.loop-rest.rest.now front more serving c.args.replies.now.items c.loop-rest.replies.items kept c.loop-rest.invariant.number
+    c.split_at.ensures.by_index.0 (c.loop-rest.invariant.answers serving represents))
+    (now-represents c.args.moment number c.loop-rest.link.number octets c.loop-rest.rest.now front more serving c.args.replies.now.items c.loop-rest.replies.items kept c.loop-rest.invariant.number
+    c.split_at.ensures.by_index.0 (c.loop-rest.invariant.answers serving represents)) (c.loop-rest.invariant.represented serving represents stands))
+
+pub returns-clause-answers : goal.returns-clause-answers
+returns-clause-answers g c = λ serving represents.
+    let none : length c.loop-rest.rest.now ≡ 0 = grind (arith, common_steps) in
+    none-left c.args.moment c.args.link.now.number (octets_heard c.args.moment c.args.link.now.number serving c.args.octets.now) serving c.args.replies.now.items c.loop-rest.replies.items
+    (with_link c.loop-rest.link (kept_of c.loop-rest.self)) c.loop-rest.rest.now none (c.loop-rest.invariant.answers serving represents)

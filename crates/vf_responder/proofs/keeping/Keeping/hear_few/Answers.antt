@@ -1,0 +1,81 @@
+use Rattle.std.proofs.Common.{◌∙◌, refl, sym}
+use Rattle.vf_responder.proofs.BegunLemmas.{still-along}
+use Rattle.vf_responder.proofs.HearLemmas.{few-ended, few-gone, few-open, few-represented, few-run}
+use Rattle.vf_responder.specs.Answers.{octets_heard}
+use Rattle.vf_responder.specs.Represents.{kept_of, with_link}
+use Rattle.vf_responder.proofs.keeping.Keeping.hear_few.Goals as goal
+
+pub returns-in_err-told-clause-any_moment : goal.returns-in_err-told-clause-any_moment
+returns-in_err-told-clause-any_moment g c =
+    still-along g.D.Disk.shown g.D.Disk.may_leave g.D.Disk.moment g.D.Disk.left_since g.met.D.Disk.only_now (λ s. octets_heard c.args.moment c.args.link.now.number s c.args.octets.now)
+    (with_link c.args.link.now (kept_of c.args.self.now)) (kept_of c.args.self.now) refl
+
+pub returns-in_err-tell_all-clause-any_moment : goal.returns-in_err-tell_all-clause-any_moment
+returns-in_err-tell_all-clause-any_moment g c =
+    few-run c.args.moment c.args.link.now c.hear.new.self (kept_of c.args.self.now) c.args.octets.now c.in_ok-told.told.items c.args.replies.now.items c.hear.new.replies.items
+    c.in_ok-told.ensures.heard c.hear.ensures.party c.hear.ensures.number c.requires.few c.requires.some
+    g.D.Disk.shown g.D.Disk.may_leave g.D.Disk.moment g.D.Disk.left_since (kept_of c.tell_all.new.self) c.tell_all.ensures.any_moment
+
+pub returns-then-not-branch-clause-answers : goal.returns-then-not-branch-clause-answers
+returns-then-not-branch-clause-answers g c =
+    few-gone c.args.moment c.args.link.now c.hear.new.self (kept_of c.args.self.now) c.args.octets.now c.in_ok-told.told.items c.args.replies.now.items c.hear.new.replies.items
+    c.in_ok-told.ensures.heard c.hear.ensures.party c.hear.ensures.number c.requires.few c.requires.some
+    c.in_ok-tell_all.field-0 c.tell_all.new.link (kept_of c.tell_all.new.self) c.tell_all.new.replies.items c.in_ok-tell_all.ensures.answers
+    c.if-not-branch.true c.tell_all.ensures.apart
+
+pub returns-then-not-branch-clause-represented : goal.returns-then-not-branch-clause-represented
+returns-then-not-branch-clause-represented g c =
+    few-represented c.args.moment c.args.link.now c.hear.new.self (kept_of c.args.self.now) c.args.octets.now c.in_ok-told.told.items c.args.replies.now.items c.hear.new.replies.items
+    c.in_ok-told.ensures.heard c.hear.ensures.party c.hear.ensures.number c.requires.few c.requires.some
+    c.in_ok-tell_all.ensures.represented
+
+pub returns-then-not-branch-clause-any_moment : goal.returns-then-not-branch-clause-any_moment
+returns-then-not-branch-clause-any_moment g c =
+    few-run c.args.moment c.args.link.now c.hear.new.self (kept_of c.args.self.now) c.args.octets.now c.in_ok-told.told.items c.args.replies.now.items c.hear.new.replies.items
+    c.in_ok-told.ensures.heard c.hear.ensures.party c.hear.ensures.number c.requires.few c.requires.some
+    g.D.Disk.shown g.D.Disk.may_leave g.D.Disk.moment g.D.Disk.left_since (kept_of c.tell_all.new.self) c.tell_all.ensures.any_moment
+
+pub returns-in_err-leave-clause-any_moment : goal.returns-in_err-leave-clause-any_moment
+returns-in_err-leave-clause-any_moment g c =
+    few-run c.args.moment c.args.link.now c.hear.new.self (kept_of c.args.self.now) c.args.octets.now c.in_ok-told.told.items c.args.replies.now.items c.hear.new.replies.items
+    c.in_ok-told.ensures.heard c.hear.ensures.party c.hear.ensures.number c.requires.few c.requires.some
+    g.D.Disk.shown g.D.Disk.may_leave g.D.Disk.moment g.D.Disk.left_since (kept_of c.tell_all.new.self) c.tell_all.ensures.any_moment
+
+pub returns-then-ended-clause-answers : goal.returns-then-ended-clause-answers
+returns-then-ended-clause-answers g c =
+    few-ended c.args.moment c.args.link.now c.hear.new.self (kept_of c.args.self.now) c.args.octets.now c.in_ok-told.told.items c.args.replies.now.items c.hear.new.replies.items
+    c.in_ok-told.ensures.heard c.hear.ensures.party c.hear.ensures.number c.requires.few c.requires.some
+    c.in_ok-tell_all.field-0 c.tell_all.new.link (kept_of c.tell_all.new.self) c.tell_all.new.replies.items c.in_ok-tell_all.ensures.answers
+    c.if-not-branch.false c.tell_all.ensures.number (λ a represents. sym c.if-ended.true ∙ c.ended.ensures.association a represents)
+    (record (kept_of c.tell_all.new.self) { locks = c.leave.new.locks }) c.leave.new.self.stack c.new.result.items c.leave.new.replies.items c.new.ensures.items c.in_ok-leave.ensures.said c.leave.ensures.leaves refl refl
+
+pub returns-then-ended-clause-represented : goal.returns-then-ended-clause-represented
+returns-then-ended-clause-represented g c =
+    few-represented c.args.moment c.args.link.now c.hear.new.self (kept_of c.args.self.now) c.args.octets.now c.in_ok-told.told.items c.args.replies.now.items c.hear.new.replies.items
+    c.in_ok-told.ensures.heard c.hear.ensures.party c.hear.ensures.number c.requires.few c.requires.some
+    c.in_ok-tell_all.ensures.represented
+
+pub returns-then-ended-clause-any_moment : goal.returns-then-ended-clause-any_moment
+returns-then-ended-clause-any_moment g c =
+    few-run c.args.moment c.args.link.now c.hear.new.self (kept_of c.args.self.now) c.args.octets.now c.in_ok-told.told.items c.args.replies.now.items c.hear.new.replies.items
+    c.in_ok-told.ensures.heard c.hear.ensures.party c.hear.ensures.number c.requires.few c.requires.some
+    g.D.Disk.shown g.D.Disk.may_leave g.D.Disk.moment g.D.Disk.left_since (kept_of c.tell_all.new.self) c.tell_all.ensures.any_moment
+
+pub returns-clause-answers : goal.returns-clause-answers
+returns-clause-answers g c =
+    few-open c.args.moment c.args.link.now c.hear.new.self (kept_of c.args.self.now) c.args.octets.now c.in_ok-told.told.items c.args.replies.now.items c.hear.new.replies.items
+    c.in_ok-told.ensures.heard c.hear.ensures.party c.hear.ensures.number c.requires.few c.requires.some
+    c.in_ok-tell_all.field-0 c.tell_all.new.link (kept_of c.tell_all.new.self) c.tell_all.new.replies.items c.in_ok-tell_all.ensures.answers
+    c.if-not-branch.false c.tell_all.ensures.number (λ a represents. sym c.if-ended.false ∙ c.ended.ensures.association a represents)
+
+pub returns-clause-represented : goal.returns-clause-represented
+returns-clause-represented g c =
+    few-represented c.args.moment c.args.link.now c.hear.new.self (kept_of c.args.self.now) c.args.octets.now c.in_ok-told.told.items c.args.replies.now.items c.hear.new.replies.items
+    c.in_ok-told.ensures.heard c.hear.ensures.party c.hear.ensures.number c.requires.few c.requires.some
+    c.in_ok-tell_all.ensures.represented
+
+pub returns-clause-any_moment : goal.returns-clause-any_moment
+returns-clause-any_moment g c =
+    few-run c.args.moment c.args.link.now c.hear.new.self (kept_of c.args.self.now) c.args.octets.now c.in_ok-told.told.items c.args.replies.now.items c.hear.new.replies.items
+    c.in_ok-told.ensures.heard c.hear.ensures.party c.hear.ensures.number c.requires.few c.requires.some
+    g.D.Disk.shown g.D.Disk.may_leave g.D.Disk.moment g.D.Disk.left_since (kept_of c.tell_all.new.self) c.tell_all.ensures.any_moment

@@ -1,0 +1,23 @@
+//! The responder that serves many associations over one store, and the loop that serves links with it (ISO 8571; which links
+//! stand, what shuts them and when changes are on the disk is profile).
+#![tactic(auto)]
+
+mod answering;
+mod asked;
+mod error;
+mod event;
+mod keeping;
+mod laws;
+mod link;
+mod meaning;
+mod opening;
+mod replies;
+mod responder;
+mod serving;
+
+pub use error::ServeError;
+pub use event::{Event, Reply};
+pub use laws::examples_compute;
+pub use responder::Responder;
+pub use serving::{Served, serve};
+pub use vf_store::StoreError as RespondError;
