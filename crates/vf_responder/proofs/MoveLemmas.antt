@@ -83,6 +83,12 @@ pub none-by : (number : ℕ) (p : Option StandingParty) (a : Association) → Is
 none-by number None a is = refl
 none-by number (Some party) a is = absurd is
 
+-- nobody stands where no link does
+pub nobody-on : {D : Type 0} (number : ℕ) (kept : Kept D) (serving : Serving) → Represents kept serving → link_of number kept.links ≡ None → party_of number serving.filestore.parties ≡ None
+nobody-on number kept serving represents free =
+    none-by number (party_of number serving.filestore.parties) (serving.associations number)
+    (subst (λ (l : Option Link). IsLinkOf number l (party_of number serving.filestore.parties) (serving.associations number)) free (represents.links number))
+
 -- ---- an arrival
 
 module _ {D : Type 0} (number : ℕ) (link : Link) (kept kept' : Kept D) (serving : Serving) (represents : Represents kept serving)

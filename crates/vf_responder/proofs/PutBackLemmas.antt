@@ -2,15 +2,15 @@
 use Rattle.std.proofs.Common.{◌≡◌, ℕ, Bool, true, false, List, length, Option, None, Result, Ok, Err, refl, ap, sym, subst, ◌∙◌, append-nil}
 use Rattle.std.specs.Prelude.{IfOk, OnOk, is_some}
 use Rattle.vf_disk.specs.Disk.{LeavesOnly}
-use Rattle.vf_filestore.specs.State.{StandingParty, party_of}
+use Rattle.vf_filestore.specs.State.{StandingParty}
 use Rattle.vf_journal.specs.declared.error.JournalError.{JournalError}
 use Rattle.vf_journal.specs.declared.error.JournalError.TheVariants.{NotAStore, Full, DiskFault, NoMemory}
 use Rattle.vf_store.specs.StoreState.{IsRepresented, StoreState}
-use Rattle.vf_responder.proofs.MoveLemmas.{IsTakenOut, none-by, out-numbered, out-represents}
+use Rattle.vf_responder.proofs.MoveLemmas.{IsTakenOut, nobody-on, out-numbered, out-represents}
 use Rattle.vf_responder.proofs.TellLemmas.{heard-gone}
 use Rattle.vf_responder.specs.Along.{RepresentsAlong}
 use Rattle.vf_responder.specs.Answers.{Answer, octets_heard}
-use Rattle.vf_responder.specs.Represents.{AnswerCauses, Answers, Does, IsErrorOf, IsLinkOf, Kept, KeepsAlong, link_of, put_back, with_link}
+use Rattle.vf_responder.specs.Represents.{AnswerCauses, Answers, Does, IsErrorOf, Kept, KeepsAlong, link_of, put_back, with_link}
 use Rattle.vf_responder.specs.declared.event.Reply.{Reply}
 use Rattle.vf_responder.specs.declared.link.Link.{Link}
 
@@ -89,9 +89,6 @@ back-causes limit before after (Err error) (Err other) causes is =
 
 pub none-heard : {D : Type 0} (moment number : ℕ) (octets : List ℕ) (kept : Kept D) (old : List Reply) → link_of number kept.links ≡ None → Does (λ s. octets_heard moment number s octets) kept old kept old
 none-heard moment number octets kept old free serving represents =
-    let nobody : party_of number serving.filestore.parties ≡ None =
-    none-by number (party_of number serving.filestore.parties) (serving.associations number)
-    (subst (λ (l : Option Link). IsLinkOf number l (party_of number serving.filestore.parties) (serving.associations number)) free (represents.links number)) in
     subst (λ (answers : List Answer). Answers answers serving old kept old)
-    (sym (heard-gone moment number serving octets (ap (λ (p : Option StandingParty). is_some p) nobody)))
+    (sym (heard-gone moment number serving octets (ap (λ (p : Option StandingParty). is_some p) (nobody-on number kept serving represents free))))
     (record { spoken = sym (append-nil old); represents = represents })

@@ -11,4 +11,3 @@ pub mod Hears
 pub mod Served
 pub mod Sends
 pub mod Examples
-pub mod Sends
