@@ -6,6 +6,7 @@ use std::io::ErrorKind;
 use std::process::ExitCode;
 use vf_base::{ReadSource, WriteSink};
 use vf_cli::{Wanted, WordsError, ftam, wanted};
+use vf_cli_sockets::SocketLinks;
 use vf_disk::FileDisk;
 
 /// The status where memory is wanting.
@@ -34,7 +35,8 @@ fn main(rt: HostRuntime) -> ExitCode {
     let disk = disk_of(&rt, &wanted);
     let mut input = ReadSource::new(rt.stdin());
     let mut out = WriteSink::new(rt.stdout());
-    let (_disk, status) = ftam(rt.alloc(), &words, disk, &mut input, &mut out);
+    let mut links = links_of(&rt, &wanted);
+    let (_disk, status) = ftam(rt.alloc(), &words, &mut links, disk, &mut input, &mut out);
     ExitCode::from(status)
 }
 
@@ -54,4 +56,20 @@ fn disk_of<'a>(rt: &HostRuntime, wanted: &'a Option<Wanted>) -> FileDisk<'a> {
         // No words want such a path.
         Err(_) => FileDisk::none(rt),
     }
+}
+
+/// The links of the port that the words want to serve, or links over none.
+fn links_of(rt: &HostRuntime, wanted: &Option<Wanted>) -> SocketLinks {
+    let Some(
+        Wanted {
+            host: None,
+            port: Some(port),
+            idle,
+            ..
+        },
+    ) = wanted
+    else {
+        return SocketLinks::none(rt);
+    };
+    SocketLinks::open(rt, *port, *idle)
 }

@@ -1,1 +1,3 @@
 mod Completes
+mod Numbers
+mod Options

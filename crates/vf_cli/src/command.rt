@@ -10,6 +10,8 @@ pub enum Command {
     InitStore,
     /// `list`: the files of a store.
     ListFiles,
+    /// `serve`: the associations that come to a port, over a store.
+    Serve,
 }
 
 /// What the command wants of the outside: the values of its options, where it has them.

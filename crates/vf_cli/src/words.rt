@@ -1,8 +1,9 @@
 //! The words of a command line, without the program's name.
-ghost use Rattle.std.specs.Prelude.{◌≡◌, ◌↔◌, None, Some, IfOk, IsErrOf, map, string_bytes, option_copied};
-ghost use Rattle.std.specs.List.{list_all};
+ghost use Rattle.std.specs.Prelude.{◌≡◌, ◌≤◌, ◌↔◌, ℕ, List, None, Some, IfOk, IfSome, IsErrOf, length, map, option_copied, string_bytes};
+ghost use Rattle.std.specs.List.{list_all, position};
 ghost use Rattle.vf_base.specs.Name.{is_name as name_test, is_printable};
-ghost use Rattle.vf_cli.specs.Words.{begins_with_dash as dash_test, command_named as command_meant, command_of, is_value as value_test, store_after_equals as store_after_equals_meant, store_in as store_meant, store_of as store_named, value_in as value_meant, wanted_of, with_store as with_store_meant, without_options as without_options_meant};
+ghost use Rattle.vf_cli.specs.Words.{begins_with_dash as dash_test, command_of, begins_with_zero as zero_test, command_with as command_meant, given_in, is_digit as digit_test, is_equals, has_none as none_test, has_place_to_serve as place_test, has_store_alone as store_test, idle_in as idle_meant, is_value as value_test, number_in as number_meant, port_in as port_meant, wanted_of, with_option as option_meant};
+ghost use Rattle.vf_cli.specs.Given.{first_of, given_of};
 
 use crate::command::{Command, Wanted};
 use std::alloc::Global;
@@ -17,22 +18,47 @@ pub enum WordsError {
     NoMemory,
 }
 
+/// The idle rounds after which serving ends, where the words don't tell.
+const USUAL_IDLE: u64 = 1_000_000;
+
+/// The values of the options that words give.
+#[derive(Clone, Copy)]
+struct Options<'a> {
+    store: Option<&'a [u8]>,
+    port: Option<&'a [u8]>,
+    idle: Option<&'a [u8]>,
+}
+
+/// The option with which words begin, and the words after it.
+#[derive(Clone, Copy)]
+struct First<'a> {
+    name: &'a [u8],
+    value: &'a [u8],
+    later: &'a [String],
+}
+
 /// What the command line wants of the outside; `Usage` exactly where its words ask for no command.
 pub fn wanted(alloc: Global, words: &Vec<String>) -> Result<Wanted, WordsError>
     ensures ok { IfOk result (λ wanted. wanted_of (map string_bytes words.now.items) ≡ Some wanted) }
     ensures usage { IsErrOf result WordsError.Usage ↔ (command_of (map string_bytes words.now.items) ≡ None) }
 {
-    let Some(_command) = parse(words) else {
+    let [name, options @ ..] = words.as_slice() else {
         return Err(WordsError::Usage);
     };
-    let Ok(store) = octets_of(alloc, store_of(words)) else {
+    let Some(options) = options_in(options) else {
+        return Err(WordsError::Usage);
+    };
+    let Some(_command) = command_with(name.as_str(), options) else {
+        return Err(WordsError::Usage);
+    };
+    let Ok(store) = octets_of(alloc, options.store) else {
         return Err(WordsError::NoMemory);
     };
     Ok(Wanted {
         store,
         host: None,
-        port: None,
-        idle: 1_000_000,
+        port: port_in(options.port),
+        idle: idle_in(options.idle).unwrap_or(USUAL_IDLE),
     })
 }
 
@@ -52,86 +78,179 @@ pub fn parse(words: &Vec<String>) -> Option<Command>
 {
     match words.as_slice() {
         [] => None,
-        [name, options @ ..] => command_named(name.as_str(), options),
+        [name, options @ ..] => command_with(name.as_str(), options_in(options)?),
     }
 }
 
-/// The command of a name, where these are its options.
-fn command_named(name: &str, options: &[String]) -> Option<Command>
-    ensures { result ≡ command_meant name.now (map string_bytes options.now) }
+/// The command of a name with these options, if there is one.
+fn command_with(name: &str, options: Options<'_>) -> Option<Command>
+    ensures { result ≡ command_meant name.now (given_of options.entry) }
 {
-    if name == "dialogue" {
-        return without_options(Command::Dialogue, options);
+    if name == "dialogue" && has_none(options) {
+        return Some(Command::Dialogue);
     }
-    if name == "init" {
-        return with_store(Command::InitStore, options);
+    if name == "init" && has_store_alone(options) {
+        return Some(Command::InitStore);
     }
-    if name == "list" {
-        return with_store(Command::ListFiles, options);
+    if name == "list" && has_store_alone(options) {
+        return Some(Command::ListFiles);
+    }
+    if name == "serve" && has_place_to_serve(options) {
+        return Some(Command::Serve);
     }
     None
 }
 
-/// A command that has no options.
-fn without_options(command: Command, options: &[String]) -> Option<Command>
-    ensures { result ≡ without_options_meant command (map string_bytes options.now) }
+/// The command `dialogue` has no option.
+fn has_none(options: Options<'_>) -> bool
+    ensures { result ≡ none_test (given_of options.entry) }
 {
-    match options {
-        [] => Some(command),
-        _ => None,
-    }
+    options.store.is_none() && options.port.is_none() && options.idle.is_none()
 }
 
-/// A command whose one option is the path of its store.
-fn with_store(command: Command, options: &[String]) -> Option<Command>
-    ensures { result ≡ with_store_meant command (store_meant (map string_bytes options.now)) }
+/// The path of a store is the one option.
+fn has_store_alone(options: Options<'_>) -> bool
+    ensures { result ≡ store_test (given_of options.entry) }
 {
-    match store_in(options) {
-        Some(_) => Some(command),
+    options.store.is_some() && options.port.is_none() && options.idle.is_none()
+}
+
+/// The command `serve` has a store and a port. How long it waits may be left out.
+fn has_place_to_serve(options: Options<'_>) -> bool
+    ensures { result ≡ place_test (given_of options.entry) }
+{
+    options.store.is_some() && port_in(options.port).is_some() && idle_in(options.idle).is_some()
+}
+
+fn port_in(value: Option<&[u8]>) -> Option<u16>
+    ensures { result ≡ port_meant (option_copied value.entry) }
+{
+    match number_in(value?, 65_535) {
+        Some(port) => Some(port as u16),
         None => None,
     }
 }
 
-/// The path of the store, where it is the one option of the words.
-fn store_of(words: &Vec<String>) -> Option<&[u8]>
-    ensures { option_copied result ≡ store_named (map string_bytes words.now.items) }
+fn idle_in(value: Option<&[u8]>) -> Option<u64>
+    ensures { result ≡ idle_meant (option_copied value.entry) }
 {
-    match words.as_slice() {
-        [] => None,
-        [_name, options @ ..] => store_in(options),
+    match value {
+        Some(value) => number_in(value, 1_000_000_000),
+        None => Some(USUAL_IDLE),
     }
 }
 
-/// The path of the store, where it is the one option: `--store=PATH`, or `--store` and PATH.
-fn store_in(options: &[String]) -> Option<&[u8]>
-    ensures { option_copied result ≡ store_meant (map string_bytes options.now) }
+/// The number from 1 to this one whose decimal digits, without leading zeros, these are.
+fn number_in(digits: &[u8], most: u64) -> Option<u64>
+    requires { most ≤ 1000000000 }
+    ensures value { result ≡ number_meant digits.now most }
+    ensures bound { IfSome result (λ number. number ≤ most) }
 {
-    match options {
-        [word] => store_after_equals(word.as_bytes()),
-        [name, value] => {
-            if name.as_str() == "--store" {
-                value_in(value.as_bytes())
-            } else {
-                None
-            }
+    if begins_with_zero(digits) {
+        return None;
+    }
+    let mut number = 0_u64;
+    for digit in digits {
+        if !is_digit(*digit) {
+            return None;
         }
-        _ => None,
+        number = 10 * number + (*digit - b'0') as u64;
+        if number > most {
+            return None;
+        }
+    }
+    Some(number)
+}
+
+/// Whether digits begin with a zero, or are none.
+fn begins_with_zero(digits: &[u8]) -> bool
+    ensures { result ≡ zero_test digits.now }
+{
+    match digits {
+        [] => true,
+        [first, ..] => *first == b'0',
     }
 }
 
-/// The path of the store in a word that names the option too.
-fn store_after_equals(word: &[u8]) -> Option<&[u8]>
-    ensures { option_copied result ≡ store_after_equals_meant word.now }
+fn is_digit(octet: u8) -> bool
+    ensures { result ≡ digit_test octet }
 {
-    let value = word.strip_prefix(b"--store=".as_slice())?;
-    value_in(value)
+    (b'0'..=b'9').contains(&octet)
 }
 
-/// A text, where it is a value.
-fn value_in(text: &[u8]) -> Option<&[u8]>
-    ensures { option_copied result ≡ value_meant text.now }
+/// The options that these words are, each once at most.
+fn options_in(words: &[String]) -> Option<Options<'_>>
+    ensures some { IfSome result (λ options. given_in (map string_bytes words.now) ≡ Some (given_of options)) }
+    ensures none { result ≡ None → given_in (map string_bytes words.now) ≡ None }
 {
-    if is_value(text) { Some(text) } else { None }
+    let mut options = Options {
+        store: None,
+        port: None,
+        idle: None,
+    };
+    let mut rest = words;
+    while let [word, later @ ..] = rest {
+        let first = first_option(word.as_bytes(), later)?;
+        options = with_option(options, first.name, first.value)?;
+        rest = first.later;
+    }
+    Some(options)
+}
+
+/// The option with which words begin, whose first one this is.
+fn first_option<'a>(word: &'a [u8], later: &'a [String]) -> Option<First<'a>>
+    ensures some { IfSome result (λ first. first_of word.now (map string_bytes later.now) ≡ Some (record { name = first.name.now; value = first.value.now; later = map string_bytes first.later.now })) }
+    ensures none { result ≡ None → first_of word.now (map string_bytes later.now) ≡ None }
+    ensures less { IfSome result (λ first. length first.later.now ≤ length later.now) }
+{
+    if let Some(place) = place_of_equals(word) {
+        let (name, value) = word.split_at(place);
+        let (_, value) = value.split_at(1);
+        return Some(First { name, value, later });
+    }
+    match later {
+        [] => None,
+        [value, later @ ..] => Some(First {
+            name: word,
+            value: value.as_bytes(),
+            later,
+        }),
+    }
+}
+
+fn place_of_equals(word: &[u8]) -> Option<usize>
+    ensures { result ≡ position is_equals word.now }
+{
+    word.iter().position(|octet| *octet == b'=')
+}
+
+/// One option more, which didn't stand before.
+fn with_option<'a>(options: Options<'a>, name: &[u8], value: &'a [u8]) -> Option<Options<'a>>
+    ensures some { IfSome result (λ more. option_meant (given_of options.entry) name.now value.now ≡ Some (given_of more)) }
+    ensures none { result ≡ None → option_meant (given_of options.entry) name.now value.now ≡ None }
+{
+    if !is_value(value) {
+        return None;
+    }
+    if name == b"--store".as_slice() && options.store.is_none() {
+        return Some(Options {
+            store: Some(value),
+            ..options
+        });
+    }
+    if name == b"--port".as_slice() && options.port.is_none() {
+        return Some(Options {
+            port: Some(value),
+            ..options
+        });
+    }
+    if name == b"--idle".as_slice() && options.idle.is_none() {
+        return Some(Options {
+            idle: Some(value),
+            ..options
+        });
+    }
+    None
 }
 
 /// Whether a text is a value: a name that doesn't begin with `-`.

@@ -6,5 +6,6 @@ mod status;
 
 pub use printing::{append_bad_line, print};
 pub use status::{
-    BAD_LINE, DISK_FAULT, FULL, INPUT_FAULT, NO_MEMORY, NOT_A_STORE, OUTPUT_FAULT, USAGE,
+    BAD_LINE, DISK_FAULT, FULL, INPUT_FAULT, LINKS_FAULT, NO_MEMORY, NOT_A_STORE, OUTPUT_FAULT,
+    USAGE,
 };

@@ -18,6 +18,9 @@ pub const NOT_A_STORE: u8 = 8;
 /// Memory is wanting.
 pub const NO_MEMORY: u8 = 9;
 
+/// The links failed.
+pub const LINKS_FAULT: u8 = 10;
+
 /// A line of the input is bad.
 pub const BAD_LINE: u8 = 11;
 

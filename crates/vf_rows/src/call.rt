@@ -1,6 +1,6 @@
 //! One call over objects in memory.
 use std::alloc::Global;
-use vf_base::{NoMemory, Source, VecSink};
+use vf_base::{NoMemory, ScriptLinks, Source, VecSink};
 use vf_cli::ftam;
 use vf_disk::MemoryDisk;
 
@@ -33,7 +33,8 @@ pub(crate) fn call_on<I: Source>(
 ) -> Result<(MemoryDisk, Printed), NoMemory> {
     let given = words_of(alloc, words)?;
     let mut out = VecSink::new(alloc, failing);
-    let (disk, status) = ftam(alloc, &given, disk, input, &mut out);
+    let mut links = ScriptLinks::new(alloc, Vec::new(alloc), Vec::new(alloc), Vec::new(alloc))?;
+    let (disk, status) = ftam(alloc, &given, &mut links, disk, input, &mut out);
     let mut octets = Vec::new(alloc);
     octets.extend_from_slice(out.octets())?;
     Ok((disk, Printed { octets, status }))

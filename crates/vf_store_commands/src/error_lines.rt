@@ -38,7 +38,7 @@ pub(crate) fn print_no_store<O: Sink>(alloc: Global, place: u64, out: &mut O) ->
 }
 
 /// Tells why a store can't be opened or written; answers the status.
-pub(crate) fn print_error<O: Sink>(alloc: Global, error: StoreError, out: &mut O) -> u8
+pub fn print_error<O: Sink>(alloc: Global, error: StoreError, out: &mut O) -> u8
     ensures prints { PrintsError error result (O.taken out.old) (O.taken out.new) }
     ensures ends { IsOneOf (4 ∷ 5 ∷ 8 ∷ 9 ∷ 12 ∷ []) result }
     ensures fault { result ≡ 5 → error ≡ errors.DiskFault }

@@ -9,6 +9,7 @@ mod listing;
 mod making;
 mod user_lines;
 
+pub use error_lines::print_error;
 pub use initializing::init;
 pub use limits::STORE_LIMIT;
 pub use listing::list;
