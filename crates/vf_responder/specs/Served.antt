@@ -12,7 +12,7 @@ use Rattle.vf_journal.specs.declared.error.JournalError.{JournalError}
 use Rattle.vf_journal.specs.declared.error.JournalError.TheVariants as errors
 use Rattle.vf_store.specs.Represented.{Represents}
 use Rattle.vf_tables.specs.declared.tables.Tables.{Tables}
-use Rattle.vf_responder.specs.Along.{RepresentsAlong}
+use Rattle.vf_responder.specs.Along.{RepresentsAlong, RepresentsPast}
 use Rattle.vf_responder.specs.Answers.{at_end, spoken_in}
 use Rattle.vf_responder.specs.Run.{run, tables_in}
 use Rattle.vf_responder.specs.Serving.{Serving}
@@ -74,15 +74,26 @@ counts_of events = record { links = min (count_by is_arrival events) last_count;
 
 abbrev pub EndsWell : {D : Type 0} → (D → Option (List ℕ)) → (D → List ℕ → Type 0) → D → Result Served ServeError → Traffic → Tables → Type 0
 EndsWell shown may_leave disk (Ok served) traffic tables = (served ≡ counts_of traffic.events) × (traffic.left ≡ []) × IsLeft shown may_leave disk tables
-EndsWell shown may_leave disk (Err error) traffic tables = Unit {0}
+EndsWell shown may_leave disk (Err LinksFault) traffic tables = IsLeft shown may_leave disk tables
+EndsWell shown may_leave disk (Err NoMemory) traffic tables = IsLeft shown may_leave disk tables
+EndsWell shown may_leave disk (Err (Respond error)) traffic tables = Unit {0}
 
--- Serving from a state: what was sent is what the run speaks to the events that were answered, and at a good end, which comes
--- where no event is left, the disk keeps the tables after all of them.
+-- Serving from a state: what was sent is what the run speaks to the events that were answered. At a good end, which comes where
+-- no event is left, and where the links gave no next event, the disk keeps the tables after all of them; where the responder
+-- couldn't go on, what was answered stands, as follows.
 abbrev pub Serves : {D : Type 0} → (D → Option (List ℕ)) → (D → List ℕ → Type 0) → Serving → D → Result Served ServeError → Option Traffic → Type 0
 Serves shown may_leave serving disk result None = ⊥
 Serves shown may_leave serving disk result (Some traffic) =
     IsSent (spoken_in (run (answered result traffic) serving)) traffic
     × EndsWell shown may_leave disk result traffic (tables_in (at_end serving (run (lived traffic) serving)))
+
+-- WHAT WAS ANSWERED STANDS. However serving ends, each image that a crash may leave then represents the tables after some
+-- number of the answers, no fewer than those whose replies were sent.
+abbrev pub KeepsAnswered : {D : Type 0} → (D → List ℕ → Type 0) → Serving → D → Result Served ServeError → Option Traffic → Type 0
+KeepsAnswered may_leave serving disk result None = ⊥
+KeepsAnswered may_leave serving disk result (Some traffic) =
+    (image : List ℕ) → may_leave disk image
+    → RepresentsPast (length (run (answered result traffic) serving)) serving (run (lived traffic) serving) image
 
 -- the images meanwhile
 abbrev pub RepresentsServed : Serving → Option Traffic → List ℕ → Type 0
