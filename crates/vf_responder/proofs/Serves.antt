@@ -1,5 +1,5 @@
 -- Serving, as far as it has come, and how it ends.
-use Rattle.std.proofs.Common.{◌≡◌, ◌∙◌, ℕ, ◌+◌, ◌<◌, ◌≤◌, Bool, true, false, List, [], ◌∷◌, ◌++◌, length, take, Option, None, Some, Result, Ok, Err, refl, ap, sym, subst, arith}
+use Rattle.std.proofs.Common.{◌≡◌, ◌∙◌, ℕ, ◌+◌, ◌<◌, ◌≤◌, Bool, true, false, List, [], ◌∷◌, ◌++◌, length, Option, None, Some, Result, Ok, Err, refl, ap, sym, subst, arith}
 use Rattle.std.specs.List.{AllByRecursion}
 use Rattle.vf_base.specs.Faults.{HasRisen}
 use Rattle.vf_base.specs.Links.{HandsOut, RisesWith, Traffic, event_of}
@@ -19,14 +19,14 @@ use Rattle.vf_store.specs.Represented.{Represents as ImageRepresents}
 use Rattle.vf_store.specs.StoreState.{IsRepresented}
 use Rattle.vf_tables.specs.declared.tables.Tables.{Tables}
 use Rattle.vf_responder.proofs.Alongside.{past_all, past_later}
-use Rattle.vf_responder.proofs.Lives.{Lives, RisesBy, are_fresh, lived_more, lived_new, lives_first, lives_on, run-append, with_event}
+use Rattle.vf_responder.proofs.Lives.{Lives, RisesBy, are_fresh, lived_more, lived_new, lives_first, lives_on, none_sent_yet, run-append, with_event}
 use Rattle.vf_responder.proofs.Rounds.{leaves_joined, leaves_none}
 use Rattle.vf_responder.specs.Along.{RepresentsAlong, RepresentsPast}
 use Rattle.vf_responder.specs.Answers.{Answer, at_end, spoken_in}
 use Rattle.vf_responder.specs.Represents.{AnswerCauses, Kept, Represents}
 use Rattle.vf_responder.specs.Run.{run, tables_in, trail}
 use Rattle.vf_responder.specs.Sends.{CausesNext, EndsRound, GoesRound, IsFresh, RisesNext, StopsRound, TakesNext, breaks}
-use Rattle.vf_responder.specs.Served.{EndsWell, IsLeft, IsSent, KeepsAnswered, Refuses, RepresentsServed, ServeCauses, Serves, answered, but_last, counts_of, lived, lived_from, refused_in, untold}
+use Rattle.vf_responder.specs.Served.{EndsWell, IsLeft, IsSent, KeepsAnswered, Refuses, RepresentsServed, ServeCauses, Serves, answered, but_last, counts_of, lived, lived_from, lived_with, refused_in, untold}
 use Rattle.vf_responder.specs.Serving.{IsBegun, Serving}
 use Rattle.vf_responder.specs.declared.error.ServeError.{ServeError}
 use Rattle.vf_responder.specs.declared.error.ServeError.TheVariants.{Respond, LinksFault, NoMemory}
@@ -80,10 +80,10 @@ but_last-more (first ∷ []) event = refl
 but_last-more (first ∷ second ∷ events) event = ap (λ (events : List ScriptEvent). first ∷ events) (but_last-more (second ∷ events) event)
 
 -- what was sent was sent also once the next event was handed out
-still_sent : (serving : Serving) (traffic : Traffic) (event : ScriptEvent) (rest : List ScriptEvent) → IsSent (spoken_in (run (lived traffic) serving)) traffic
-    → IsSent (spoken_in (run (lived_from 0 traffic.failed (but_last (traffic.events ++ event ∷ []))) serving)) (with_event event rest traffic)
-still_sent serving traffic event rest sent = subst (λ (events : List ScriptEvent). IsSent (spoken_in (run (lived_from 0 traffic.failed events) serving)) (with_event event rest traffic))
-    (sym (but_last-more traffic.events event)) (record { rest = sent.rest; taken = sent.taken; whole = sent.whole; shut = sent.shut })
+still_sent : (serving : Serving) (traffic : Traffic) (event : ScriptEvent) (rest : List ScriptEvent) → IsSent serving traffic.events traffic
+    → IsSent serving (but_last (traffic.events ++ event ∷ [])) (with_event event rest traffic)
+still_sent serving traffic event rest sent = subst (λ (events : List ScriptEvent). IsSent serving events (with_event event rest traffic)) (sym (but_last-more traffic.events event))
+    (record { whole = sent.whole; before = sent.before; within = sent.within; shut = sent.shut })
 
 -- ---- causes
 
@@ -164,7 +164,7 @@ module _ {D : Type 0} (shown : D → Option (List ℕ)) (may_leave : D → List 
   -- ---- how it ends
 
   serves_at : (serving : Serving) (disk : D) (result : Result Served ServeError) (told : Option Traffic) (traffic : Traffic) → told ≡ Some traffic
-      → IsSent (spoken_in (run (answered result traffic) serving)) traffic
+      → IsSent serving (answered result traffic) traffic
       → EndsWell shown may_leave disk result traffic (tables_in (at_end serving (run (lived traffic) serving))) → Serves shown may_leave serving disk result told
   serves_at serving disk result told traffic is sent well = subst (λ (told : Option Traffic). Serves shown may_leave serving disk result told) (sym is) (sent, well)
 
@@ -181,10 +181,10 @@ module _ {D : Type 0} (shown : D → Option (List ℕ)) (may_leave : D → List 
   )
 
   -- where the disk keeps the tables after all answers, it keeps those to what was answered
-  keeps_all : (serving : Serving) (disk : D) (result : Result Served ServeError) (told : Option Traffic) (traffic : Traffic) → told ≡ Some traffic → answered result traffic ≡ lived traffic
+  keeps_all : (serving : Serving) (disk : D) (result : Result Served ServeError) (told : Option Traffic) (traffic : Traffic) → told ≡ Some traffic → answered result traffic ≡ traffic.events
       → IsLeft shown may_leave disk (tables_in (at_end serving (run (lived traffic) serving))) → KeepsAnswered may_leave serving disk result told
   keeps_all serving disk result told traffic is all left = subst (λ (told : Option Traffic). KeepsAnswered may_leave serving disk result told) (sym is) (λ image leaves.
-      subst (λ (events : List ScriptEvent). RepresentsPast (length (run events serving)) serving (run (lived traffic) serving) image) (sym all)
+      subst (λ (events : List ScriptEvent). RepresentsPast (length (run (lived_with events traffic) serving)) serving (run (lived traffic) serving) image) (sym all)
       (past_all serving (run (lived traffic) serving) image
       (subst (λ (image : List ℕ). ImageRepresents image (tables_in (at_end serving (run (lived traffic) serving))))
       (sym (leaves_octets (shown disk) (may_leave disk) left.0 image left.2 left.1 leaves)) left.3)))
@@ -325,7 +325,7 @@ module _ {D : Type 0} (shown : D → Option (List ℕ)) (may_leave : D → List 
   pub not_opened : (serving : Serving) (disk : D) (told : Option Traffic) (left : List ScriptEvent) (error : JournalError) → told ≡ Some (untold left)
       → Serves shown may_leave serving disk (Err (Respond error)) told
   not_opened serving disk told left error is =
-      serves_at serving disk (Err (Respond error)) told (untold left) is (record { rest = λ link. []; taken = λ link. refl; whole = λ link whole. refl; shut = λ link. refl }) tt
+      serves_at serving disk (Err (Respond error)) told (untold left) is (none_sent_yet serving left) tt
 
   pub not_opened_kept : ((disk : D) (since : ℕ) (image : List ℕ) → since ≤ moment disk → may_leave disk image → left_since disk since image)
       → (serving : Serving) (tables : Tables) (old disk : D) (told : Option Traffic) (left : List ScriptEvent) (error : JournalError) → told ≡ Some (untold left) → IsBegun tables serving
