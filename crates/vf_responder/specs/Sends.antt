@@ -13,7 +13,7 @@ use Rattle.vf_responder.specs.Along.{RepresentsAlong}
 use Rattle.vf_responder.specs.Answers.{at_end, spoken_in}
 use Rattle.vf_responder.specs.Represents.{Kept, Represents}
 use Rattle.vf_responder.specs.Run.{run, trail}
-use Rattle.vf_responder.specs.Served.{is_shut, octets_on}
+use Rattle.vf_responder.specs.Served.{IsThrough, is_shut, octets_on}
 use Rattle.vf_responder.specs.Serving.{Serving}
 use Rattle.vf_responder.specs.declared.error.ServeError.{ServeError}
 use Rattle.vf_responder.specs.declared.error.ServeError.TheVariants.{Respond, LinksFault, NoMemory}
@@ -120,10 +120,10 @@ RisesNext last last' (Ok (Some event)) = RisesWith last last' event
 RisesNext last last' (Ok None) = last' ≡ last
 RisesNext last last' (Err error) = last' ≡ last
 
-abbrev pub TurnsNext : (turns turns' : ℕ) → Result (Option LinkEvent) ServeError → Type 0
-TurnsNext turns turns' (Ok (Some event)) = turns' < turns
-TurnsNext turns turns' (Ok None) = Unit {0}
-TurnsNext turns turns' (Err error) = Unit {0}
+abbrev pub TurnsNext : (turns turns' : ℕ) (through : Bool) → Result (Option LinkEvent) ServeError → Type 0
+TurnsNext turns turns' through (Ok (Some event)) = turns' < turns
+TurnsNext turns turns' through (Ok None) = IsThrough turns' through
+TurnsNext turns turns' through (Err error) = Unit {0}
 
 -- an event is one, and not the end
 abbrev pub IsEventNext : Result (Option LinkEvent) ServeError → Type 0

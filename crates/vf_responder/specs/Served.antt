@@ -1,5 +1,5 @@
 -- What serving links gives, where the links tell their traffic (profile).
-use Rattle.std.specs.Prelude.{◌≡◌, ℕ, ◌<◌, ◌+◌, ◌&&◌, Bool, true, false, nat_eq, List, [], ◌∷◌, ◌++◌, count_by, length, min, take, ◌-◌, Option, None, Some, Result, Ok, Err, if◌then◌else◌}
+use Rattle.std.specs.Prelude.{◌≡◌, ℕ, ◌<◌, ◌⊎◌, ◌+◌, ◌&&◌, Bool, true, false, nat_eq, List, [], ◌∷◌, ◌++◌, count_by, length, min, take, ◌-◌, Option, None, Some, Result, Ok, Err, if◌then◌else◌}
 use Rattle.std.specs.List.{flat_map, list_any}
 use Rattle.vf_base.specs.Faults.{HasRisen, last_count}
 use Rattle.vf_base.specs.Links.{Traffic, has_note}
@@ -127,6 +127,10 @@ refused_in result = None
 abbrev pub Refuses : (image : List ℕ) → Result Served ServeError → Type 0
 Refuses image (Err (Respond errors.DiskFault)) = Unit {0}
 Refuses image result = refused_in result ≡ refusal image
+
+-- A GOOD END, also where the links tell nothing: the peers are through, or no event may come any more.
+abbrev pub IsThrough : (turns : ℕ) (through : Bool) → Type 0
+IsThrough turns through = (turns ≡ 0) ⊎ (through ≡ true)
 
 -- CAUSES. No count rises without a fault of its kind, and none is told without one. That the disk is full comes by both numbers.
 abbrev pub RespondCauses : (limit disk_before disk_after : ℕ) → JournalError → Type 0
