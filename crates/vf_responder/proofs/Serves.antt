@@ -1,5 +1,5 @@
 -- Serving, as far as it has come, and how it ends.
-use Rattle.std.proofs.Common.{◌≡◌, ◌∙◌, ℕ, ◌+◌, ◌<◌, ◌≤◌, Bool, true, false, List, [], ◌∷◌, ◌++◌, Option, None, Some, Result, Ok, Err, refl, ap, sym, subst}
+use Rattle.std.proofs.Common.{◌≡◌, ◌∙◌, ℕ, ◌+◌, ◌<◌, ◌≤◌, Bool, true, false, List, [], ◌∷◌, ◌++◌, length, Option, None, Some, Result, Ok, Err, refl, ap, sym, subst, arith}
 use Rattle.std.specs.List.{AllByRecursion}
 use Rattle.vf_base.specs.Faults.{HasRisen}
 use Rattle.vf_base.specs.Links.{HandsOut, RisesWith, Traffic, event_of}
@@ -7,7 +7,7 @@ use Rattle.vf_base.specs.declared.events.LinkEvent.{LinkEvent}
 use Rattle.vf_base.specs.declared.events.LinkEvent.TheVariants as given
 use Rattle.vf_base.specs.declared.events.ScriptEvent.{ScriptEvent}
 use Rattle.vf_base.specs.declared.events.ScriptEvent.TheVariants as script
-use Rattle.vf_disk.proofs.Runs.{joined}
+use Rattle.vf_disk.proofs.Runs.{joined, leaves_octets}
 use Rattle.vf_disk.specs.Disk.{LeavesOnly}
 use Rattle.vf_journal.specs.Answers.{OpenCauses}
 use Rattle.vf_journal.specs.Image.{refusal}
@@ -18,14 +18,15 @@ use Rattle.vf_store.specs.Answers.{OpenAnswers}
 use Rattle.vf_store.specs.Represented.{Represents as ImageRepresents}
 use Rattle.vf_store.specs.StoreState.{IsRepresented}
 use Rattle.vf_tables.specs.declared.tables.Tables.{Tables}
-use Rattle.vf_responder.proofs.Lives.{Lives, RisesBy, are_fresh, lived_more, lived_new, lives_first, lives_on, with_event}
+use Rattle.vf_responder.proofs.Alongside.{past_all, past_later}
+use Rattle.vf_responder.proofs.Lives.{Lives, RisesBy, are_fresh, lived_more, lived_new, lives_first, lives_on, none_sent_yet, run-append, with_event}
 use Rattle.vf_responder.proofs.Rounds.{leaves_joined, leaves_none}
-use Rattle.vf_responder.specs.Along.{RepresentsAlong}
-use Rattle.vf_responder.specs.Answers.{at_end, spoken_in}
+use Rattle.vf_responder.specs.Along.{RepresentsAlong, RepresentsPast}
+use Rattle.vf_responder.specs.Answers.{Answer, at_end, spoken_in}
 use Rattle.vf_responder.specs.Represents.{AnswerCauses, Kept, Represents}
 use Rattle.vf_responder.specs.Run.{run, tables_in, trail}
 use Rattle.vf_responder.specs.Sends.{CausesNext, EndsRound, GoesRound, IsFresh, RisesNext, StopsRound, TakesNext, breaks}
-use Rattle.vf_responder.specs.Served.{EndsWell, IsLeft, IsSent, Refuses, RepresentsServed, ServeCauses, Serves, answered, but_last, counts_of, lived, lived_from, refused_in, untold}
+use Rattle.vf_responder.specs.Served.{EndsWell, IsLeft, IsSent, KeepsAnswered, Refuses, RepresentsServed, ServeCauses, Serves, answered, but_last, counts_of, lived, lived_from, lived_with, refused_in, untold}
 use Rattle.vf_responder.specs.Serving.{IsBegun, Serving}
 use Rattle.vf_responder.specs.declared.error.ServeError.{ServeError}
 use Rattle.vf_responder.specs.declared.error.ServeError.TheVariants.{Respond, LinksFault, NoMemory}
@@ -79,10 +80,10 @@ but_last-more (first ∷ []) event = refl
 but_last-more (first ∷ second ∷ events) event = ap (λ (events : List ScriptEvent). first ∷ events) (but_last-more (second ∷ events) event)
 
 -- what was sent was sent also once the next event was handed out
-still_sent : (serving : Serving) (traffic : Traffic) (event : ScriptEvent) (rest : List ScriptEvent) → IsSent (spoken_in (run (lived traffic) serving)) traffic
-    → IsSent (spoken_in (run (lived_from 0 traffic.failed (but_last (traffic.events ++ event ∷ []))) serving)) (with_event event rest traffic)
-still_sent serving traffic event rest sent = subst (λ (events : List ScriptEvent). IsSent (spoken_in (run (lived_from 0 traffic.failed events) serving)) (with_event event rest traffic))
-    (sym (but_last-more traffic.events event)) (record { rest = sent.rest; taken = sent.taken; whole = sent.whole; shut = sent.shut })
+still_sent : (serving : Serving) (traffic : Traffic) (event : ScriptEvent) (rest : List ScriptEvent) → IsSent serving traffic.events traffic
+    → IsSent serving (but_last (traffic.events ++ event ∷ [])) (with_event event rest traffic)
+still_sent serving traffic event rest sent = subst (λ (events : List ScriptEvent). IsSent serving events (with_event event rest traffic)) (sym (but_last-more traffic.events event))
+    (record { whole = sent.whole; before = sent.before; within = sent.within; shut = sent.shut })
 
 -- ---- causes
 
@@ -163,7 +164,7 @@ module _ {D : Type 0} (shown : D → Option (List ℕ)) (may_leave : D → List 
   -- ---- how it ends
 
   serves_at : (serving : Serving) (disk : D) (result : Result Served ServeError) (told : Option Traffic) (traffic : Traffic) → told ≡ Some traffic
-      → IsSent (spoken_in (run (answered result traffic) serving)) traffic
+      → IsSent serving (answered result traffic) traffic
       → EndsWell shown may_leave disk result traffic (tables_in (at_end serving (run (lived traffic) serving))) → Serves shown may_leave serving disk result told
   serves_at serving disk result told traffic is sent well = subst (λ (told : Option Traffic). Serves shown may_leave serving disk result told) (sym is) (sent, well)
 
@@ -179,7 +180,20 @@ module _ {D : Type 0} (shown : D → Option (List ℕ)) (may_leave : D → List 
     subst (λ (tables : Tables). ImageRepresents stands.on.image tables) (sym is) (represented stands.on.image stands.records kept.store.tables stands.making stands.on.holds),
   )
 
+  -- where the disk keeps the tables after all answers, it keeps those to what was answered
+  keeps_all : (serving : Serving) (disk : D) (result : Result Served ServeError) (told : Option Traffic) (traffic : Traffic) → told ≡ Some traffic → answered result traffic ≡ traffic.events
+      → IsLeft shown may_leave disk (tables_in (at_end serving (run (lived traffic) serving))) → KeepsAnswered may_leave serving disk result told
+  keeps_all serving disk result told traffic is all left = subst (λ (told : Option Traffic). KeepsAnswered may_leave serving disk result told) (sym is) (λ image leaves.
+      subst (λ (events : List ScriptEvent). RepresentsPast (length (run (lived_with events traffic) serving)) serving (run (lived traffic) serving) image) (sym all)
+      (past_all serving (run (lived traffic) serving) image
+      (subst (λ (image : List ℕ). ImageRepresents image (tables_in (at_end serving (run (lived traffic) serving))))
+      (sym (leaves_octets (shown disk) (may_leave disk) left.0 image left.2 left.1 leaves)) left.3)))
+
   module _ (serving : Serving) (old kept : Kept D) (told : Option Traffic) (last : ℕ) (counts : Served) (served : IsServed shown may_leave moment left_since serving old kept told last counts) where
+    left_all : IsRepresented shown may_leave old.store → IsLeft shown may_leave kept.store.disk (tables_in (at_end serving (run (lived served.traffic) serving)))
+    left_all stands =
+        is_left kept (tables_in (at_end serving (run (lived served.traffic) serving))) (ap tables_in (sym served.lives.is) ∙ served.represents.tables) (served.stands stands)
+
     -- no event is left
     module _ (after : Option Traffic) (piece : List ℕ) (takes : TakesNext told after piece (Ok None)) where
       none_left : TakesNext (Some served.traffic) after piece (Ok None)
@@ -190,9 +204,11 @@ module _ {D : Type 0} (shown : D → Option (List ℕ)) (may_leave : D → List 
           serves_at serving kept.store.disk (Ok counts) after served.traffic none_left.1 served.lives.sent (
             served.counted,
             none_left.0,
-            is_left kept (tables_in (at_end serving (run (lived served.traffic) serving)))
-                (ap tables_in (sym served.lives.is) ∙ served.represents.tables) (served.stands stands),
+            left_all stands,
           )
+
+      pub ends_kept : IsRepresented shown may_leave old.store → KeepsAnswered may_leave serving kept.store.disk (Ok counts) after
+      ends_kept stands = keeps_all serving kept.store.disk (Ok counts) after served.traffic none_left.1 refl (left_all stands)
 
       pub ends_along : IsRepresented shown may_leave old.store → LeavesOnly moment left_since old.store.disk kept.store.disk (RepresentsServed serving after)
       ends_along stands = along_at serving old.store.disk kept.store.disk after served.traffic none_left.1 (served.along stands)
@@ -202,12 +218,20 @@ module _ {D : Type 0} (shown : D → Option (List ℕ)) (may_leave : D → List 
       same_told : after ≡ Some served.traffic
       same_told = subst (λ (told : Option Traffic). TakesNext told after piece (Err error)) served.is takes
 
-      pub fails_next : (before now : ℕ) → CausesNext before now (Err error) → Serves shown may_leave serving kept.store.disk (Err error) after
-      fails_next before now cause = by error cause
+      pub fails_next : (before now : ℕ) → CausesNext before now (Err error) → IsRepresented shown may_leave old.store → Serves shown may_leave serving kept.store.disk (Err error) after
+      fails_next before now cause stands = by error cause
         where
           by : (error : ServeError) → CausesNext before now (Err error) → Serves shown may_leave serving kept.store.disk (Err error) after
-          by LinksFault cause = serves_at serving kept.store.disk (Err LinksFault) after served.traffic same_told served.lives.sent tt
-          by NoMemory cause = serves_at serving kept.store.disk (Err NoMemory) after served.traffic same_told served.lives.sent tt
+          by LinksFault cause = serves_at serving kept.store.disk (Err LinksFault) after served.traffic same_told served.lives.sent (left_all stands)
+          by NoMemory cause = serves_at serving kept.store.disk (Err NoMemory) after served.traffic same_told served.lives.sent (left_all stands)
+          by (Respond error) cause = absurd cause
+
+      pub fails_kept : (before now : ℕ) → CausesNext before now (Err error) → IsRepresented shown may_leave old.store → KeepsAnswered may_leave serving kept.store.disk (Err error) after
+      fails_kept before now cause stands = by error cause
+        where
+          by : (error : ServeError) → CausesNext before now (Err error) → KeepsAnswered may_leave serving kept.store.disk (Err error) after
+          by LinksFault cause = keeps_all serving kept.store.disk (Err LinksFault) after served.traffic same_told refl (left_all stands)
+          by NoMemory cause = keeps_all serving kept.store.disk (Err NoMemory) after served.traffic same_told refl (left_all stands)
           by (Respond error) cause = absurd cause
 
       pub fails_along : IsRepresented shown may_leave old.store → LeavesOnly moment left_since old.store.disk kept.store.disk (RepresentsServed serving after)
@@ -266,6 +290,21 @@ module _ {D : Type 0} (shown : D → Option (List ℕ)) (may_leave : D → List 
               serves_at serving new.store.disk (Err (Respond error)) after (with_event came.meant came.rest served.traffic) stopped.told
               (still_sent serving served.traffic came.meant came.rest served.lives.sent) tt
 
+          pub stops_kept : ((disk : D) (since : ℕ) (image : List ℕ) → since ≤ moment disk → may_leave disk image → left_since disk since image)
+              → IsRepresented shown may_leave old.store → KeepsAnswered may_leave serving new.store.disk (Err (Respond error)) after
+          stops_kept counts_now stands =
+              let before : List ScriptEvent = lived served.traffic in
+              let along = stopped.along (served.stands stands) in
+              subst (λ (told : Option Traffic). KeepsAnswered may_leave serving new.store.disk (Err (Respond error)) told) (sym stopped.told) (λ image leaves.
+              subst (λ (events : List ScriptEvent). RepresentsPast (length (run (lived_from 0 served.traffic.failed events) serving)) serving (run (lived (with_event came.meant came.rest served.traffic)) serving) image)
+              (sym (but_last-more served.traffic.events came.meant))
+              (subst (λ (events : List ScriptEvent). RepresentsPast (length (run before serving)) serving (run events serving) image)
+              (sym (lived_more serving served.traffic served.now last served.lives came.meant came.rest))
+              (subst (λ (answers : List Answer). RepresentsPast (length (run before serving)) serving answers image) (sym (run-append before (came.meant ∷ []) serving))
+              (past_later serving (run before serving) (run (came.meant ∷ []) (at_end serving (run before serving))) image
+              (subst (λ (begin : Serving). RepresentsAlong begin (run (came.meant ∷ []) begin) image) served.lives.is
+              (along.each image (counts_now new.store.disk (moment kept.store.disk) image along.later leaves)))))))
+
           pub stops_along : IsRepresented shown may_leave old.store → LeavesOnly moment left_since old.store.disk new.store.disk (RepresentsServed serving after)
           stops_along stands =
               along_at serving old.store.disk new.store.disk after (with_event came.meant came.rest served.traffic) stopped.told
@@ -286,7 +325,17 @@ module _ {D : Type 0} (shown : D → Option (List ℕ)) (may_leave : D → List 
   pub not_opened : (serving : Serving) (disk : D) (told : Option Traffic) (left : List ScriptEvent) (error : JournalError) → told ≡ Some (untold left)
       → Serves shown may_leave serving disk (Err (Respond error)) told
   not_opened serving disk told left error is =
-      serves_at serving disk (Err (Respond error)) told (untold left) is (record { rest = λ link. []; taken = λ link. refl; whole = λ link whole. refl; shut = λ link. refl }) tt
+      serves_at serving disk (Err (Respond error)) told (untold left) is (none_sent_yet serving left) tt
+
+  pub not_opened_kept : ((disk : D) (since : ℕ) (image : List ℕ) → since ≤ moment disk → may_leave disk image → left_since disk since image)
+      → (serving : Serving) (tables : Tables) (old disk : D) (told : Option Traffic) (left : List ScriptEvent) (error : JournalError) → told ≡ Some (untold left) → IsBegun tables serving
+      → LeavesOnly moment left_since old disk (λ image. ImageRepresents image tables) → KeepsAnswered may_leave serving disk (Err (Respond error)) told
+  not_opened_kept counts_now serving tables old disk told left error is begun leaves =
+      subst (λ (told : Option Traffic). KeepsAnswered may_leave serving disk (Err (Respond error)) told) (sym is) (λ image now. (
+        0,
+        omega arith,
+        subst (λ (tables : Tables). ImageRepresents image tables) (sym begun.begins.kept) (leaves.each image (counts_now disk (moment old) image leaves.later now)),
+      ))
 
   -- what was left since the opening began
   pub opened_along : (serving : Serving) (tables : Tables) (old mid new : D) (result : Result Served ServeError) (told : Option Traffic) → IsBegun tables serving
