@@ -78,7 +78,7 @@ impl<D: Disk> Responder<D> {
     /// Answers an event, and appends what is to be sent. Every message is on the disk before the next one is taken, and before
     /// this returns.
     ///
-    /// `Full` comes where the record of a message would end past the limit, `DiskFault` where a call of the disk failed.
+    /// After an error `replies` are as they were. `Full` comes where the record of a message would end past the limit, `DiskFault` where a call of the disk failed.
     pub fn deliver(
         &mut self,
         alloc: Global,
@@ -91,6 +91,7 @@ impl<D: Disk> Responder<D> {
         ensures causes { AnswerCauses self.old.store.journal.limit (D.fault_count self.old.store.disk) (D.fault_count self.new.store.disk) result }
         ensures limit { self.new.store.journal.limit ≡ self.old.store.journal.limit }
         ensures ends { is_end (event_meant event.entry) ≡ true → IsOk result }
+        ensures err { OnErr result (replies.new.items ≡ replies.old.items) }
     {
         match event {
             Event::Arrived { link } => {
