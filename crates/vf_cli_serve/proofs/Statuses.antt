@@ -1,8 +1,7 @@
 -- Which statuses tell what, and by which causes.
-use Rattle.std.proofs.Common.{◌≡◌, ◌∙◌, inl, inr, ⊎_elim, ℕ, List, [], ◌∷◌, Option, Result, Ok, Err, arith, sym, subst}
+use Rattle.std.proofs.Common.{◌≡◌, ◌∙◌, inl, inr, ⊎_elim, ℕ, List, [], ◌∷◌, Option, Result, Err, arith, sym, subst}
 use Rattle.vf_base.specs.Faults.{HasRisen}
 use Rattle.vf_cli_printing.specs.Printed.{IsOneOf, Printed, Prints}
-use Rattle.vf_journal.specs.declared.error.JournalError.{JournalError}
 use Rattle.vf_journal.specs.declared.error.JournalError.TheVariants.{DiskFault}
 use Rattle.vf_responder.specs.Served.{ServeCauses}
 use Rattle.vf_responder.specs.declared.error.ServeError.{ServeError}
@@ -27,10 +26,6 @@ counts_never_five status = never (0 ∷ 4 ∷ 9 ∷ []) 5 status ((λ e. omega a
 
 pub counts_never_ten : (status : ℕ) → IsOneOf (0 ∷ 4 ∷ 9 ∷ []) status → status ≡ 10 → ⊥
 counts_never_ten status = never (0 ∷ 4 ∷ 9 ∷ []) 10 status ((λ e. omega arith), ((λ e. omega arith), ((λ e. omega arith), tt)))
-
-pub error_never_ten : (status : ℕ) → IsOneOf (4 ∷ 5 ∷ 8 ∷ 9 ∷ 12 ∷ []) status → status ≡ 10 → ⊥
-error_never_ten status =
-    never (4 ∷ 5 ∷ 8 ∷ 9 ∷ 12 ∷ []) 10 status ((λ e. omega arith), ((λ e. omega arith), ((λ e. omega arith), ((λ e. omega arith), ((λ e. omega arith), tt)))))
 
 -- ---- causes
 

@@ -1,5 +1,6 @@
 pub mod SendingLemmas
 pub mod ChainLemmas
+pub mod ApartLemmas
 pub mod MapLemmas
 pub mod StandLemmas
 pub mod SaysLemmas

@@ -1,4 +1,4 @@
-use Rattle.std.proofs.Common.{◌≡◌, ℕ, List, [], ◌∷◌, Option, Some, None, map, string_bytes, subst, sym, ◌∙◌}
+use Rattle.std.proofs.Common.{◌≡◌, [], ◌∷◌, Option, Some, None, map, string_bytes, subst, sym}
 use Rattle.vf_cli.specs.Ftam.{statuses_of, usage}
 use Rattle.vf_cli.specs.Words.{command_of}
 use Rattle.vf_cli.specs.declared.command.Command.{Command}

@@ -1,4 +1,4 @@
-use Rattle.vf_cli_serve.proofs.Statuses.{counts_never_five, counts_never_ten, error_never_ten}
+use Rattle.vf_cli_serve.proofs.Statuses.{counts_never_five, counts_never_ten}
 use Rattle.vf_cli_serve.proofs.serving.print_served.Goals as goal
 
 pub returns-in-Ok-clause-disk_fault : goal.returns-in-Ok-clause-disk_fault
