@@ -62,7 +62,7 @@ pub fn ftam<L: Links, D: Disk, I: Source, O: Sink>(
         → LeavesOnly D.moment D.left_since disk result.0 (λ image. Represents image tables) }
     ensures serves { command_of (map string_bytes words.now.items) ≡ Some Command.Serve
         → ServesLinks D.shown D.may_leave disk result.0 (D.fault_count disk) (D.fault_count result.0) (L.told links.old) (L.told links.new) (L.fault_count links.old) (L.fault_count links.new)
-        result.1 (O.taken out.old) (O.taken out.new) }
+        (L.turns links.new) (L.through links.new) result.1 (O.taken out.old) (O.taken out.new) }
     ensures serve_any_moment { command_of (map string_bytes words.now.items) ≡ Some Command.Serve → (left : List ScriptEvent) (image : List ℕ) (tables : TablesMeant) (serving : Serving)
         → L.told links.old ≡ Some (untold left) → D.shown disk ≡ Some image → Represents image tables → ((image : List ℕ) → D.may_leave disk image → Represents image tables)
         → IsBegun tables serving → LeavesOnly D.moment D.left_since disk result.0 (RepresentsServed serving (L.told links.new)) }

@@ -1,9 +1,9 @@
 -- What the command `serve` prints, with its status, and what its call owes (profile).
-use Rattle.std.specs.Prelude.{◌≡◌, ℕ, List, ◌∷◌, [], ◌++◌, Option, Some, Result, Ok, Err, codes, decimal}
+use Rattle.std.specs.Prelude.{◌≡◌, ℕ, Bool, List, ◌∷◌, [], ◌++◌, IfOk, Option, Some, Result, Ok, Err, codes, decimal}
 use Rattle.vf_base.specs.Links.{Traffic}
 use Rattle.vf_base.specs.declared.events.ScriptEvent.{ScriptEvent}
 use Rattle.vf_cli_printing.specs.Printed.{IsOneOf, Prints, Wrote, line_feed}
-use Rattle.vf_responder.specs.Served.{Refuses, ServeCauses, Serves, untold}
+use Rattle.vf_responder.specs.Served.{IsThrough, KeepsAnswered, Refuses, ServeCauses, Serves, untold}
 use Rattle.vf_responder.specs.Serving.{IsBegun, Serving}
 use Rattle.vf_responder.specs.declared.error.ServeError.{ServeError}
 use Rattle.vf_responder.specs.declared.error.ServeError.TheVariants.{Respond, LinksFault, NoMemory}
@@ -34,10 +34,13 @@ store_limit = 1073741824
 -- Serving links from the store on a disk has an answer, which is printed, and which the octets of the disk, the counts of
 -- faults and the traffic of the links bear out.
 pub record ServesLinks {D : Type 0} (shown : D → Option (List ℕ)) (may_leave : D → List ℕ → Type 0) (before after : D) (disk_faults disk_faults' : ℕ)
-    (told told' : Option Traffic) (links_faults links_faults' : ℕ) (status : ℕ) (taken taken' : Option (List ℕ)) : Type 0 where
+    (told told' : Option Traffic) (links_faults links_faults' turns' : ℕ) (through' : Bool) (status : ℕ) (taken taken' : Option (List ℕ)) : Type 0 where
   pub answer : Result Served ServeError
   pub printed : PrintsServed answer status taken taken'
   pub causes : ServeCauses store_limit disk_faults disk_faults' links_faults links_faults' answer
   pub refuses : (image : List ℕ) → shown before ≡ Some image → Refuses image answer
   pub serves : (left : List ScriptEvent) (image : List ℕ) (tables : Tables) (serving : Serving) → told ≡ Some (untold left) → shown before ≡ Some image → Represents image tables
       → IsBegun tables serving → Serves shown may_leave serving after answer told'
+  pub keeps : (left : List ScriptEvent) (image : List ℕ) (tables : Tables) (serving : Serving) → told ≡ Some (untold left) → shown before ≡ Some image → Represents image tables
+      → ((image : List ℕ) → may_leave before image → Represents image tables) → IsBegun tables serving → KeepsAnswered may_leave serving after answer told'
+  pub ends : IfOk answer (λ served. IsThrough turns' through')

@@ -9,6 +9,8 @@ returns-clause-serves g c = record {
   causes = c.serve-disk.ensures.causes;
   refuses = c.serve-disk.ensures.refuses;
   serves = λ left image tables serving told shows represents begun. c.serve-disk.ensures.serves left image tables serving told shows represents begun;
+  keeps = λ left image tables serving told shows represents leaves begun. c.serve-disk.ensures.keeps left image tables serving told shows represents leaves begun;
+  ends = c.serve-disk.ensures.ends;
 }
 
 pub returns-clause-disk_cause : goal.returns-clause-disk_cause
