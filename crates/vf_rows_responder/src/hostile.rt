@@ -4,7 +4,6 @@ use crate::world::{World, created, opened};
 use std::alloc::Global;
 use std::test::Fail;
 use vf_disk::{Disk, MemoryDisk};
-use vf_responder::Event;
 
 /// Octets that come on a link which has just arrived, those that are spoken, and how many links stand then.
 struct Row {
@@ -108,7 +107,7 @@ fn arrived<D: Disk>(
     last: u32,
 ) -> Result<u32, Fail> {
     for link in first..=last {
-        world.deliver(alloc, Event::Arrived { link })?;
+        world.arrived(alloc, link)?;
     }
     Ok(world.responder.standing())
 }

@@ -2,7 +2,6 @@
 use crate::world::{copied, created, opened};
 use std::alloc::Global;
 use std::test::Fail;
-use vf_responder::Event;
 
 pub(crate) const SESSION: &str = "
 1 arrive
@@ -117,7 +116,7 @@ fn broken(alloc: Global, sent: &[u8], heard: &[u8], cut: usize) -> Result<(usize
     world.act(alloc, "1 listen")?;
     let (front, _) = sent.split_at(cut);
     world.send(alloc, 1, front)?;
-    world.deliver(alloc, Event::Ended { link: 1 })?;
+    world.ended(alloc, 1)?;
     let spoken = world.peer(1)?;
     if !heard.starts_with(spoken.heard.as_slice()) {
         return Err(Fail::new("other octets were spoken"));

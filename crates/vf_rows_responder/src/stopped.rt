@@ -4,7 +4,7 @@ use std::alloc::Global;
 use std::test::Fail;
 use vf_base::Moment;
 use vf_disk::{CrashForm, MemoryDisk};
-use vf_responder::{Event, RespondError};
+use vf_responder::RespondError;
 
 /// A recoverable write, of which a check is acknowledged.
 const BEFORE: &str = "
@@ -61,14 +61,11 @@ fn stopped(
         return Err(Fail::new(world.told.as_str()));
     }
     let octets = world.peer(1)?.say(alloc, "BF2300")?;
-    let event = Event::Octets {
-        link: 1,
-        moment: Moment::of(0)?,
-        octets: octets.as_slice(),
-    };
+    let moment = Moment::of(0)?;
     let mut replies = Vec::new(alloc);
     world.responder.stop(call);
-    if world.responder.deliver(alloc, event, &mut replies) != Err(RespondError::DiskFault) {
+    let answer = world.answered(alloc, 1, moment, octets.as_slice(), &mut replies);
+    if answer != Err(RespondError::DiskFault) {
         return Err(Fail::new("nothing stopped"));
     }
     let World { responder, .. } = world;

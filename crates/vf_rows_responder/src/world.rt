@@ -6,7 +6,7 @@ use std::alloc::Global;
 use std::test::Fail;
 use vf_base::Moment;
 use vf_disk::{Disk, MemoryDisk};
-use vf_responder::{Event, Reply, Responder};
+use vf_responder::{Event, Reply, RespondError, Responder};
 use vf_store::Store;
 
 /// The disk of a store that is just made.
@@ -75,16 +75,50 @@ impl<D: Disk> World<D> {
         Ok(())
     }
 
-    pub(crate) fn deliver(&mut self, alloc: Global, event: Event<'_>) -> Result<(), Fail> {
-        let mut replies = Vec::new(alloc);
-        self.responder.deliver(alloc, event, &mut replies)?;
-        for reply in replies.as_slice() {
+    fn hear_all(&mut self, alloc: Global, replies: &[Reply]) -> Result<(), Fail> {
+        for reply in replies {
             self.hear(alloc, reply)?;
         }
         Ok(())
     }
 
-    /// Octets come on a link, at moment 0.
+    /// A link arrives.
+    pub(crate) fn arrived(&mut self, alloc: Global, link: u32) -> Result<(), Fail> {
+        let mut replies = Vec::new(alloc);
+        self.responder
+            .deliver(alloc, Event::Arrived { link }, &mut replies)?;
+        self.hear_all(alloc, replies.as_slice())
+    }
+
+    /// A link has ended.
+    pub(crate) fn ended(&mut self, alloc: Global, link: u32) -> Result<(), Fail> {
+        let mut replies = Vec::new(alloc);
+        self.responder
+            .deliver(alloc, Event::Ended { link }, &mut replies)?;
+        self.hear_all(alloc, replies.as_slice())
+    }
+
+    /// What is answered to octets on a link.
+    pub(crate) fn answered(
+        &mut self,
+        alloc: Global,
+        link: u32,
+        moment: Moment,
+        octets: &[u8],
+        replies: &mut Vec<Reply>,
+    ) -> Result<(), RespondError> {
+        self.responder.deliver(
+            alloc,
+            Event::Octets {
+                link,
+                moment,
+                octets,
+            },
+            replies,
+        )
+    }
+
+    /// Octets come on a link, at moment 0, in pieces.
     pub(crate) fn send(&mut self, alloc: Global, link: u32, octets: &[u8]) -> Result<(), Fail> {
         let moment = Moment::of(0)?;
         let cut = if self.cut == 0 {
@@ -93,14 +127,9 @@ impl<D: Disk> World<D> {
             self.cut
         };
         for piece in octets.chunks(cut.max(1)) {
-            self.deliver(
-                alloc,
-                Event::Octets {
-                    link,
-                    moment,
-                    octets: piece,
-                },
-            )?;
+            let mut replies = Vec::new(alloc);
+            self.answered(alloc, link, moment, piece, &mut replies)?;
+            self.hear_all(alloc, replies.as_slice())?;
         }
         Ok(())
     }
@@ -109,7 +138,7 @@ impl<D: Disk> World<D> {
         let peer = Peer::new(alloc, link, sync)?;
         let greeting = copied(alloc, peer.sent.as_slice())?;
         self.peers.push(peer)?;
-        self.deliver(alloc, Event::Arrived { link })?;
+        self.arrived(alloc, link)?;
         self.send(alloc, link, greeting.as_slice())
     }
 
@@ -117,7 +146,7 @@ impl<D: Disk> World<D> {
     fn listen(&mut self, alloc: Global, link: u32) -> Result<(), Fail> {
         let peer = Peer::new(alloc, link, false)?;
         self.peers.push(peer)?;
-        self.deliver(alloc, Event::Arrived { link })
+        self.arrived(alloc, link)
     }
 
     fn say(&mut self, alloc: Global, link: u32, words: &str) -> Result<(), Fail> {
@@ -135,7 +164,7 @@ impl<D: Disk> World<D> {
             "arrive" => self.arrive(alloc, link, false),
             "arrive sync" => self.arrive(alloc, link, true),
             "listen" => self.listen(alloc, link),
-            "end" => self.deliver(alloc, Event::Ended { link }),
+            "end" => self.ended(alloc, link),
             words => self.say(alloc, link, words),
         }
     }
