@@ -1,7 +1,6 @@
 -- Each row of the table leaves a task that may be kept.
-use Rattle.std.proofs.Common.{◌≡◌, ◌≤◌, ◌+◌, ◌-◌, ◌*◌, ℕ, zero, suc, Bool, true, false, ◌&&◌, nat_eq, nat_le, nat_lt, min, if◌then◌else◌, IfSome, List, [], ◌∷◌, ◌++◌, length, take, drop, refl, sym, ap, subst, ◌∙◌, append_assoc, append-nil, length-append, length-take, take-take, arith, Option, None, Some}
+use Rattle.std.proofs.Common.{◌≡◌, ◌≤◌, ◌+◌, ◌-◌, ◌*◌, ℕ, zero, suc, Bool, true, false, ◌&&◌, nat_eq, nat_le, nat_lt, min, if◌then◌else◌, IfSome, List, [], ◌∷◌, ◌++◌, length, take, drop, refl, sym, ap, subst, ◌∙◌, append_assoc, append-nil, length-append, length-take, arith, Option, None, Some}
 use Rattle.std.proofs.lemmas.Bool.Decides.{nat_tests}
-use Rattle.std.proofs.lemmas.List.{take-append-le}
 use Rattle.vf_base.specs.declared.diagnostic.Diagnostic.{Diagnostic}
 use Rattle.vf_base.specs.declared.element.Element.{Element}
 use Rattle.vf_base.specs.declared.limits.TheConstants.{MOST_STRING_OCTETS}
@@ -47,11 +46,9 @@ abbrev pub IsCounted : Way → (point : ℕ) → Phase → List (List Element) �
 IsCounted Get point phase pieces = length pieces ≡ count_of (is_over phase) point
 IsCounted Put point phase pieces = pieces ≡ []
 
--- the pieces that stand since others did
-pub record IsSince (before : List (List Element)) (g : Gathering) : Type 0 where
-  pub among : g.standing ≤ length before
-  pub stand : g.standing ≤ length g.pieces
-  pub same : take g.standing g.pieces ≡ take g.standing before
+-- these pieces were kept last
+abbrev pub IsSince : (before : List (List Element)) → Gathering → Type 0
+IsSince before g = g.kept ≡ before
 
 pub record IsCore (before : List (List Element)) (way : Way) (p : Progress) (g : Gathering) : Type 0 where
   pub first : 1 ≤ p.number
@@ -154,19 +151,6 @@ module _ (old : List (List Element)) where
       cut_length point g.pieces few ∙ sym (ap (λ (over : Bool). count_of over point) going)
   cut_counted Put p g point later back going counted = ap (take (min point (length g.pieces))) counted ∙ none_taken (min point (length g.pieces))
 
-  cut_since : (g : Gathering) (point : ℕ) → IsSince old g → IsSince old (cut_to point g)
-  cut_since g point since =
-      let n = min point (length g.pieces) in
-      let m = min g.standing n in
-      let to_n : m ≤ n = omega arith in
-      let to_s : m ≤ g.standing = omega arith in
-      let size : length (take n g.pieces) ≡ n = omega (arith, length-take n g.pieces) in
-      record {
-        among = omega (arith, since.among);
-        stand = omega (arith, size);
-        same = take-take m n g.pieces to_n ∙ (sym (take-take m g.standing g.pieces to_s) ∙ (ap (take m) since.same ∙ take-take m g.standing old to_s));
-      }
-
   cut : (way : Way) (p : Progress) (g : Gathering) (number point : ℕ) (later : Phase) (outcome : ℕ) → point ≤ p.point → is_over later ≡ false → 1 ≤ number → number ≤ MOST_TRANSFERS → IsCore old way p g
       → IsCore old way (record { number = number; point = point; phase = later; outcome = outcome }) (cut_to point g)
   cut way p g number point later outcome back going first most core =
@@ -177,18 +161,10 @@ module _ (old : List (List Element)) where
         point = omega (arith, core.point);
         counted = cut_counted way p g point later back going core.counted;
         within = subst IsWithin (sym (append-nil (joined (take (min point (length g.pieces)) g.pieces)))) kept;
-        since = cut_since g point core.since;
+        since = core.since;
       }
 
   -- a piece more
-  keep_since : (g : Gathering) → IsSince old g → IsSince old (kept_whole g)
-  keep_since g since =
-      record {
-        among = since.among;
-        stand = omega (arith, length-append g.pieces (g.fresh ∷ []), since.stand);
-        same = take-append-le g.standing g.pieces (g.fresh ∷ []) since.stand ∙ since.same;
-      }
-
   kept_all : (g : Gathering) → all_of (kept_whole g) ≡ all_of g
   kept_all g = append-nil (joined (g.pieces ++ g.fresh ∷ [])) ∙ (joined_append g.pieces (g.fresh ∷ []) ∙ ap (λ (l : List Element). joined g.pieces ++ l) (append-nil g.fresh))
 
@@ -202,7 +178,7 @@ module _ (old : List (List Element)) where
         point = few;
         counted = now ∙ more;
         within = subst IsWithin (sym (kept_all g)) core.within;
-        since = keep_since g core.since;
+        since = core.since;
       }
 
   -- ---- rows that lead on
@@ -294,7 +270,7 @@ module _ (old : List (List Element)) where
           point = omega arith;
           counted = cut_counted Put p g 0 Open (omega arith) refl core.counted;
           within = subst IsWithin (sym (append-nil (joined (take (min 0 (length g.pieces)) g.pieces)))) (within_taken (min 0 (length g.pieces)) g.pieces g.fresh core.within);
-          since = cut_since g 0 core.since;
+          since = core.since;
         }
     restarts Get p g core = cut Get p g p.number 0 Open p.outcome (omega arith) refl core.first core.most core
 
@@ -397,7 +373,7 @@ module _ (old : List (List Element)) where
     good_gathers : (c : Conduct) (element : Element) → c.stage ≡ stages.Receiving → receives_at c → is_sayable element ≡ true → has_room c.gathered element ≡ true → IsCore old own c.progress c.gathered → Good own (gathers c element)
     good_gathers c element at receives sayable room core =
         record {
-          core = record { first = core.first; most = core.most; point = core.point; counted = core.counted; within = said_element c.gathered element sayable room core.within; since = record { among = core.since.among; stand = core.since.stand; same = core.since.same } };
+          core = record { first = core.first; most = core.most; point = core.point; counted = core.counted; within = said_element c.gathered element sayable room core.within; since = core.since };
           stage = subst (IsAtStage own given.assignment.is_resumed c.progress.phase) (sym at) receives;
         }
 

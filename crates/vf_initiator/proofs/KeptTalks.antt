@@ -6,14 +6,15 @@ use Rattle.vf_base.specs.declared.element.Element.{Element}
 use Rattle.vf_base.specs.declared.element.Element.TheVariants as elements
 use Rattle.vf_initiator.proofs.Ended.{looked}
 use Rattle.vf_initiator.proofs.Gathers.{AreKept, IsWithin, is_within as within_file, pieces_kept_of, within_by, within_front, within_kept}
+use Rattle.vf_initiator.proofs.Kept.{common_least, common_same}
 use Rattle.vf_initiator.proofs.KeptRows.{IsCounted, IsGood, IsSayable, IsSince, count_of, good_hears}
 use Rattle.vf_initiator.proofs.TaskChanges.{Leads, fit_dropped, leads_cut, leads_none, leads_row, leads_stages, leads_then, valid_dropped, valid_put, with_one}
 use Rattle.vf_initiator.proofs.TaskEntries.{both, dropped_none, first_of, put_same, second_of}
 use Rattle.vf_initiator.specs.Assignments.{assignment_of, given_of, kept_pieces, kept_values, progress_of, row_of, way_in}
-use Rattle.vf_initiator.specs.Gathering.{all_of, marked}
+use Rattle.vf_initiator.specs.Gathering.{all_of, common, marked}
 use Rattle.vf_initiator.specs.Hearing.{accepted_in, heard_in, heard_of_pdu}
 use Rattle.vf_initiator.specs.Keepable.{BeginsKept, LeadTo, MayKeep, StandsAsKept, TakesKept, are_pieces, is_keepable, with_kept}
-use Rattle.vf_initiator.specs.Keeping.{changes_by, changes_of, cut_change, is_same_phase, is_same_progress, mark_of, row_change, stages_from}
+use Rattle.vf_initiator.specs.Keeping.{changes_by, changes_of, cut_change, is_same_phase, is_same_progress, mark_of, piece_changes, row_change, stages_from}
 use Rattle.vf_initiator.specs.Owed.{unless_ended, unless_spent}
 use Rattle.vf_initiator.specs.Represents.{resumed}
 use Rattle.vf_initiator.specs.Rows.{ended, is_over as is_over_stage}
@@ -180,7 +181,7 @@ module _ (given : Given) (activity : ℕ) where
           point = parts.point;
           counted = counted_by own c.progress.point c.progress.phase c.gathered.pieces parts.counted may.nothing;
           within = within_by (all_of c.gathered) may.within;
-          since = record { among = omega arith; stand = omega arith; same = refl };
+          since = refl;
         };
         stage = may.stage;
       }
@@ -377,9 +378,11 @@ module _ (given : Given) (activity : ℕ) (tables : Tables) where
       let way = given.assignment.way in
       let before = c.gathered.pieces in
       leads_then tables activity (task_at given c activity) (task_by way now.progress before) (task_at given now activity) (row_change given activity c.progress now.progress)
-      (cut_change activity now.gathered.standing (length before) ++ stages_from activity now.gathered.standing now.gathered.pieces)
+      (piece_changes activity now.gathered.kept now.gathered.pieces)
       (row_leads (pieces_kept way given before) c.progress now.progress (is_same_progress c.progress now.progress) refl (row_good (task_at given now activity) parts))
-      (pieces_lead way now.progress before now.gathered.pieces now.gathered.standing refl parts.active parts.pieces.sayable nothing since.among since.same)
+      (subst (λ (kept : List (List Element)). Leads tables activity (task_by way now.progress before) (piece_changes activity kept now.gathered.pieces) (task_at given now activity)) (sym since)
+      (pieces_lead way now.progress before now.gathered.pieces (common before now.gathered.pieces) refl parts.active parts.pieces.sayable nothing (common_least before now.gathered.pieces)
+      (common_same before now.gathered.pieces)))
 
 -- ---- whether the task is kept
 

@@ -3,6 +3,7 @@ pub mod Cuts
 pub mod Ended
 pub mod Gathers
 pub mod Greeting
+pub mod Kept
 pub mod KeptRows
 pub mod KeptTalks
 pub mod Marks

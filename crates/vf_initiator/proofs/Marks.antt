@@ -4,7 +4,7 @@ use Rattle.std.proofs.Math.ListN.{drop_of_length-le}
 use Rattle.std.proofs.lemmas.List.{append_assoc, drop-append-le, length-drop, take-append-drop, take-append-le, take_all}
 use Rattle.std.proofs.lemmas.List.Sums.{sum_by_push}
 use Rattle.vf_base.specs.declared.element.Element.{Element}
-use Rattle.vf_initiator.specs.Gathering.{AreMarks, after_marks, by_marks}
+use Rattle.vf_initiator.specs.Gathering.{AreMarks, after_marks, by_marks, common, kept_by}
 use Rattle.vf_transfer.specs.Transfer.{joined}
 use Rattle.vf_tree.specs.FileTree.{octets_of, octets_of_unit}
 
@@ -92,5 +92,11 @@ pub value_octets : (elements now : List Element) (element : Element) (octets mor
 value_octets elements now element octets more sum is was one added =
     let all : octets_of_unit now ≡ octets_of_unit elements + octets_of element = ap octets_of_unit is ∙ sum_by_push octets_of elements element in
     omega (arith, all, was, one, added)
+
+pub value_same : (marks : List ℕ) (elements now : List Element) (element : Element) (before : List (List Element)) (standing : ℕ) → now ≡ elements ++ element ∷ [] → AreMarks 0 marks elements
+    → common (kept_by before standing (by_marks 0 marks elements)) (by_marks 0 marks elements) ≡ standing → common (kept_by before standing (by_marks 0 marks now)) (by_marks 0 marks now) ≡ standing
+value_same marks elements now element before standing is are same =
+    let pieces : by_marks 0 marks now ≡ by_marks 0 marks elements = ap (by_marks 0 marks) is ∙ by_more 0 marks elements (element ∷ []) are in
+    subst (λ (l : List (List Element)). common (kept_by before standing l) l ≡ standing) (sym pieces) same
 
 pub ruleset marks = (by_more, after_more, marks_more, by_end, after_end, marks_end, pieces_are_marks, all_there)

@@ -227,3 +227,18 @@ took_piece i i2 c1 mark talk piece changes changes' out out' stand is marks mark
           ∙ ap (λ (c : Conduct). changes ++ changes_since i.given (mark_of i.given talk.conduct) c) t.represents.holds.conduct));
       doing_is = stands ∙ ap (λ (c : Conduct). doing_in c.stage) t.represents.holds.conduct;
     }
+
+-- What is sent was collected first, and then appended.
+pub took_appended : (i i2 : Initiator) (talk : Talk) (piece : List ℕ) (changes changes' : List Change) (none sent appended out out' : List ℕ) (stand : Doing)
+    → none ≡ [] → appended ≡ sent → out' ≡ out ++ appended → TakesPiece i talk piece changes none i2 changes' sent stand → TakesPiece i talk piece changes out i2 changes' out' stand
+took_appended i i2 talk piece changes changes' none sent appended out out' stand empty same is t =
+    record {
+      after = t.after;
+      octets = t.octets;
+      takes = t.takes;
+      represents = t.represents;
+      given_is = t.given_is;
+      sent = is ∙ ap (λ (o : List ℕ). out ++ o) (same ∙ (t.sent ∙ ap (λ (o : List ℕ). o ++ t.octets) empty));
+      changed = t.changed;
+      doing_is = t.doing_is;
+    }

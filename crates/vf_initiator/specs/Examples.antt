@@ -7,9 +7,10 @@ use Rattle.vf_base.specs.declared.access.Context.TheVariants.{FA, UA}
 use Rattle.vf_base.specs.declared.access.FaduId.TheVariants.{Begin}
 use Rattle.vf_initiator.specs.Asking.{abort, contents, item, terminate, value}
 use Rattle.vf_initiator.specs.Cutting.{cut, fault_of_lines, strings_of}
+use Rattle.vf_initiator.specs.Keeping.{changes_since, mark_of}
 use Rattle.vf_initiator.specs.Output.{written}
 use Rattle.vf_initiator.specs.Rows.{Step}
-use Rattle.vf_initiator.specs.Says.{doing_of, elements_of, says, task_kept}
+use Rattle.vf_initiator.specs.Says.{beginning, doing_of, elements_of, says, task_kept}
 use Rattle.vf_initiator.specs.Assignments.{given_of}
 use Rattle.vf_initiator.specs.declared.conduct.Setting.{Setting}
 use Rattle.vf_initiator.specs.declared.doing.Doing.{Doing}
@@ -25,6 +26,8 @@ use Rattle.vf_stack.specs.declared.indication.FaultName.TheVariants.{Version}
 use Rattle.vf_stack.specs.declared.indication.Layer.TheVariants.{Transport}
 use Rattle.vf_stack.specs.declared.request.Request.{Request}
 use Rattle.vf_stack.specs.declared.request.Request.TheVariants.{Acknowledge, Check, Pass}
+use Rattle.vf_tables.specs.declared.change.Change.{Change}
+use Rattle.vf_tables.specs.declared.change.Change.TheVariants.{CutTask, DropTask, PutTask, StageTask}
 use Rattle.vf_tables.specs.declared.task.Phase.{Phase}
 use Rattle.vf_tables.specs.declared.task.Phase.TheVariants.{New, Open, Whole, Concluded}
 use Rattle.vf_tables.specs.declared.task.Task as kept
@@ -122,6 +125,11 @@ outcome_after plan task step =
 abbrev pub run : Plan → Option kept.Task → List (Setting × Heard) → Outcome
 run plan task messages = outcome_after plan task (says plan task messages)
 
+-- the changes that keep a task, where all of the messages come in one call
+abbrev pub changes_in : Plan → Option kept.Task → List (Setting × Heard) → List Change
+changes_in plan task messages =
+    let given = given_of plan task in changes_since given (mark_of given (beginning plan task)) (says plan task messages).conduct
+
 -- a put that said these requests, and is kept so
 abbrev pub put_to : List Request → Doing → Option kept.Task → Outcome
 put_to said doing task = record { said = said; doing = doing; kept = task; elements = [] }
@@ -209,6 +217,14 @@ get_kept number point phase staged = record (kept_with ways.Get number point pha
 abbrev pub whole : kept.Task
 whole = get_kept 1 1 Whole ((first ∷ []) ∷ (second ∷ third ∷ []) ∷ [])
 
+abbrev pub one_kept : Option kept.Task
+one_kept = Some (get_kept 1 1 Open ((first ∷ []) ∷ []))
+
+-- recovered before the checkpoint that is kept, with this element and a check after it
+abbrev pub get_from_start : Element → List (Setting × Heard)
+get_from_start element =
+    at 1 (heard.Accepted None 207 4) ∷ away 1 (heard.Recovered None 1 0 true 0) ∷ away 1 (heard.Value element) ∷ away 1 (heard.Check 1) ∷ []
+
 pub record Gets : Type 0 where
   pub begun :
       run (get_with 3 (Some 7)) None get_begun
@@ -227,6 +243,12 @@ pub record Gets : Type 0 where
   pub behind :
       run (get_with 3 (Some 7)) (Some (get_kept 1 1 Open ((first ∷ []) ∷ []))) (at 1 (heard.Accepted None 207 4) ∷ at 1 (heard.Recovered None 2 0 false 0) ∷ [])
       ≡ record { said = Pass ∷ recover 1 1 ∷ read ∷ []; doing = Going; kept = Some (get_kept 2 0 Open []); elements = [] }
+  pub goes_back :
+      changes_in (get_with 3 (Some 7)) one_kept (at 1 (heard.Accepted None 207 4) ∷ away 1 (heard.Recovered None 1 0 true 0) ∷ [])
+      ≡ PutTask (get_kept 1 0 Open []).plan ∷ CutTask 7 0 ∷ []
+  pub comes_again : changes_in (get_with 3 (Some 7)) one_kept (get_from_start first) ≡ []
+  pub comes_otherwise : changes_in (get_with 3 (Some 7)) one_kept (get_from_start second) ≡ CutTask 7 0 ∷ StageTask 7 1 (second ∷ []) ∷ []
+  pub is_dropped : changes_in (get_with 3 (Some 7)) (Some whole) get_ended ≡ DropTask 7 ∷ []
   pub of_records :
       run (get_with 2 None) None (plain (heard.Accepted None 15 4) ∷ plain (heard.Selected None) ∷ plain (heard.Opened None) ∷ [])
       ≡ record { said = select ∷ item (OpenRequest 1 None None None) ∷ item (ReadRequest Begin FA) ∷ []; doing = Going; kept = None; elements = [] }

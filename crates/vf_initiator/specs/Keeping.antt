@@ -1,8 +1,9 @@
--- The changes by which a store keeps a task as it stands (profile): its row where it differs, a cut of its pieces, and each
--- new piece; or it is dropped.
+-- The changes by which a store keeps a task as it stands (profile): its row where it differs, a cut to the last piece up to
+-- which its pieces are those that are kept, where fewer stand, and each piece after it; or it is dropped.
 use Rattle.std.specs.Prelude.{ℕ, Bool, true, false, ◌&&◌, nat_eq, nat_lt, List, [], ◌∷◌, ◌++◌, drop, length, Option, None, Some, if◌then◌else◌}
 use Rattle.vf_base.specs.declared.element.Element.{Element}
 use Rattle.vf_initiator.specs.Assignments.{row_of}
+use Rattle.vf_initiator.specs.Gathering.{common}
 use Rattle.vf_initiator.specs.Says.{activity_kept}
 use Rattle.vf_initiator.specs.declared.conduct.Conduct.{Conduct}
 use Rattle.vf_initiator.specs.declared.given.Given.{Given}
@@ -26,10 +27,10 @@ abbrev pub is_same_progress : Progress → Progress → Bool
 is_same_progress one other =
     nat_eq one.number other.number && nat_eq one.point other.point && is_same_phase one.phase other.phase && nat_eq one.outcome other.outcome
 
--- how it is kept: under which activity, how far it has come, and how many pieces there are
+-- how it is kept: under which activity, and how far it has come
 abbrev pub mark_of : Given → Conduct → Mark
 mark_of given c =
-    record { kept = activity_kept c.stage given.assignment.activity; progress = c.progress; pieces = length c.gathered.pieces }
+    record { kept = activity_kept c.stage given.assignment.activity; progress = c.progress }
 
 abbrev pub row_change : Given → (activity : ℕ) → Progress → Progress → List Change
 row_change given activity before now = if is_same_progress before now then [] else PutTask (row_of given.assignment activity now) ∷ []
@@ -41,10 +42,14 @@ cut_change activity standing pieces = if nat_lt standing pieces then CutTask act
 abbrev pub stages_from : (activity standing : ℕ) → List (List Element) → List Change
 stages_from activity standing pieces = task_stages_after Get activity standing (drop standing pieces)
 
+-- from these pieces to those
+abbrev pub piece_changes : (activity : ℕ) → (before after : List (List Element)) → List Change
+piece_changes activity before after =
+    let both = common before after in (cut_change activity both (length before) ++ stages_from activity both after)
+
 abbrev pub changes_of : Given → Mark → Conduct → (activity : ℕ) → List Change
 changes_of given mark c activity =
-    row_change given activity mark.progress c.progress
-    ++ (cut_change activity c.gathered.standing mark.pieces ++ stages_from activity c.gathered.standing c.gathered.pieces)
+    row_change given activity mark.progress c.progress ++ piece_changes activity c.gathered.kept c.gathered.pieces
 
 abbrev pub changes_by : Given → Mark → Conduct → (before now : Option ℕ) → List Change
 changes_by given mark c None now = []

@@ -24,7 +24,7 @@ pub record Represents (i : Initiator) (talk : Talk) : Type 0 where
   pub holds : Holds i talk
   pub octets : is_over talk.conduct.stage ≡ false → i.octets ≡ length talk.association.stream
 
--- The talk as a call begins: all pieces are kept.
+-- The talk as a call begins: its pieces are those that are kept.
 abbrev pub resumed : Talk → Talk
 resumed talk = record talk { conduct = record talk.conduct { gathered = marked talk.conduct.gathered } }
 

@@ -1,7 +1,7 @@
 //! The changes by which a store keeps a task as it stands (profile).
-ghost use Rattle.std.specs.Prelude.{◌≡◌, ◌++◌, ◌<◌, IfOk};
+ghost use Rattle.std.specs.Prelude.{◌≡◌, ◌++◌, ◌<◌, IfOk, length};
 ghost use Rattle.vf_initiator.specs.Says.{activity_kept};
-ghost use Rattle.vf_initiator.specs.Gathering.{marked};
+ghost use Rattle.vf_initiator.specs.Gathering.{common, marked};
 ghost use Rattle.vf_initiator.specs.Keeping.{changes_of, changes_since, cut_change, mark_of, row_change, stages_from};
 
 use crate::conduct::Conduct;
@@ -35,12 +35,11 @@ impl Conduct {
         Mark {
             kept: self.kept(given.assignment.activity),
             progress: self.progress,
-            pieces: self.gathered.pieces(),
         }
     }
 
-    /// Appends the changes since a mark: its row where it differs, a cut of its pieces, and then each new piece; or the task
-    /// is dropped.
+    /// Appends the changes since a mark: its row where it differs, a cut of its pieces to those that are still the same, and
+    /// then each piece after them; or the task is dropped.
     pub(crate) fn put_changes(
         &self,
         alloc: Global,
@@ -72,7 +71,7 @@ impl Conduct {
     {
         self.put_row(alloc, given, activity, mark.progress, changes)?;
         let standing = self.gathered.standing();
-        put_cut(activity, standing, mark.pieces, changes)?;
+        self.put_cut(activity, standing, changes)?;
         self.put_stages(alloc, activity, standing, changes)?;
         Ok(())
     }
@@ -93,6 +92,19 @@ impl Conduct {
         }
         let plan = given.assignment.row(alloc, activity, self.progress)?;
         changes.push(Change::PutTask { plan })
+    }
+
+    /// Appends a cut where fewer pieces stand than were kept.
+    fn put_cut(&self, activity: u32, standing: usize, changes: &mut Changes) -> Result<(), NoMemory>
+        requires few { standing < 4294967296 }
+        requires standing { standing ≡ common self.now.gathered.kept self.now.gathered.pieces }
+        ensures { IfOk result (λ done. changes.new ≡ changes.old ++ cut_change activity standing (length self.now.gathered.kept)) }
+    {
+        if !self.gathered.is_cut() {
+            return Ok(());
+        }
+        let point = standing as u32;
+        changes.push(Change::CutTask { activity, point })
     }
 
     /// Appends a change for each piece after so many.
@@ -116,21 +128,4 @@ impl Conduct {
         }
         Ok(())
     }
-}
-
-/// Appends a cut where fewer pieces stand than there were.
-fn put_cut(
-    activity: u32,
-    standing: usize,
-    pieces: usize,
-    changes: &mut Changes,
-) -> Result<(), NoMemory>
-    requires { standing < 4294967296 }
-    ensures { IfOk result (λ done. changes.new ≡ changes.old ++ cut_change activity standing pieces) }
-{
-    if standing >= pieces {
-        return Ok(());
-    }
-    let point = standing as u32;
-    changes.push(Change::CutTask { activity, point })
 }

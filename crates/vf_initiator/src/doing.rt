@@ -4,7 +4,8 @@ use vf_stack::{FaultName, Layer};
 /// Why a task failed.
 #[derive(Clone, Copy, Debug, PartialEq, Eq)]
 pub enum TaskError {
-    /// The task ended with this diagnostic, which the other end gave (ISO 8571-3).
+    /// The task ended with this diagnostic (ISO 8571-3): the other end's, or one of this end's own, as 22 and 23 of an input
+    /// and 35 of a store without room. Of an outcome that was kept, or told as the last one, it is the number alone.
     Refused(Diagnostic),
     /// What the other end sent is at fault.
     PeerFault {

@@ -1,9 +1,10 @@
 //! What a get has received, in the pieces in which it is kept.
-ghost use Rattle.std.specs.Prelude.{◌≡◌, ◌+◌, ◌<◌, ◌≤◌, ◌++◌, [], ◌∷◌, IfOk, length, min, slice_get, take};
+ghost use Rattle.std.specs.Prelude.{◌≡◌, ◌+◌, ◌<◌, ◌≤◌, ◌++◌, [], ◌∷◌, IfOk, IsFalse, IsTrue, length, min, nat_lt, slice_get, take};
 ghost use Rattle.vf_tree.specs.FileTree.{octets_of_unit};
-ghost use Rattle.vf_initiator.specs.Gathering.{AreMarks, all_of, by_marks, cut_to, end_of, has_room as room_meant, kept_whole, marked, started};
+ghost use Rattle.vf_initiator.specs.Gathering.{AreMarks, IsBack, IsOther, after_marks, all_of, by_marks, common, cut_to, end_of, has_room as room_meant, kept_by, kept_whole, marked, started};
 
 use crate::given::append;
+use crate::same::is_same_piece;
 use std::alloc::Global;
 use std::marker::Model;
 use vf_base::{Element, Elements, MOST_STRING_OCTETS, NoMemory, Sequence};
@@ -21,20 +22,22 @@ pub(crate) struct Gathered {
     marks: Vec<usize>,
     /// The octets of all strings, or the type's end where they are more.
     octets: u64,
-    /// How many pieces have stood since `mark`, at most as many as there are.
+    /// So many pieces are the same as at `mark`, from the first one on.
     standing: usize,
+    /// The pieces at `mark`, once some of them were cut; empty as long as none was.
+    before: Vec<Elements>,
 }
 
 impl Model for Gathered {
-    ghost use Rattle.vf_initiator.specs.Gathering.{AreMarks, Gathering, after_marks, by_marks};
+    ghost use Rattle.vf_initiator.specs.Gathering.{AreMarks, Gathering, after_marks, by_marks, common, kept_by};
     ghost use Rattle.std.specs.Prelude.{◌≡◌, ◌<◌, ◌≤◌, length, min};
     ghost use Rattle.vf_tree.specs.FileTree.{octets_of_unit};
 
     ghost Value = { Gathering };
 
-    ghost view = { λ g. record { pieces = by_marks 0 g.marks.items g.elements; fresh = after_marks 0 g.marks.items g.elements; standing = g.standing } };
+    ghost view = { λ g. record { pieces = by_marks 0 g.marks.items g.elements; fresh = after_marks 0 g.marks.items g.elements; kept = kept_by g.before.items g.standing (by_marks 0 g.marks.items g.elements) } };
 
-    ghost invariant = { λ g. (AreMarks 0 g.marks.items g.elements) × (length g.marks.items < 4294967295) × (g.standing ≤ length g.marks.items) × (g.octets ≡ min (octets_of_unit g.elements) 18446744073709551615) };
+    ghost invariant = { λ g. (AreMarks 0 g.marks.items g.elements) × (length g.marks.items < 4294967295) × (g.standing ≤ length g.marks.items) × (common (kept_by g.before.items g.standing (by_marks 0 g.marks.items g.elements)) (by_marks 0 g.marks.items g.elements) ≡ g.standing) × (g.octets ≡ min (octets_of_unit g.elements) 18446744073709551615) };
 }
 
 #[tactic(auto, using(crate::proofs::Marks::marks))]
@@ -48,6 +51,7 @@ impl Gathered {
             marks: Vec::new(alloc),
             octets: 0,
             standing: 0,
+            before: Vec::new(alloc),
         };
         for piece in pieces {
             made.values(alloc, piece.as_slice())?;
@@ -72,12 +76,19 @@ impl Gathered {
         self.marks.len()
     }
 
-    /// How many of the pieces have stood since `mark`.
+    /// How many of the pieces are the same as at `mark`, from the first one on.
     pub(crate) fn standing(&self) -> usize
-        ensures count { result ≡ self.now.standing }
+        ensures count { result ≡ common self.now.kept self.now.pieces }
         ensures few { result < 4294967295 }
     {
         self.standing
+    }
+
+    /// There were more pieces at `mark` than are the same.
+    pub(crate) fn is_cut(&self) -> bool
+        ensures { result ≡ nat_lt (common self.now.kept self.now.pieces) (length self.now.kept) }
+    {
+        self.standing < self.before.len()
     }
 
     /// A copy of a piece; its octets are shared.
@@ -131,7 +142,12 @@ impl Gathered {
         if self.marks.len() >= MOST_PIECES {
             return Err(NoMemory);
         }
+        let (all, marks) = (self.elements.as_slice(), self.marks.as_slice());
+        let is_back = is_back(all, marks, self.standing, self.before.as_slice());
         self.marks.push(self.elements.len())?;
+        if is_back {
+            self.standing += 1;
+        }
         Ok(())
     }
 
@@ -141,24 +157,23 @@ impl Gathered {
         ensures { IfOk result (λ done. self.new ≡ cut_to pieces self.old) }
     {
         let pieces = pieces.min(self.pieces());
-        let elements = first_of(
-            alloc,
-            self.elements.as_slice(),
-            self.marks.as_slice(),
-            pieces,
-        )?;
+        let (all, marks) = (self.elements.as_slice(), self.marks.as_slice());
+        let before = kept_pieces(alloc, all, marks, self.standing, self.before.as_slice())?;
+        let elements = first_of(alloc, all, marks, pieces)?;
         self.octets = octets_of_all(elements.as_slice());
+        self.before = before;
         self.elements = elements;
         self.marks.truncate(pieces);
         self.standing = self.standing.min(pieces);
         Ok(())
     }
 
-    /// From now on all pieces have stood.
+    /// The pieces are kept as they are.
     pub(crate) fn mark(&mut self)
         ensures { self.new ≡ marked self.old }
     {
         self.standing = self.pieces();
+        self.before.clear();
     }
 }
 
@@ -209,6 +224,67 @@ fn first_of(
     let (first, _) = elements.split_at(before(marks, pieces));
     let mut made = Sequence::new(alloc);
     append(alloc, first, &mut made)?;
+    Ok(made)
+}
+
+/// The elements after all pieces with these marks are the piece that stood in their place at the last mark, and so many
+/// pieces before it are the same.
+#[tactic(auto, using(crate::proofs::Cuts::cuts))]
+fn is_back(elements: &[Element], marks: &[usize], standing: usize, aside: &[Elements]) -> bool
+    requires within { standing ≤ length marks.now }
+    requires marks { AreMarks 0 marks.now elements.now }
+    requires same { common (kept_by aside.now standing (by_marks 0 marks.now elements.now)) (by_marks 0 marks.now elements.now) ≡ standing }
+    ensures back { IsTrue result → IsBack aside.now standing (by_marks 0 marks.now elements.now) (after_marks 0 marks.now elements.now) }
+    ensures other { IsFalse result → IsOther aside.now standing (by_marks 0 marks.now elements.now) (after_marks 0 marks.now elements.now) }
+{
+    if standing != marks.len() {
+        return false;
+    }
+    let Some(piece) = aside.get(standing) else {
+        return false;
+    };
+    let (_, fresh) = elements.split_at(before(marks, marks.len()));
+    is_same_piece(piece.as_slice(), fresh)
+}
+
+/// Copies of the pieces at the last mark: of those that were put aside, or else of so many with these marks.
+fn kept_pieces(
+    alloc: Global,
+    elements: &[Element],
+    marks: &[usize],
+    standing: usize,
+    aside: &[Elements],
+) -> Result<Vec<Elements>, NoMemory>
+    requires within { standing ≤ length marks.now }
+    requires marks { AreMarks 0 marks.now elements.now }
+    ensures { IfOk result (λ made. made.items ≡ kept_by aside.now standing (by_marks 0 marks.now elements.now)) }
+{
+    if aside.is_empty() {
+        return first_pieces(alloc, elements, marks, standing);
+    }
+    let mut made = Vec::new(alloc);
+    for piece in aside {
+        made.push(piece.copy(alloc)?)?;
+    }
+    Ok(made)
+}
+
+/// Copies of so many pieces with these marks.
+#[tactic(auto, using(crate::proofs::Marks::marks))]
+fn first_pieces(
+    alloc: Global,
+    elements: &[Element],
+    marks: &[usize],
+    pieces: usize,
+) -> Result<Vec<Elements>, NoMemory>
+    requires within { pieces ≤ length marks.now }
+    requires marks { AreMarks 0 marks.now elements.now }
+    ensures { IfOk result (λ made. made.items ≡ take pieces (by_marks 0 marks.now elements.now)) }
+{
+    let mut made = Vec::new(alloc);
+    for place in 0..pieces {
+        made.push(piece_of(alloc, elements, marks, place)?)?;
+    }
     Ok(made)
 }
 

@@ -1,5 +1,5 @@
 //! The initiator of one connection.
-ghost use Rattle.std.specs.Prelude.{◌≡◌, ◌+◌, ◌≤◌, ◌⊎◌, ◌++◌, IfOk, IsFalse, IsTrue, None, OnOk, false, length, option_copied, true};
+ghost use Rattle.std.specs.Prelude.{◌≡◌, ◌+◌, ◌≤◌, ◌⊎◌, ◌++◌, IfOk, IsFalse, IsTrue, None, OnErr, OnOk, false, length, option_copied, true, List, ℕ};
 ghost use Rattle.vf_initiator.specs.Asking.{associate as greeting_of};
 ghost use Rattle.vf_initiator.specs.Assignments.{assignment_of, given_of, kept_pieces, way_in};
 ghost use Rattle.vf_initiator.specs.Gathering.{started};
@@ -11,8 +11,10 @@ ghost use Rattle.vf_initiator.specs.Says.{beginning, doing_in, elements_of};
 ghost use Rattle.vf_initiator.specs.Talking.{AreSent, IsSent, Talk, begun};
 ghost use Rattle.vf_session.specs.declared.units.TokenSide.TheVariants as sides;
 ghost use Rattle.vf_stack.specs.Association.{Association, is_ended};
+ghost use Rattle.vf_stack.specs.Pieces.{TellOnce};
 ghost use Rattle.vf_stack.specs.Represents.{Represents as IsStackOf, offer_of, side_of};
 ghost use Rattle.vf_tpkt.specs.Wanting.{lacking};
+ghost use Rattle.vf_tpkt.specs.declared.limits.TheConstants.{MOST_PACKET_OCTETS};
 ghost use Rattle.vf_tpkt.specs.Tpdu.{packet, request as connection_request};
 
 use crate::conduct::{Agreed, Conduct, Setting};
@@ -46,7 +48,7 @@ pub struct Initiator {
 impl Initiator {
     /// Begins a task on a new connection, and appends the first octets to be sent. A task that is kept goes on; its kept
     /// identity, `every` and, of a put, elements then stand for those of the plan. A task with an activity that isn't kept
-    /// is to be kept in state new before its first octet is sent.
+    /// is to be kept in state new before its first octet is sent. Without memory nothing is appended.
     pub fn begin(
         alloc: Global,
         plan: Plan,
@@ -56,6 +58,7 @@ impl Initiator {
         ensures given { IfOk result (λ made. made.given ≡ given_of plan (option_copied kept.entry)) }
         ensures begun { IfOk result (λ made. Represents made (begun (greeting_of plan (assignment_of plan (option_copied kept.entry))) (beginning plan (option_copied kept.entry)))) }
         ensures sent { IfOk result (λ made. out.new.items ≡ out.old.items ++ packet connection_request) }
+        ensures memory { OnErr result (out.new.items ≡ out.old.items) }
     {
         let progress = Progress::of(kept);
         let gathered = gathered_of(alloc, &plan, kept)?;
@@ -82,8 +85,10 @@ impl Initiator {
 
     /// Takes the next octets of the connection, any number of them: appends the changes by which a store keeps the task, to be
     /// made before the octets are sent that are appended to `out`. Says how the task stands; where it isn't going on,
-    /// nothing is taken and nothing is sent any more, and the connection is to be closed. Without memory the initiator is
-    /// only to be dropped.
+    /// nothing is taken and nothing is sent any more, and the connection is to be closed. Of octets that end a transfer and
+    /// the task at once nothing that is concluded is ever kept, so whoever is to write the elements of a get before the task
+    /// is dropped takes `wanted` octets at a time. Without memory nothing is appended to `out`, and the initiator and
+    /// `changes` are only to be dropped.
     pub fn take(
         &mut self,
         alloc: Global,
@@ -92,12 +97,26 @@ impl Initiator {
         out: &mut Vec<u8>,
     ) -> Result<Doing, NoMemory>
         // Of every talk that the initiator represents.
-        ensures { (talk : Talk) → Represents self.old talk → IfOk result (λ doing. TakesPiece self.old talk piece.now changes.old out.old.items self.new changes.new out.new.items doing) }
+        ensures taken { (talk : Talk) → Represents self.old talk → IfOk result (λ doing. TakesPiece self.old talk piece.now changes.old out.old.items self.new changes.new out.new.items doing) }
+        ensures memory { OnErr result (out.new.items ≡ out.old.items) }
     {
         let mark = self.conduct.mark(&self.given);
-        self.take_all(alloc, piece, out)?;
+        let mut sent = Vec::new(alloc);
+        self.take_all(alloc, piece, &mut sent)?;
         self.conduct.put_changes(alloc, &self.given, mark, changes)?;
+        out.extend_from_slice(sent.as_slice())?;
         Ok(self.doing())
+    }
+
+    /// How many octets of the connection may be taken so that they tell one thing at most, by the last of them: those that a
+    /// packet (RFC 1006) still lacks, as far as is known. From 1 to 65,535.
+    pub fn wanted(&self) -> usize
+        ensures some { 1 ≤ result }
+        ensures bound { result ≤ MOST_PACKET_OCTETS }
+        ensures exact { result ≡ lacking self.now.stack.transport.packet }
+        ensures once { (talk : Talk) (first second : List ℕ) → Represents self.now talk → length (first ++ second) ≤ result → TellOnce sides.Initiator talk.association first second }
+    {
+        self.stack.wanted()
     }
 
     /// The plan of `begin`.

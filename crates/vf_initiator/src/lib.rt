@@ -20,6 +20,7 @@ mod progress;
 mod receiving;
 mod recovery;
 mod requests;
+mod same;
 mod selection;
 mod sending;
 mod stage;

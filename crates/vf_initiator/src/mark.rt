@@ -6,6 +6,4 @@ pub(crate) struct Mark {
     /// None where it isn't kept, or not any more.
     pub(crate) kept: Option<u32>,
     pub(crate) progress: Progress,
-    /// How many pieces of a get were kept.
-    pub(crate) pieces: usize,
 }

@@ -71,17 +71,25 @@ impl Ends {
         Ok(())
     }
 
-    /// Octets that come to the initiator: digits, or what the other end says.
+    /// What the other end says.
+    fn say(&mut self, alloc: Global, word: &str, octets: &mut Vec<u8>) -> Result<(), Fail> {
+        let request = request_of(alloc, word)?;
+        if !self.peer.may(&request) {
+            return Err(Fail::from("the other end may not say this"));
+        }
+        self.peer.send(alloc, &request, octets)?;
+        Ok(())
+    }
+
+    /// Octets that come to the initiator: digits, or what the other end says, one or more things with `&` between them.
     fn step(&mut self, alloc: Global, step: &str) -> Result<(), Fail> {
         let mut octets = Vec::new(alloc);
         if let Some(digits) = step.strip_prefix("octets ") {
             octets = octets_of(alloc, digits)?;
         } else {
-            let request = request_of(alloc, step)?;
-            if !self.peer.may(&request) {
-                return Err(Fail::from("the other end may not say this"));
+            for word in step.split(" & ") {
+                self.say(alloc, word, &mut octets)?;
             }
-            self.peer.send(alloc, &request, &mut octets)?;
         }
         self.take(alloc, octets.as_slice())?;
         self.deliver(alloc)?;

@@ -105,6 +105,25 @@ Accept+:A107810200CF820104 = BA06800107810102
 Item:BB05A00380011B = A606800161810101 | 1.0.New.0
 ";
 
+/// A get that goes on before the check that it keeps, where all up to that check comes at once: nothing is changed where it is
+/// the same as what is kept.
+const GET_AGAIN: &str = "
+get 3 64 7
+dial = +A00E800200CF81056775657374830104
+Accept+:A107810200CF820104 = A606800161810101
+Item:A700 = B206800101830107 | 1.0.Open.0
+Item:B309A107800528C27B0503 = BF2000
+Item:040131 =
+Check1 = ack1 | 1.1.Open.0 stage1:1
+dial = +A00E800200CF81056775657374830104
+Accept+:A107810200CF820104 = BA09800107810101820101
+Item:BB068101018301FF & Item:040131 & Check1 = ack1
+elements = b31
+dial = +A00E800200CF81056775657374830104
+Accept+:A107810200CF820104 = BA09800107810101820101
+Item:BB068101018301FF & Item:040134 & Check1 = ack1 | cut0 stage1:1
+";
+
 /// A put of lines, which takes the place of the file's contents, and a get of records, which asks for the file's units.
 const KINDS: &str = "
 put 1 5 - 190131 190132
@@ -277,6 +296,20 @@ fn run(alloc: Global, rows: &str, pieces: usize) -> Result<String, Fail> {
     Ok(run.text)
 }
 
+/// Rows come out as they stand, so many octets at a time.
+fn stand(alloc: Global, rows: &str, pieces: usize) -> Result<(), Fail> {
+    let found = run(alloc, rows, pieces)?;
+    for (line, expected) in found.as_str().lines().zip(rows.lines()) {
+        if line != expected {
+            return Err(Fail::new(line));
+        }
+    }
+    if found.len() != rows.len() {
+        return Err(Fail::new("another number of lines"));
+    }
+    Ok(())
+}
+
 #[test]
 fn tasks_are_done(rt: HostRuntime) -> Result<(), Fail> {
     for rows in [
@@ -290,13 +323,13 @@ fn tasks_are_done(rt: HostRuntime) -> Result<(), Fail> {
         FAILED,
     ] {
         for pieces in [1, 7, 100_000] {
-            let found = run(rt.alloc(), rows, pieces)?;
-            let lines = found.as_str().lines().zip(rows.lines());
-            for (line, expected) in lines {
-                assert_eq!(rt; line, expected, "{pieces} octets at a time");
-            }
-            assert_eq!(rt; found.len(), rows.len());
+            stand(rt.alloc(), rows, pieces)?;
         }
     }
     Ok(())
+}
+
+#[test]
+fn what_comes_again_changes_nothing(rt: HostRuntime) -> Result<(), Fail> {
+    stand(rt.alloc(), GET_AGAIN, 100_000)
 }
