@@ -3,6 +3,7 @@ pub mod Meanings
 pub mod Replies
 pub mod Answers
 pub mod Run
+pub mod FilestoreRuns
 pub mod Cut
 pub mod Events
 pub mod Along
