@@ -8,6 +8,7 @@ pub mod Cut
 pub mod Events
 pub mod Along
 pub mod Represents
+pub mod Full
 pub mod Steps
 pub mod Hears
 pub mod Served

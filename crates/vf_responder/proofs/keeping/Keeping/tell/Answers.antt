@@ -1,8 +1,11 @@
-use Rattle.std.proofs.Common.{refl}
+use Rattle.std.proofs.Common.{List, refl, sym, subst}
 use Rattle.vf_responder.specs.Answers.{told}
 use Rattle.vf_responder.specs.Represents.{kept_of}
 use Rattle.vf_responder.proofs.TakeLemmas.{still-along}
 use Rattle.vf_responder.proofs.TellLemmas.{asks-so, read-so, run-takes, tell-takes, told-faults, told-nothing}
+use Rattle.vf_responder.specs.Answers.{Answer}
+use Rattle.vf_responder.specs.Full.{IsFullAt, WhereFull}
+use Rattle.vf_responder.proofs.TellLemmas.{told-takes}
 use Rattle.vf_responder.proofs.keeping.Keeping.tell.Goals as goal
 
 pub returns-in_err-said-in-Faults-clause-any_moment : goal.returns-in_err-said-in-Faults-clause-any_moment
@@ -50,3 +53,10 @@ pub returns-in-Nothing-clause-any_moment : goal.returns-in-Nothing-clause-any_mo
 returns-in-Nothing-clause-any_moment g c = λ read.
     still-along g.D.Disk.shown g.D.Disk.may_leave g.D.Disk.moment g.D.Disk.left_since g.met.D.Disk.only_now c.args.link.now (kept_of c.args.self.now) c.args.self.now.store
     (λ serving. told c.args.moment c.args.link.now.number serving c.args.indication) refl
+
+pub returns-in-Takes-clause-full : goal.returns-in-Takes-clause-full
+returns-in-Takes-clause-full g c = λ read serving represents.
+    subst (λ (answers : List Answer). WhereFull c.take.result (λ place. IsFullAt answers serving c.take.new.self.store place))
+    (sym (told-takes c.args.moment c.args.link.now (kept_of c.args.self.now) serving c.args.indication c.next_serial-next.result c.last_check_of.result c.in-Takes.message represents
+    (asks-so c.args.link.now (kept_of c.args.self.now) serving c.next_serial-next.result c.last_check_of.result c.next_serial-next.ensures.association c.last_check_of.ensures) c.in-Takes.ensures))
+    (c.take.ensures.full c.args.indication (read-so c.args.indication c.next_serial-next.result c.last_check_of.result c.in-Takes.message read c.in-Takes.ensures) c.asked_by-asked.ensures serving represents)

@@ -1,6 +1,7 @@
 use Rattle.std.proofs.Common.{◌≡◌, ◌∷◌, Bool, true, false, List, refl, subst, ◌∙◌, arith}
 use Rattle.std.proofs.lemmas.Grind.{common_steps}
 use Rattle.std.specs.List.{AllByRecursion}
+use Rattle.std.proofs.lemmas.Result.{err_from_is_err_and}
 use Rattle.vf_stack.specs.declared.indication.Indication.{Indication}
 use Rattle.vf_responder.proofs.ChainLemmas.{IsOnward, onward-none}
 use Rattle.vf_responder.proofs.LoopLemmas.{apart-next, tell-round, tell-run, told-end}
@@ -9,6 +10,7 @@ use Rattle.vf_responder.proofs.TakeLemmas.{still-along}
 use Rattle.vf_responder.specs.Answers.{at_end, told, told_all}
 use Rattle.vf_responder.specs.Represents.{Does, kept_of, put_back, with_link}
 use Rattle.vf_responder.specs.Steps.{IsReadTold}
+use Rattle.vf_responder.proofs.FullLemmas.{tell-full}
 use Rattle.vf_responder.proofs.keeping.Keeping.tell_all.Goals as goal
 
 pub loop-indication-init : goal.loop-indication-init
@@ -95,3 +97,13 @@ loop-indication-preserved g c =
       fewer = omega (arith, c.tell.ensures.fewer, now.fewer);
       apart = λ none. apart-next number c.loop-indication.link.number c.loop-indication.self.links.entries c.tell.new.self.links.entries now.number c.tell.ensures.apart (now.apart none);
     }
+
+pub returns-in_err-tell-clause-full : goal.returns-in_err-tell-clause-full
+returns-in_err-tell-clause-full g c = λ all serving represents.
+    let now = c.loop-indication.invariant in
+    let read = subst (λ (items : List Indication). AllByRecursion IsReadTold items) c.in-Some.ensures.steps.0 (now.read all) in
+    let p = err_from_is_err_and c.from_residual.result c.from_residual.ensures.1 in
+    rw (p.1, p.2) (tell-full c.tell.new.self.store c.in_err-tell.field-0.0 c.args.moment c.args.link.now.number c.loop-indication.link.number
+    (told_all c.args.moment c.args.link.now.number serving c.args.indications.items) serving c.args.replies.now.items c.loop-indication.replies.items (with_link c.loop-indication.link (kept_of c.loop-indication.self))
+    c.in-Some.indication c.next.new.self.rest.items c.loop-indication.indication-iterator.rest.items now.number c.in-Some.ensures.steps.0 (now.answers all serving represents)
+    (λ here stood. c.in_err-tell.ensures.full read.0 here stood))
