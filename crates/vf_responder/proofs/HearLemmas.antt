@@ -5,10 +5,12 @@ use Rattle.std.specs.List.{AllByRecursion}
 use Rattle.std.specs.Prelude.{is_some, if◌then◌else◌}
 use Rattle.vf_elements.specs.declared.message.Said.{Said}
 use Rattle.vf_disk.proofs.Runs.{weaker}
+use Rattle.vf_disk.specs.Disk.{LeavesOnly}
 use Rattle.vf_filestore.specs.Dockets.{broken}
 use Rattle.vf_filestore.specs.HoldersAfter.{Keeps}
 use Rattle.vf_filestore.specs.State.{StandingParty, party_of}
 use Rattle.vf_filestore.specs.Transition.{leaves}
+use Rattle.vf_journal.specs.declared.error.JournalError.{JournalError}
 use Rattle.vf_party.specs.Turns.{IsParty, LeavesParty}
 use Rattle.vf_party.specs.declared.party.Party.{Party}
 use Rattle.vf_session.specs.declared.units.TokenSide.{TokenSide}
@@ -22,20 +24,23 @@ use Rattle.vf_stack.specs.Represents as stack
 use Rattle.vf_stack.specs.Represents.{Feeds, side_of}
 use Rattle.vf_stack.specs.declared.indication.Indication.{Indication}
 use Rattle.vf_stack.specs.declared.indication.Indication.TheVariants as indications
+use Rattle.vf_store.specs.StoreState.{StoreState}
 use Rattle.vf_tpkt.specs.Wanting.{lacking}
 use Rattle.vf_responder.proofs.ChainLemmas.{along-front, along-later, joined-answers}
-use Rattle.vf_responder.proofs.Heard.{IsSame, few-heard, heard_by, whole}
-use Rattle.vf_responder.proofs.MapLemmas.{last-free}
-use Rattle.vf_responder.proofs.MoveLemmas.{nobody-on}
+use Rattle.vf_responder.proofs.FullLemmas.{full-to}
+use Rattle.vf_responder.proofs.Heard.{IsSame, few-heard, few-heard-full, heard_by, whole}
+use Rattle.vf_responder.proofs.MapLemmas.{last-free, link_of-own}
+use Rattle.vf_responder.proofs.MoveLemmas.{none-by}
 use Rattle.vf_responder.proofs.PieceLoopLemmas.{apart-on}
 use Rattle.vf_responder.proofs.ReadLemmas.{all-read}
 use Rattle.vf_responder.proofs.SaysLemmas.{says-gone}
-use Rattle.vf_responder.proofs.StandLemmas.{IsOn, on-link, stays-on}
+use Rattle.vf_responder.proofs.StandLemmas.{IsOn, on-link, stands-by, stays-on}
 use Rattle.vf_responder.specs.Along.{RepresentsAlong}
 use Rattle.vf_responder.specs.Answers.{Answer, after_octet, at_end, breaking, octets_heard, says, speaking, told_all}
 use Rattle.vf_responder.specs.Hears.{IsHeard}
 use Rattle.vf_responder.specs.Replies.{sending_all}
-use Rattle.vf_responder.specs.Represents.{Answers, Does, IsLink, KeepsAlong, Kept, Represents, link_of, put_back, with_link}
+use Rattle.vf_responder.specs.Full.{AtFull, IsFullAt}
+use Rattle.vf_responder.specs.Represents.{Answers, Does, IsLink, IsLinkOf, KeepsAlong, Kept, Represents, link_of, put_back, with_link}
 use Rattle.vf_responder.specs.Serving.{Serving}
 use Rattle.vf_responder.specs.Steps.{IsCalled, IsReadTold, IsSaid}
 use Rattle.vf_responder.specs.declared.event.Reply.{Reply}
@@ -70,12 +75,11 @@ pub record IsHere (link : Link) (serving : Serving) : Type 0 where
 
 pub here : {D : Type 0} (link : Link) (kept : Kept D) (serving : Serving) → Represents (with_link link kept) serving → IsHere link serving
 here link kept serving represents =
-    let on = on-link link kept serving represents in
-    record {
-      party = on.party;
-      found = subst (λ (n : ℕ). party_of n serving.filestore.parties ≡ Some on.party) (sym on.linked) on.found;
-      is = subst (λ (n : ℕ). IsLink n link on.party (serving.associations n)) (sym on.linked) on.is;
-    }
+    let n = link.number in
+    let own : link_of n (kept.links ++ (n, link) ∷ []) ≡ Some link = link_of-own n kept.links link (last-free kept.links n link represents.distinct) in
+    let stands = stands-by n link (party_of n serving.filestore.parties) (serving.associations n)
+    (subst (λ (l : Option Link). IsLinkOf n l (party_of n serving.filestore.parties) (serving.associations n)) own (represents.links n)) in
+    record { party = stands.0; found = stands.1; is = stands.2 }
 
 -- ---- after the turns of all that was told
 
@@ -94,7 +98,10 @@ after-is number link kept serving on numbered b ends =
 pub after-gone : {D : Type 0} (number : ℕ) (kept : Kept D) (serving : Serving) (old : List Reply) → Represents kept serving → link_of number kept.links ≡ None
     → Answers (after_octet number serving) serving old kept old
 after-gone number kept serving old represents free =
-    subst (λ (answers : List Answer). Answers answers serving old kept old) (sym (ap (λ (p : Option StandingParty). breaking serving p) (nobody-on number kept serving represents free)))
+    let none : party_of number serving.filestore.parties ≡ None =
+    none-by number (party_of number serving.filestore.parties) (serving.associations number)
+    (subst (λ (l : Option Link). IsLinkOf number l (party_of number serving.filestore.parties) (serving.associations number)) free (represents.links number)) in
+    subst (λ (answers : List Answer). Answers answers serving old kept old) (sym (ap (λ (p : Option StandingParty). breaking serving p) none))
     (record { spoken = sym (append-nil old); represents = represents })
 
 -- or it goes on,
@@ -213,6 +220,18 @@ module _ {D : Type 0} (moment : ℕ) (link link' : Link) (kept : Kept D) (octets
       let s = (heard serving represents).state in
       weaker clock left_since kept.store.disk kept'.store.disk (RepresentsAlong s (told_all moment link'.number s told)) (RepresentsAlong serving (octets_heard moment link.number serving octets))
       (run (told-read serving represents) s (heard-represents serving represents) stands) (turns-along serving represents)
+
+  pub few-full : (store : StoreState D) (error : JournalError)
+      → (Told → (s : Serving) → Represents (with_link link' kept) s → AtFull error (λ place. IsFullAt (told_all moment link'.number s told) s store place))
+      → (s : Serving) → Represents (with_link link kept) s → AtFull error (λ place. IsFullAt (octets_heard moment link.number s octets) s store place)
+  few-full store error full serving represents =
+      let s = (heard serving represents).state in
+      full-to error (λ place. IsFullAt (told_all moment link'.number s told) s store place) (λ place. IsFullAt (octets_heard moment link.number serving octets) serving store place)
+      (full (told-read serving represents) s (heard-represents serving represents))
+      (λ place at. few-heard-full moment link.number octets serving store place some (ap (λ (p : Option StandingParty). is_some p) (on_link serving represents).found)
+      (subst (λ (side : TokenSide). TellsLast side (serving.associations link.number) octets) (on_link serving represents).is.called.called
+      (few-last link.stack (serving.associations link.number) octets (on_link serving represents).is.called.represents few))
+      (subst (λ (answers : List Answer). IsFullAt answers s store place) (turns-are serving represents) at))
 
   -- With the turns the link's party is gone, or it goes on, or it breaks then.
   module _ (goes : Bool) (link2 : Link) (kept' : Kept D) (mid' : List Reply) (does : Told → Does (λ s. told_all moment link'.number s told) (with_link link' kept) mid (put_back goes link2 kept') mid') where

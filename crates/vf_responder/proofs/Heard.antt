@@ -16,13 +16,16 @@ use Rattle.vf_stack.specs.Receiving.{Fed, nothing_fed, octets_received, piece_re
 use Rattle.vf_stack.specs.declared.indication.Indication.{Indication}
 use Rattle.vf_stack.specs.declared.indication.Indication.TheVariants as indications
 use Rattle.vf_store.specs.Represented.{Represents as ImageRepresents}
+use Rattle.vf_store.specs.StoreState.{StoreState}
 use Rattle.vf_tables.specs.declared.tables.Tables.{Tables}
 use Rattle.vf_responder.proofs.ChainLemmas.{at_end-join}
 use Rattle.vf_responder.proofs.FewLemmas.{IsOver, says-over}
+use Rattle.vf_responder.proofs.FullLemmas.{full-after, full-front}
 use Rattle.vf_responder.proofs.StandLemmas.{with-own}
 use Rattle.vf_responder.proofs.TellLemmas.{heard-gone}
 use Rattle.vf_responder.specs.Along.{RepresentsAlong}
 use Rattle.vf_responder.specs.Answers.{Answer, after_octet, answering, answering_on, at_end, breaking, given_to, giving_way, in_the_way, octet_heard, octets_heard, says, setting_at, speaking, spoken_in, told, told_all}
+use Rattle.vf_responder.specs.Full.{IsFullAt}
 use Rattle.vf_responder.specs.Meanings.{Meaning, meaning, transfer_check}
 use Rattle.vf_responder.specs.Run.{tables_in}
 use Rattle.vf_responder.specs.Serving.{Serving, stands, with_association}
@@ -213,8 +216,63 @@ module _ (link : ℕ) where
       (few moment after later (with_association link a1 serving) there
       (subst (λ (one : Association). TellsLast Responder one (after ∷ later)) (sym (with-own link a1 serving)) rest))
 
+  -- ---- a message without room
+
+  abbrev Turned : {D : Type 0} (moment : ℕ) (store : StoreState D) (place : ℕ) → Serving → Fed → Type 0
+  Turned moment store place serving fed =
+      let heard = heard_by link serving fed in IsFullAt (told_all moment link heard.state fed.indications) heard.state store place
+
+  turned_whole : {D : Type 0} (moment : ℕ) (store : StoreState D) (place : ℕ) (serving : Serving) (fed : Fed) → Turned moment store place serving fed → IsFullAt (whole moment link serving fed) serving store place
+  turned_whole moment store place serving fed full =
+      let heard = heard_by link serving fed in
+      let turns = told_all moment link heard.state fed.indications in
+      let rest = after_octet link (at_end heard.state turns) in
+      full-after store place (heard ∷ []) (turns ++ rest) serving (full-front store place turns rest heard.state full)
+
+  -- the state that it begins with counts for the other links alone
+  turned_from : {D : Type 0} (moment : ℕ) (store : StoreState D) (place : ℕ) (serving : Serving) (one : Association) (fed : Fed) → Turned moment store place serving fed → Turned moment store place (with_association link one serving) fed
+  turned_from moment store place serving one fed full =
+      subst (λ (now : Serving). IsFullAt (told_all moment link now fed.indications) now store place) (sym (with_twice serving one fed.association)) full
+
+  last_full : {D : Type 0} (moment octet : ℕ) (later : List ℕ) (store : StoreState D) (place : ℕ) (serving : Serving) → stands link serving.filestore ≡ true → IsLast Responder (serving.associations link) octet later
+      → Turned moment store place serving (octets_received Responder (serving.associations link) (octet ∷ later)) → IsFullAt (octets_heard moment link serving (octet ∷ later)) serving store place
+  last_full moment octet later store place serving there last full =
+      subst (λ (answers : List Answer). IsFullAt answers serving store place) (sym (last_heard moment octet later serving there last))
+      (turned_whole moment store place serving (octets_received Responder (serving.associations link) (octet ∷ later)) full)
+
+  few_full : {D : Type 0} (moment octet : ℕ) (later : List ℕ) (store : StoreState D) (place : ℕ) (serving : Serving) → stands link serving.filestore ≡ true → TellsLast Responder (serving.associations link) (octet ∷ later)
+      → Turned moment store place serving (octets_received Responder (serving.associations link) (octet ∷ later)) → IsFullAt (octets_heard moment link serving (octet ∷ later)) serving store place
+  few_full moment octet later store place serving there (inr last) full = last_full moment octet later store place serving there last full
+  few_full moment octet [] store place serving there (inl (still, rest)) full = last_full moment octet [] store place serving there (only_still octet serving still) full
+  few_full moment octet (after ∷ later) store place serving there (inl (still, rest)) full =
+      let a = serving.associations link in
+      let a1 = lengthened a (octet ∷ []) in
+      let now = with_association link a1 serving in
+      let octets = after ∷ later in
+      let fed = octets_received Responder a (octet ∷ octets) in
+      let first : octet_heard moment link serving octet ≡ silent serving a1 ∷ [] = ap (λ (f : Fed). whole moment link serving f) still.nothing ∙ whole_silent moment serving a1 still.goes in
+      let all : octets_heard moment link serving (octet ∷ octets) ≡ silent serving a1 ∷ octets_heard moment link now octets =
+      first_heard moment octet octets serving there ∙ ap (λ (first : List Answer). first ++ octets_heard moment link (at_end serving first) octets) first in
+      let feds : octets_received Responder (now.associations link) octets ≡ fed =
+      ap (λ (one : Association). octets_received Responder one octets) (with-own link a1 serving) ∙ sym still.others in
+      let turned : Turned moment store place now (octets_received Responder (now.associations link) octets) =
+      subst (λ (f : Fed). Turned moment store place now f) (sym feds) (turned_from moment store place serving a1 fed full) in
+      subst (λ (answers : List Answer). IsFullAt answers serving store place) (sym all)
+      (full-after store place (silent serving a1 ∷ []) (octets_heard moment link now octets) serving
+      (few_full moment after later store place now there
+      (subst (λ (one : Association). TellsLast Responder one (after ∷ later)) (sym (with-own link a1 serving)) rest) turned))
+
 -- Some octets, of which only the last tells something or one that ends receiving
 pub few-heard : (moment link : ℕ) (octets : List ℕ) (serving : Serving) → 0 < length octets → stands link serving.filestore ≡ true → TellsLast Responder (serving.associations link) octets
     → IsSame serving (octets_heard moment link serving octets) (whole moment link serving (octets_received Responder (serving.associations link) octets))
 few-heard moment link [] serving some there tells = absurd (omega arith)
 few-heard moment link (octet ∷ later) serving some there tells = few link moment octet later serving there tells
+
+-- A message of what these tell has no room.
+pub few-heard-full : {D : Type 0} (moment link : ℕ) (octets : List ℕ) (serving : Serving) (store : StoreState D) (place : ℕ) → 0 < length octets → stands link serving.filestore ≡ true
+    → TellsLast Responder (serving.associations link) octets
+    → (let heard = heard_by link serving (octets_received Responder (serving.associations link) octets) in
+    IsFullAt (told_all moment link heard.state (octets_received Responder (serving.associations link) octets).indications) heard.state store place)
+    → IsFullAt (octets_heard moment link serving octets) serving store place
+few-heard-full moment link [] serving store place some there tells full = absurd (omega arith)
+few-heard-full moment link (octet ∷ later) serving store place some there tells full = few_full link moment octet later store place serving there tells full

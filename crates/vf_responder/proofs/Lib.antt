@@ -1,5 +1,7 @@
 pub mod SendingLemmas
 pub mod ChainLemmas
+pub mod FullLemmas
+pub mod FilestoreLemmas
 pub mod ApartLemmas
 pub mod MapLemmas
 pub mod StandLemmas

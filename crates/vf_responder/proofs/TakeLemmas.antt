@@ -75,7 +75,7 @@ made-by true true made x e = (refl, refl, cc)
 made-by true false made x e = cc
 made-by false valid made x e = cc
 
-changes-are : (state : State) (party : StandingParty) (setting : Setting) (message : Message) → Answering state party setting message
+pub changes-are : (state : State) (party : StandingParty) (setting : Setting) (message : Message) → Answering state party setting message
     → changes_by state party.link setting message ≡ changes_where state party setting message (decision state party setting message)
 changes-are state party setting message alone =
     ap (λ (found : Option StandingParty). changes_of_party state setting message found) alone.stands

@@ -15,3 +15,9 @@ abbrev pub is_end : ScriptEvent → Bool
 is_end (script.Ended link) = true
 is_end (script.Arrived link) = false
 is_end (script.Octets link moment octets) = false
+
+-- octets on a link, to which alone messages come
+abbrev pub is_octets : ScriptEvent → Bool
+is_octets (script.Octets link moment octets) = true
+is_octets (script.Arrived link) = false
+is_octets (script.Ended link) = false

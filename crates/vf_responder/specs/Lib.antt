@@ -3,10 +3,12 @@ pub mod Meanings
 pub mod Replies
 pub mod Answers
 pub mod Run
+pub mod FilestoreRuns
 pub mod Cut
 pub mod Events
 pub mod Along
 pub mod Represents
+pub mod Full
 pub mod Steps
 pub mod Hears
 pub mod Served

@@ -6,12 +6,13 @@ ghost use Rattle.vf_filestore.specs.Ranges.{IsRead};
 ghost use Rattle.vf_filestore.specs.State.{StandingParty};
 ghost use Rattle.vf_party.specs.Turns.{IsParty};
 ghost use Rattle.vf_responder.specs.Answers.{octets_heard, told, told_all};
+ghost use Rattle.vf_responder.specs.Full.{FullAlong, WhereFull};
 ghost use Rattle.vf_responder.specs.Represents.{AnswerCauses, Does, GivesWay, IsErrorOf, IsWith, KeepsAlong, kept_of, Represents, link_of, put_back, recovered_by, with_link};
 ghost use Rattle.vf_responder.specs.declared.link.Link.{Link as LinkMeant};
 ghost use Rattle.vf_responder.specs.Serving.{Serving};
 ghost use Rattle.vf_responder.specs.Steps.{IsAsked, IsReadTold, taking};
 ghost use Rattle.vf_disk.specs.Disk.{LeavesOnly};
-ghost use Rattle.vf_store.specs.Commit.{AreFitting};
+ghost use Rattle.vf_store.specs.Commit.{AreFitting, placed};
 ghost use Rattle.vf_store.specs.Represented.{RepresentsEither};
 ghost use Rattle.vf_store.specs.StoreState.{IsRepresented};
 ghost use Rattle.vf_tables.specs.Changes.{after_all};
@@ -71,6 +72,7 @@ impl<D: Disk> Keeping<D> {
         ensures answers { OnOk result (Does (λ serving. octets_heard moment number serving octets.now) (kept_of self.old) replies.old.items (kept_of self.new) replies.new.items) }
         ensures represented { (serving : Serving) → Represents (kept_of self.old) serving → IsRepresented D.shown D.may_leave self.old.store → OnOk result (IsRepresented D.shown D.may_leave self.new.store) }
         ensures any_moment { KeepsAlong (λ serving. octets_heard moment number serving octets.now) D.shown D.may_leave D.moment D.left_since (kept_of self.old) (kept_of self.new) }
+        ensures full { FullAlong (λ serving. octets_heard moment number serving octets.now) (kept_of self.old) self.new.store result }
         ensures causes { AnswerCauses self.old.store.journal.limit (D.fault_count self.old.store.disk) (D.fault_count self.new.store.disk) result }
         ensures limit { self.new.store.journal.limit ≡ self.old.store.journal.limit }
         ensures bound { length self.old.links.entries ≤ 64 → length self.new.links.entries ≤ 64 }
@@ -122,6 +124,7 @@ impl<D: Disk> Keeping<D> {
         ensures answers { IfOk result (λ goes. Does (λ serving. octets_heard moment link.old.number serving octets.now) (with_link link.old (kept_of self.old)) replies.old.items (put_back goes link.new (kept_of self.new)) replies.new.items) }
         ensures represented { (serving : Serving) → Represents (with_link link.old (kept_of self.old)) serving → IsRepresented D.shown D.may_leave self.old.store → OnOk result (IsRepresented D.shown D.may_leave self.new.store) }
         ensures any_moment { KeepsAlong (λ serving. octets_heard moment link.old.number serving octets.now) D.shown D.may_leave D.moment D.left_since (with_link link.old (kept_of self.old)) (kept_of self.new) }
+        ensures full { FullAlong (λ serving. octets_heard moment link.old.number serving octets.now) (with_link link.old (kept_of self.old)) self.new.store result }
         ensures causes { AnswerCauses self.old.store.journal.limit (D.fault_count self.old.store.disk) (D.fault_count self.new.store.disk) result }
         ensures limit { self.new.store.journal.limit ≡ self.old.store.journal.limit }
         ensures number { link.new.number ≡ link.old.number }
@@ -153,6 +156,7 @@ impl<D: Disk> Keeping<D> {
         ensures answers { IfOk result (λ goes. Does (λ serving. octets_heard moment link.old.number serving octets.now) (with_link link.old (kept_of self.old)) replies.old.items (put_back goes link.new (kept_of self.new)) replies.new.items) }
         ensures represented { (serving : Serving) → Represents (with_link link.old (kept_of self.old)) serving → IsRepresented D.shown D.may_leave self.old.store → OnOk result (IsRepresented D.shown D.may_leave self.new.store) }
         ensures any_moment { KeepsAlong (λ serving. octets_heard moment link.old.number serving octets.now) D.shown D.may_leave D.moment D.left_since (with_link link.old (kept_of self.old)) (kept_of self.new) }
+        ensures full { FullAlong (λ serving. octets_heard moment link.old.number serving octets.now) (with_link link.old (kept_of self.old)) self.new.store result }
         ensures causes { AnswerCauses self.old.store.journal.limit (D.fault_count self.old.store.disk) (D.fault_count self.new.store.disk) result }
         ensures limit { self.new.store.journal.limit ≡ self.old.store.journal.limit }
         ensures number { link.new.number ≡ link.old.number }
@@ -181,6 +185,7 @@ impl<D: Disk> Keeping<D> {
         ensures answers { AllByRecursion IsReadTold indications.items → IfOk result (λ goes. Does (λ serving. told_all moment link.old.number serving indications.items) (with_link link.old (kept_of self.old)) replies.old.items (put_back goes link.new (kept_of self.new)) replies.new.items) }
         ensures represented { AllByRecursion IsReadTold indications.items → (serving : Serving) → Represents (with_link link.old (kept_of self.old)) serving → IsRepresented D.shown D.may_leave self.old.store → OnOk result (IsRepresented D.shown D.may_leave self.new.store) }
         ensures any_moment { AllByRecursion IsReadTold indications.items → KeepsAlong (λ serving. told_all moment link.old.number serving indications.items) D.shown D.may_leave D.moment D.left_since (with_link link.old (kept_of self.old)) (kept_of self.new) }
+        ensures full { AllByRecursion IsReadTold indications.items → FullAlong (λ serving. told_all moment link.old.number serving indications.items) (with_link link.old (kept_of self.old)) self.new.store result }
         ensures causes { AnswerCauses self.old.store.journal.limit (D.fault_count self.old.store.disk) (D.fault_count self.new.store.disk) result }
         ensures limit { self.new.store.journal.limit ≡ self.old.store.journal.limit }
         ensures number { link.new.number ≡ link.old.number }
@@ -207,6 +212,7 @@ impl<D: Disk> Keeping<D> {
         ensures answers { IsReadTold indication → IfOk result (λ goes. Does (λ serving. told moment link.old.number serving indication) (with_link link.old (kept_of self.old)) replies.old.items (put_back goes link.new (kept_of self.new)) replies.new.items) }
         ensures represented { IsReadTold indication → (serving : Serving) → Represents (with_link link.old (kept_of self.old)) serving → IsRepresented D.shown D.may_leave self.old.store → OnOk result (IsRepresented D.shown D.may_leave self.new.store) }
         ensures any_moment { IsReadTold indication → KeepsAlong (λ serving. told moment link.old.number serving indication) D.shown D.may_leave D.moment D.left_since (with_link link.old (kept_of self.old)) (kept_of self.new) }
+        ensures full { IsReadTold indication → FullAlong (λ serving. told moment link.old.number serving indication) (with_link link.old (kept_of self.old)) self.new.store result }
         ensures causes { AnswerCauses self.old.store.journal.limit (D.fault_count self.old.store.disk) (D.fault_count self.new.store.disk) result }
         ensures limit { self.new.store.journal.limit ≡ self.old.store.journal.limit }
         ensures number { link.new.number ≡ link.old.number }
@@ -239,6 +245,7 @@ impl<D: Disk> Keeping<D> {
         ensures answers { (indication : IndicationMeant) → IsRead message → IsAsked asked indication → IfOk result (λ goes. Does (λ serving. taking moment link.old.number serving indication message) (with_link link.old (kept_of self.old)) replies.old.items (put_back goes link.new (kept_of self.new)) replies.new.items) }
         ensures represented { (serving : Serving) → Represents (with_link link.old (kept_of self.old)) serving → (indication : IndicationMeant) → IsRead message → IsAsked asked indication → IsRepresented D.shown D.may_leave self.old.store → OnOk result (IsRepresented D.shown D.may_leave self.new.store) }
         ensures any_moment { (indication : IndicationMeant) → IsRead message → IsAsked asked indication → KeepsAlong (λ serving. taking moment link.old.number serving indication message) D.shown D.may_leave D.moment D.left_since (with_link link.old (kept_of self.old)) (kept_of self.new) }
+        ensures full { (indication : IndicationMeant) → IsRead message → IsAsked asked indication → FullAlong (λ serving. taking moment link.old.number serving indication message) (with_link link.old (kept_of self.old)) self.new.store result }
         ensures causes { AnswerCauses self.old.store.journal.limit (D.fault_count self.old.store.disk) (D.fault_count self.new.store.disk) result }
         ensures limit { self.new.store.journal.limit ≡ self.old.store.journal.limit }
         ensures number { link.new.number ≡ link.old.number }
@@ -270,6 +277,7 @@ impl<D: Disk> Keeping<D> {
         ensures represented { AreFitting self.old.store.tables changes → IsRepresented D.shown D.may_leave self.old.store → OnOk result (IsRepresented D.shown D.may_leave self.new.store) }
         ensures any_moment { AreFitting self.old.store.tables changes → IsRepresented D.shown D.may_leave self.old.store
             → LeavesOnly D.moment D.left_since self.old.store.disk self.new.store.disk (RepresentsEither self.old.store.tables (after_all self.old.store.tables changes)) }
+        ensures full { WhereFull result (λ place. (place ≡ (placed self.old.store.journal self.old.store.tables changes).end) × (self.new.store ≡ self.old.store)) }
         ensures causes { AnswerCauses self.old.store.journal.limit (D.fault_count self.old.store.disk) (D.fault_count self.new.store.disk) result }
         ensures rest { (self.new.links ≡ self.old.links) × (self.new.locks ≡ self.old.locks) }
         ensures limit { self.new.store.journal.limit ≡ self.old.store.journal.limit }

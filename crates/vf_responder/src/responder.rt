@@ -1,5 +1,5 @@
 //! Many associations over one store.
-ghost use Rattle.std.specs.Prelude.{◌≡◌, ◌<◌, ◌≤◌, ◌++◌, ◌+◌, ◌∷◌, [], ℕ, List, None, Some, IfOk, IsOk, OnErr, OnOk, length, nat_eq, true};
+ghost use Rattle.std.specs.Prelude.{◌≡◌, ◌<◌, ◌≤◌, ◌++◌, ◌+◌, ◌∷◌, [], ℕ, List, None, Some, IfErr, IfOk, IsOk, OnErr, OnOk, length, false, nat_eq, true};
 ghost use Rattle.std.specs.Map.{lookup};
 ghost use Rattle.vf_disk.specs.Disk.{LeavesOnly, LeavesShown};
 ghost use Rattle.vf_disk.specs.Plans.{sooner};
@@ -8,7 +8,9 @@ ghost use Rattle.vf_journal.specs.Image.{records_of};
 ghost use Rattle.vf_journal.specs.Looking.{IsSyncedAndLookedAt};
 ghost use Rattle.vf_base.specs.declared.events.ScriptEvent.TheVariants as script;
 ghost use Rattle.vf_responder.specs.declared.event.Reply.{Reply as ReplyMeant};
-ghost use Rattle.vf_responder.specs.Events.{event_meant, is_end};
+ghost use Rattle.vf_journal.specs.declared.error.JournalError.TheVariants as errors;
+ghost use Rattle.vf_responder.specs.Events.{event_meant, is_end, is_octets};
+ghost use Rattle.vf_responder.specs.Full.{FullAlong};
 ghost use Rattle.vf_responder.specs.Represents.{AnswerCauses, Does, KeepsAlong, Represents, answer_of, disk_of};
 ghost use Rattle.vf_responder.specs.Run.{trail};
 ghost use Rattle.vf_responder.specs.Serving.{IsBegun, Serving};
@@ -95,6 +97,8 @@ impl<D: Disk> Responder<D> {
         ensures answers { OnOk result (Does (trail (event_meant event.entry)) self.old replies.old.items self.new replies.new.items) }
         ensures represented { (serving : Serving) → Represents self.old serving → IsRepresented D.shown D.may_leave self.old.store → OnOk result (IsRepresented D.shown D.may_leave self.new.store) }
         ensures any_moment { KeepsAlong (trail (event_meant event.entry)) D.shown D.may_leave D.moment D.left_since self.old self.new }
+        ensures full { FullAlong (trail (event_meant event.entry)) self.old self.new.store result }
+        ensures octets { is_octets (event_meant event.entry) ≡ false → IfErr result (λ error. error ≡ errors.NoMemory) }
         ensures causes { AnswerCauses self.old.store.journal.limit (D.fault_count self.old.store.disk) (D.fault_count self.new.store.disk) result }
         ensures limit { self.new.store.journal.limit ≡ self.old.store.journal.limit }
         ensures ends { is_end (event_meant event.entry) ≡ true → IsOk result }

@@ -1,11 +1,13 @@
-use Rattle.std.proofs.Common.{◌≡◌, ℕ, ◌+◌, List, Option, None, Ok, length, refl, ap, sym, subst, ◌∙◌}
+use Rattle.std.proofs.Common.{◌≡◌, ℕ, ◌+◌, List, Option, None, Ok, Err, length, refl, ap, sym, subst, ◌∙◌}
 use Rattle.std.specs.Prelude.{IfNone, is_some, if◌then◌else◌}
+use Rattle.std.proofs.lemmas.Result.{err_from_is_err_and}
 use Rattle.vf_responder.proofs.ApartLemmas.{appended}
 use Rattle.vf_responder.proofs.MoveLemmas.{IsTakenOut, out-by, out-represents}
 use Rattle.vf_responder.proofs.PutBackLemmas.{back-along, back-answers, back-represented, none-heard}
 use Rattle.vf_responder.specs.Answers.{octets_heard}
 use Rattle.vf_responder.specs.Represents.{Answers, Does, KeepsAlong, kept_of, link_of}
 use Rattle.vf_responder.specs.declared.link.Link.{Link}
+use Rattle.vf_responder.proofs.FullLemmas.{back-full}
 use Rattle.vf_responder.proofs.keeping.Keeping.hear.Given.{Over}
 use Rattle.vf_responder.proofs.keeping.Keeping.hear.Goals as goal
 use Rattle.vf_responder.proofs.keeping.Keeping.hear.Goals.{After-put_back}
@@ -61,3 +63,10 @@ returns-in_err-append-clause-any_moment g c = along g (goal.at.returns-in_err-ap
 
 pub returns-clause-any_moment : goal.returns-clause-any_moment
 returns-clause-any_moment g c = along g (goal.at.returns-clause-any_moment g c).After-put_back
+
+pub returns-in_err-put_back-clause-full : goal.returns-in_err-put_back-clause-full
+returns-in_err-put_back-clause-full g c = λ serving represents.
+    let p = err_from_is_err_and c.from_residual.result c.from_residual.ensures.1 in
+    rw (p.1, p.2) (back-full c.args.moment c.args.number c.in-Some.link c.args.octets.now (kept_of c.args.self.now) (record (kept_of c.args.self.now) { links = c.swap_remove.new.self.entries })
+    c.hear_all-heard.new.self.store c.put_back.new.self.store c.hear_all-heard.result (Err c.in_err-put_back.field-0.0) (taken_out g (goal.at.returns-in_err-put_back-clause-full g c).After-put_back)
+    c.hear_all-heard.ensures.full c.put_back.ensures.rest.0 c.in_err-put_back.ensures.error serving represents)

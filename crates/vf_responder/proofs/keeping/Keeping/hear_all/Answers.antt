@@ -1,5 +1,6 @@
 use Rattle.std.proofs.Common.{◌≡◌, ◌≤◌, Bool, length, refl, subst, ◌∙◌, arith}
 use Rattle.std.proofs.lemmas.Grind.{common_steps}
+use Rattle.std.proofs.lemmas.Result.{err_from_is_err_and}
 use Rattle.vf_responder.proofs.BegunLemmas.{still-along}
 use Rattle.vf_responder.proofs.ChainLemmas.{onward-none}
 use Rattle.vf_responder.proofs.LoopLemmas.{heard-end}
@@ -7,6 +8,7 @@ use Rattle.vf_responder.proofs.MapLemmas.{last-free}
 use Rattle.vf_responder.proofs.PieceLoopLemmas.{apart-on, none-left, now, now-represents, part-heard, part-run}
 use Rattle.vf_responder.specs.Answers.{octets_heard}
 use Rattle.vf_responder.specs.Represents.{Does, kept_of, put_back, with_link}
+use Rattle.vf_responder.proofs.FullLemmas.{piece-full}
 use Rattle.vf_responder.proofs.keeping.Keeping.hear_all.Goals as goal
 
 pub loop-rest-init : goal.loop-rest-init
@@ -133,3 +135,10 @@ returns-clause-answers g c = λ serving represents.
     let none : length c.loop-rest.rest.now ≡ 0 = grind (arith, common_steps) in
     none-left c.args.moment c.args.link.now.number (octets_heard c.args.moment c.args.link.now.number serving c.args.octets.now) serving c.args.replies.now.items c.loop-rest.replies.items
     (with_link c.loop-rest.link (kept_of c.loop-rest.self)) c.loop-rest.rest.now none (c.loop-rest.invariant.answers serving represents)
+
+pub returns-in_err-hear_few-clause-full : goal.returns-in_err-hear_few-clause-full
+returns-in_err-hear_few-clause-full g c = λ serving represents.
+    let p = err_from_is_err_and c.from_residual.result c.from_residual.ensures.1 in
+    rw (p.1, p.2) (piece-full c.hear_few.new.self.store c.in_err-hear_few.field-0.0 c.args.moment c.args.link.now.number c.loop-rest.link.number c.args.octets.now c.loop-rest.rest.now c.split_at.result.0.now c.split_at.result.1.now
+    serving c.args.replies.now.items c.loop-rest.replies.items (with_link c.loop-rest.link (kept_of c.loop-rest.self)) c.loop-rest.invariant.number c.split_at.ensures.by_index.0 (c.loop-rest.invariant.answers serving represents)
+    c.in_err-hear_few.ensures.full)

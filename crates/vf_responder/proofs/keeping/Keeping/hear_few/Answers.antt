@@ -1,8 +1,10 @@
 use Rattle.std.proofs.Common.{◌∙◌, refl, sym}
+use Rattle.std.proofs.lemmas.Result.{err_from_is_err_and}
 use Rattle.vf_responder.proofs.BegunLemmas.{still-along}
 use Rattle.vf_responder.proofs.HearLemmas.{few-ended, few-gone, few-open, few-represented, few-run}
 use Rattle.vf_responder.specs.Answers.{octets_heard}
 use Rattle.vf_responder.specs.Represents.{kept_of, with_link}
+use Rattle.vf_responder.proofs.HearLemmas.{few-full}
 use Rattle.vf_responder.proofs.keeping.Keeping.hear_few.Goals as goal
 
 pub returns-in_err-told-clause-any_moment : goal.returns-in_err-told-clause-any_moment
@@ -79,3 +81,10 @@ returns-clause-any_moment g c =
     few-run c.args.moment c.args.link.now c.hear.new.self (kept_of c.args.self.now) c.args.octets.now c.in_ok-told.told.items c.args.replies.now.items c.hear.new.replies.items
     c.in_ok-told.ensures.heard c.hear.ensures.party c.hear.ensures.number c.requires.few c.requires.some
     g.D.Disk.shown g.D.Disk.may_leave g.D.Disk.moment g.D.Disk.left_since (kept_of c.tell_all.new.self) c.tell_all.ensures.any_moment
+
+pub returns-in_err-tell_all-clause-full : goal.returns-in_err-tell_all-clause-full
+returns-in_err-tell_all-clause-full g c = λ serving represents.
+    let p = err_from_is_err_and c.from_residual-in_err-tell_all.result c.from_residual-in_err-tell_all.ensures.1 in
+    rw (p.1, p.2) (few-full c.args.moment c.args.link.now c.hear.new.self (kept_of c.args.self.now) c.args.octets.now c.in_ok-told.told.items c.args.replies.now.items c.hear.new.replies.items
+    c.in_ok-told.ensures.heard c.hear.ensures.party c.hear.ensures.number c.requires.few c.requires.some
+    c.tell_all.new.self.store c.in_err-tell_all.field-0.0 c.in_err-tell_all.ensures.full serving represents)

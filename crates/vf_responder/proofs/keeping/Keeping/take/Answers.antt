@@ -7,6 +7,7 @@ use Rattle.vf_tables.specs.declared.tables.Tables.{Tables}
 use Rattle.vf_responder.specs.Represents.{KeepsAlong, kept_of, with_link}
 use Rattle.vf_responder.specs.Steps.{IsAsked, TakesOn, taking}
 use Rattle.vf_responder.proofs.TakeLemmas.{said-of, still-along, take-along, take-answers, take-kept}
+use Rattle.vf_responder.proofs.FullLemmas.{take-full}
 use Rattle.vf_responder.proofs.keeping.Keeping.take.Given.{Over}
 use Rattle.vf_responder.proofs.keeping.Keeping.take.Goals as goal
 use Rattle.vf_responder.proofs.keeping.Keeping.take.Goals.{After-give_way, After-keep}
@@ -68,3 +69,9 @@ returns-clause-answers g c = λ indication read ask.
     (said-of link c.turn.new.self c.say.new.self c.args.asked outcome.said.items outcome.party c.give_way.new.replies.items c.say.new.replies.items
     c.turn.ensures.stack c.turn.ensures.number c.in_ok-goes.ensures.said)
     c.in_ok-goes.ensures.goes c.in_ok-goes.ensures.party (c.say.ensures.number ∙ c.turn.ensures.number)
+
+pub returns-in-Err-clause-full : goal.returns-in-Err-clause-full
+returns-in-Err-clause-full g c = λ indication read ask serving represents.
+    take-full c.args.link.now (kept_of c.args.self.now) (kept_of c.give_way.new.self) c.turn.new.locks c.args.moment c.args.asked c.args.message c.in_ok-party.field-0
+    c.args.replies.now.items c.give_way.new.replies.items c.keep.new.self.store c.in-Err.error c.in-Ok.ensures.way (turned g (goal.at.returns-in-Err-clause-full g c).After-keep)
+    c.in-Err.ensures.full indication ask serving represents

@@ -1,69 +1,62 @@
-use Rattle.std.proofs.Common.{refl}
-use Rattle.vf_filestore.specs.Ranges.{IsRead}
+use Rattle.std.proofs.Common.{List, refl, sym, subst}
 use Rattle.vf_responder.specs.Answers.{told}
-use Rattle.vf_responder.specs.Represents.{KeepsAlong, kept_of, with_link}
-use Rattle.vf_responder.specs.Serving.{Serving}
-use Rattle.vf_responder.specs.Steps.{IsReadTold}
+use Rattle.vf_responder.specs.Represents.{kept_of}
 use Rattle.vf_responder.proofs.TakeLemmas.{still-along}
-use Rattle.vf_responder.proofs.TellLemmas.{AsksSo, asks-so, read-so, run-takes, tell-takes, told-faults, told-nothing}
-use Rattle.vf_responder.proofs.keeping.Keeping.tell.Given.{Over}
+use Rattle.vf_responder.proofs.TellLemmas.{asks-so, read-so, run-takes, tell-takes, told-faults, told-nothing}
+use Rattle.vf_responder.specs.Answers.{Answer}
+use Rattle.vf_responder.specs.Full.{IsFullAt, WhereFull}
+use Rattle.vf_responder.proofs.TellLemmas.{told-takes}
 use Rattle.vf_responder.proofs.keeping.Keeping.tell.Goals as goal
-use Rattle.vf_responder.proofs.keeping.Keeping.tell.Goals.{After-meaning_of, After-take}
 
--- what is asked of the link
-asks : (g : Over) (c : After-meaning_of g) (serving : Serving) → AsksSo c.args.link.now (kept_of c.args.self.now) serving c.next_serial-next.result c.last_check_of.result
-asks g c serving = asks-so c.args.link.now (kept_of c.args.self.now) serving c.next_serial-next.result c.last_check_of.result c.next_serial-next.ensures.association c.last_check_of.ensures
-
--- where the disk isn't called nothing else is represented
-unchanged : (g : Over) (c : After-meaning_of g) → IsReadTold c.args.indication
-    → KeepsAlong (λ serving. told c.args.moment c.args.link.now.number serving c.args.indication) g.D.Disk.shown g.D.Disk.may_leave g.D.Disk.moment g.D.Disk.left_since
-    (with_link c.args.link.now (kept_of c.args.self.now)) (kept_of c.args.self.now)
-unchanged g c read =
+pub returns-in_err-said-in-Faults-clause-any_moment : goal.returns-in_err-said-in-Faults-clause-any_moment
+returns-in_err-said-in-Faults-clause-any_moment g c = λ read.
     still-along g.D.Disk.shown g.D.Disk.may_leave g.D.Disk.moment g.D.Disk.left_since g.met.D.Disk.only_now c.args.link.now (kept_of c.args.self.now) c.args.self.now.store
     (λ serving. told c.args.moment c.args.link.now.number serving c.args.indication) refl
 
--- ---- a message
-
--- it was read
-was_read : (g : Over) (c : After-take g) → IsReadTold c.args.indication → IsRead c.in-Takes.message
-was_read g c read = read-so c.args.indication c.next_serial-next.result c.last_check_of.result c.in-Takes.message read c.in-Takes.ensures
+pub returns-in_err-leave-in-Faults-clause-any_moment : goal.returns-in_err-leave-in-Faults-clause-any_moment
+returns-in_err-leave-in-Faults-clause-any_moment g c = λ read.
+    still-along g.D.Disk.shown g.D.Disk.may_leave g.D.Disk.moment g.D.Disk.left_since g.met.D.Disk.only_now c.args.link.now (kept_of c.args.self.now) c.args.self.now.store
+    (λ serving. told c.args.moment c.args.link.now.number serving c.args.indication) refl
 
 pub returns-in-Takes-clause-answers : goal.returns-in-Takes-clause-answers
 returns-in-Takes-clause-answers g c = λ read.
     tell-takes c.args.moment c.args.link.now c.take.new.link (kept_of c.args.self.now) (kept_of c.take.new.self) c.args.indication c.next_serial-next.result c.last_check_of.result c.in-Takes.message
-    c.args.replies.now.items c.take.new.replies.items c.take.result c.in-Takes.ensures (asks g (goal.at.returns-in-Takes-clause-answers g c).After-meaning_of)
-    (c.take.ensures.answers c.args.indication (was_read g (goal.at.returns-in-Takes-clause-answers g c).After-take read) c.asked_by-asked.ensures)
+    c.args.replies.now.items c.take.new.replies.items c.take.result c.in-Takes.ensures
+    (λ serving. asks-so c.args.link.now (kept_of c.args.self.now) serving c.next_serial-next.result c.last_check_of.result c.next_serial-next.ensures.association c.last_check_of.ensures)
+    (c.take.ensures.answers c.args.indication (read-so c.args.indication c.next_serial-next.result c.last_check_of.result c.in-Takes.message read c.in-Takes.ensures) c.asked_by-asked.ensures)
 
 pub returns-in-Takes-clause-any_moment : goal.returns-in-Takes-clause-any_moment
 returns-in-Takes-clause-any_moment g c = λ read serving represents stands.
     run-takes c.args.self.now.store.disk c.take.new.self.store.disk g.D.Disk.moment g.D.Disk.left_since c.args.moment c.args.link.now (kept_of c.args.self.now) serving c.args.indication
-    c.next_serial-next.result c.last_check_of.result c.in-Takes.message represents (asks g (goal.at.returns-in-Takes-clause-any_moment g c).After-meaning_of serving) c.in-Takes.ensures
-    (c.take.ensures.any_moment c.args.indication (was_read g (goal.at.returns-in-Takes-clause-any_moment g c).After-take read) c.asked_by-asked.ensures serving represents stands)
-
--- ---- a fault
-
-pub returns-in_err-said-in-Faults-clause-any_moment : goal.returns-in_err-said-in-Faults-clause-any_moment
-returns-in_err-said-in-Faults-clause-any_moment g c = unchanged g (goal.at.returns-in_err-said-in-Faults-clause-any_moment g c).After-meaning_of
-
-pub returns-in_err-leave-in-Faults-clause-any_moment : goal.returns-in_err-leave-in-Faults-clause-any_moment
-returns-in_err-leave-in-Faults-clause-any_moment g c = unchanged g (goal.at.returns-in_err-leave-in-Faults-clause-any_moment g c).After-meaning_of
+    c.next_serial-next.result c.last_check_of.result c.in-Takes.message represents
+    (asks-so c.args.link.now (kept_of c.args.self.now) serving c.next_serial-next.result c.last_check_of.result c.next_serial-next.ensures.association c.last_check_of.ensures) c.in-Takes.ensures
+    (c.take.ensures.any_moment c.args.indication (read-so c.args.indication c.next_serial-next.result c.last_check_of.result c.in-Takes.message read c.in-Takes.ensures) c.asked_by-asked.ensures serving represents stands)
 
 pub returns-in_ok-leave-in-Faults-clause-answers : goal.returns-in_ok-leave-in-Faults-clause-answers
 returns-in_ok-leave-in-Faults-clause-answers g c = λ read serving represents.
     told-faults c.args.moment c.args.link.now (kept_of c.args.self.now) (record (kept_of c.args.self.now) { locks = c.leave.new.locks }) serving c.args.indication
     c.next_serial-next.result c.last_check_of.result c.in-Faults.number c.in-Faults.place c.args.replies.now.items c.leave.new.replies.items c.in_ok-said-in-Faults.said.items represents
-    (asks g (goal.at.returns-in_ok-leave-in-Faults-clause-answers g c).After-meaning_of serving) c.in-Faults.ensures
+    (asks-so c.args.link.now (kept_of c.args.self.now) serving c.next_serial-next.result c.last_check_of.result c.next_serial-next.ensures.association c.last_check_of.ensures) c.in-Faults.ensures
     c.in_ok-said-in-Faults.ensures c.leave.ensures.leaves refl refl (λ a called. (c.in_ok-leave-in-Faults.ensures.said a called).spoken)
 
 pub returns-in_ok-leave-in-Faults-clause-any_moment : goal.returns-in_ok-leave-in-Faults-clause-any_moment
-returns-in_ok-leave-in-Faults-clause-any_moment g c = unchanged g (goal.at.returns-in_ok-leave-in-Faults-clause-any_moment g c).After-meaning_of
-
--- ---- nothing
+returns-in_ok-leave-in-Faults-clause-any_moment g c = λ read.
+    still-along g.D.Disk.shown g.D.Disk.may_leave g.D.Disk.moment g.D.Disk.left_since g.met.D.Disk.only_now c.args.link.now (kept_of c.args.self.now) c.args.self.now.store
+    (λ serving. told c.args.moment c.args.link.now.number serving c.args.indication) refl
 
 pub returns-in-Nothing-clause-answers : goal.returns-in-Nothing-clause-answers
 returns-in-Nothing-clause-answers g c = λ read serving represents.
     told-nothing c.args.moment c.args.link.now (kept_of c.args.self.now) serving c.args.indication c.next_serial-next.result c.last_check_of.result c.args.replies.now.items represents
-    (asks g (goal.at.returns-in-Nothing-clause-answers g c).After-meaning_of serving) c.in-Nothing.ensures
+    (asks-so c.args.link.now (kept_of c.args.self.now) serving c.next_serial-next.result c.last_check_of.result c.next_serial-next.ensures.association c.last_check_of.ensures) c.in-Nothing.ensures
 
 pub returns-in-Nothing-clause-any_moment : goal.returns-in-Nothing-clause-any_moment
-returns-in-Nothing-clause-any_moment g c = unchanged g (goal.at.returns-in-Nothing-clause-any_moment g c).After-meaning_of
+returns-in-Nothing-clause-any_moment g c = λ read.
+    still-along g.D.Disk.shown g.D.Disk.may_leave g.D.Disk.moment g.D.Disk.left_since g.met.D.Disk.only_now c.args.link.now (kept_of c.args.self.now) c.args.self.now.store
+    (λ serving. told c.args.moment c.args.link.now.number serving c.args.indication) refl
+
+pub returns-in-Takes-clause-full : goal.returns-in-Takes-clause-full
+returns-in-Takes-clause-full g c = λ read serving represents.
+    subst (λ (answers : List Answer). WhereFull c.take.result (λ place. IsFullAt answers serving c.take.new.self.store place))
+    (sym (told-takes c.args.moment c.args.link.now (kept_of c.args.self.now) serving c.args.indication c.next_serial-next.result c.last_check_of.result c.in-Takes.message represents
+    (asks-so c.args.link.now (kept_of c.args.self.now) serving c.next_serial-next.result c.last_check_of.result c.next_serial-next.ensures.association c.last_check_of.ensures) c.in-Takes.ensures))
+    (c.take.ensures.full c.args.indication (read-so c.args.indication c.next_serial-next.result c.last_check_of.result c.in-Takes.message read c.in-Takes.ensures) c.asked_by-asked.ensures serving represents)
