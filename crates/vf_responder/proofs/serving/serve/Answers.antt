@@ -1,4 +1,4 @@
-use Rattle.std.proofs.Common.{◌≡◌, sym, subst}
+use Rattle.std.proofs.Common.{sym, subst}
 use Rattle.vf_disk.specs.Disk.{LeavesOnly}
 use Rattle.vf_responder.proofs.Serves.{not_opened, not_opened_kept, opened_along}
 use Rattle.vf_responder.specs.Served.{KeepsAnswered, RepresentsServed, Serves}
