@@ -1,18 +1,18 @@
 -- A link on which no party stands: none comes to stand on it but by its arrival, and nothing is spoken on it.
-use Rattle.std.proofs.Common.{◌≡◌, ℕ, Bool, true, false, cond, not, is_some, List, [], ◌∷◌, ◌++◌, length, map, nat_eq, nat_le, nat_lt, Option, None, Some, refl, ap, sym, subst, ◌∙◌, ◌&&◌}
+use Rattle.std.proofs.Common.{◌≡◌, ℕ, Bool, true, false, cond, not, is_some, List, [], ◌∷◌, nat_eq, nat_le, Option, None, Some, refl, ap, sym, ◌∙◌}
 use Rattle.std.specs.Prelude.{count_by, find}
-use Rattle.std.specs.List.{AllByRecursion, flat_map}
+use Rattle.std.specs.List.{AllByRecursion}
 use Rattle.std.proofs.lemmas.Bool.{eqb-true}
 use Rattle.vf_elements.specs.declared.message.Message.{Message}
 use Rattle.vf_elements.specs.declared.message.Message.TheVariants as messages
 use Rattle.vf_elements.specs.declared.message.Said.{Said}
-use Rattle.vf_filestore.proofs.Lists.{all-filter, all_append}
-use Rattle.vf_filestore.proofs.Parties.{IsOff, Located, located}
+use Rattle.vf_filestore.proofs.Lists.{all-filter}
+use Rattle.vf_filestore.proofs.Parties.{IsOff}
 use Rattle.vf_filestore.specs.Aborts.{Setting}
 use Rattle.vf_filestore.specs.Conclusion.{Answered, concluded, concluding_entry, gone_where_aborted, grants, has_abort}
 use Rattle.vf_filestore.specs.Decision.{Decision, Aborts, Refuses, Grants, Waits, Groups, Ends, Leaves, decision, trial_decision}
 use Rattle.vf_filestore.specs.Dockets.{broken}
-use Rattle.vf_filestore.specs.Groups.{Trial, group_answer, groups, is_good, trial, trial_by, trial_step}
+use Rattle.vf_filestore.specs.Groups.{Trial, groups, is_good, trial, trial_by, trial_step}
 use Rattle.vf_filestore.specs.History.{Entry, Given}
 use Rattle.vf_filestore.specs.State.{State, StandingParty, is_of_link, party_of, with_party, without_party}
 use Rattle.vf_filestore.specs.Stage.{Group}

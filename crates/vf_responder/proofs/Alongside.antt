@@ -1,9 +1,9 @@
 -- Images along the answers to some events, and to more.
-use Rattle.std.proofs.Common.{◌≡◌, ℕ, zero, suc, List, [], ◌∷◌, ◌++◌, length, take, refl, ap, sym, subst, arith}
+use Rattle.std.proofs.Common.{◌≡◌, ℕ, zero, suc, List, [], ◌∷◌, ◌++◌, length, take, refl, subst, arith}
 use Rattle.vf_store.specs.Represented.{Represents}
 use Rattle.vf_responder.specs.Along.{RepresentsAlong, RepresentsPast}
 use Rattle.vf_responder.specs.Answers.{Answer, at_end}
-use Rattle.vf_responder.specs.Run.{after, tables_in}
+use Rattle.vf_responder.specs.Run.{tables_in}
 use Rattle.vf_responder.specs.Serving.{Serving}
 
 pub along_first : (serving : Serving) (first later : List Answer) (image : List ℕ) → RepresentsAlong serving first image → RepresentsAlong serving (first ++ later) image

@@ -1,7 +1,7 @@
 -- What is answered to an event leaves alone a link on which no party stands, unless it arrives: nothing is spoken on it, and none comes to stand on it.
-use Rattle.std.proofs.Common.{◌≡◌, ℕ, Bool, true, false, cond, not, is_some, List, [], ◌∷◌, ◌++◌, length, nat_eq, nat_lt, Option, None, Some, refl, ap, sym, subst, ◌∙◌, ◌&&◌, append_assoc}
+use Rattle.std.proofs.Common.{◌≡◌, ℕ, Bool, true, false, cond, not, is_some, List, [], ◌∷◌, ◌++◌, length, nat_eq, nat_lt, Option, None, Some, refl, ap, sym, subst, ◌∙◌, ◌&&◌}
 use Rattle.std.specs.Prelude.{IfSome, find}
-use Rattle.std.specs.List.{AllByRecursion, flat_map}
+use Rattle.std.specs.List.{AllByRecursion}
 use Rattle.vf_base.specs.declared.events.ScriptEvent.{ScriptEvent}
 use Rattle.vf_base.specs.declared.events.ScriptEvent.TheVariants.{Arrived, Octets, Ended}
 use Rattle.vf_elements.specs.Stages.{takes}
@@ -17,16 +17,15 @@ use Rattle.vf_filestore.specs.Stage.{stage}
 use Rattle.vf_filestore.specs.State.{State, StandingParty, arrived, identity_of, is_of_link, party_of}
 use Rattle.vf_filestore.specs.Transition.{aborts, leaves, superseded_by}
 use Rattle.vf_pdu.specs.declared.pdu.Pdu.TheVariants.{RecoverRequest}
-use Rattle.vf_stack.specs.Association.{Association, is_ended}
+use Rattle.vf_stack.specs.Association.{is_ended}
 use Rattle.vf_stack.specs.declared.indication.Indication.{Indication}
 use Rattle.vf_stack.specs.declared.indication.Indication.TheVariants as indications
-use Rattle.vf_responder.proofs.Absent.{IsAbsent, aborts_absent, absent_of, answered_absent, broken_gone, found_off, leaves_absent, none_of}
-use Rattle.vf_responder.specs.Answers.{Answer, after_octet, answering, answering_on, arrival, at_end, breaking, ended, given_to, giving_way, in_the_way, is_silent, most_links, octet_heard, octets_heard, says, setting_at, speaking, spoken_in, told, told_all, with_octet}
-use Rattle.vf_responder.specs.Meanings.{Meaning, Takes, Faults, Nothing, meaning, transfer_check}
-use Rattle.vf_responder.specs.Run.{run, trail}
+use Rattle.vf_responder.proofs.Absent.{IsAbsent, aborts_absent, absent_of, answered_absent, broken_gone, found_off, leaves_absent}
+use Rattle.vf_responder.specs.Answers.{Answer, answering, answering_on, arrival, at_end, breaking, ended, given_to, giving_way, in_the_way, is_silent, most_links, octet_heard, octets_heard, says, setting_at, speaking, spoken_in, told, told_all, with_octet}
+use Rattle.vf_responder.specs.Meanings.{Meaning, Takes, Faults, Nothing}
+use Rattle.vf_responder.specs.Run.{trail}
 use Rattle.vf_responder.specs.Serving.{Serving, stands}
 use Rattle.vf_responder.specs.declared.event.Reply.{Reply}
-use Rattle.vf_session.specs.Trace.{next}
 
 abbrev pub IsElsewhere : ℕ → Reply → Type 0
 IsElsewhere link reply = nat_eq reply.link link ≡ false

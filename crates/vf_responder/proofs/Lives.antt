@@ -1,12 +1,12 @@
 -- The run over the events that links told, with one more: its replies were sent, and the links on which that failed have ended.
 use Rattle.std.proofs.Common.{◌≡◌, ℕ, ◌+◌, ◌<◌, ◌≤◌, Bool, true, false, cond, not, ◌&&◌, ◌||◌, List, [], ◌∷◌, ◌++◌, ◌-◌, length, map, nat_eq, take, refl, ap, sym, subst, ◌∙◌, append_assoc, append-nil, length-append, arith}
-use Rattle.std.specs.List.{AllByRecursion, flat_map, list_any}
+use Rattle.std.specs.List.{AllByRecursion}
 use Rattle.std.proofs.lemmas.Bool.{eq-eqb, eqb-true}
 use Rattle.std.proofs.lemmas.List.{length-take-le, take-append-le, take_all}
 use Rattle.vf_base.specs.Links.{Traffic, arrives, has_arrived, has_note}
 use Rattle.vf_base.specs.declared.events.ScriptEvent.{ScriptEvent}
 use Rattle.vf_base.specs.declared.events.ScriptEvent.TheVariants.{Arrived, Octets, Ended}
-use Rattle.vf_filestore.proofs.Lists.{all_append, all_map, all_right, all_weaker, flat_map-append}
+use Rattle.vf_filestore.proofs.Lists.{all_append, all_right, all_weaker, flat_map-append}
 use Rattle.vf_filestore.proofs.Parties.{IsOff, nat_eq_flips}
 use Rattle.vf_responder.proofs.Absent.{IsAbsent}
 use Rattle.vf_responder.proofs.Avoided.{Avoids, IsElsewhere, IsNoArrival, at_end-append, end_is_absent, end_is_silent, spoken_in-append, trail_avoids}
@@ -14,7 +14,7 @@ use Rattle.vf_responder.proofs.Sent.{any-append, lost_notes}
 use Rattle.vf_responder.specs.Answers.{Answer, at_end, spoken_in}
 use Rattle.vf_responder.specs.Run.{run, trail}
 use Rattle.vf_responder.specs.Sends.{AreSent, IsFresh, breaks, is_lost}
-use Rattle.vf_responder.specs.Served.{IsFront, IsSent, breaks_at, is_noted_at, is_shut, lived, lived_from, lived_with, octets_by, octets_on, octets_to, untold}
+use Rattle.vf_responder.specs.Served.{IsFront, IsSent, breaks_at, is_noted_at, is_shut, lived, lived_from, octets_by, octets_on, octets_to, untold}
 use Rattle.vf_responder.specs.Serving.{Serving}
 use Rattle.vf_responder.specs.declared.event.Reply.{Reply}
 

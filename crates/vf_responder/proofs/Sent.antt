@@ -1,13 +1,13 @@
 -- What is taken on links as replies are sent one after another.
-use Rattle.std.proofs.Common.{◌≡◌, ℕ, ◌<◌, ◌⊎◌, inl, inr, Bool, true, false, cond, not, ◌&&◌, ◌||◌, zero, suc, ◌+◌, List, [], ◌∷◌, ◌++◌, take, get_or, length, map, nat_eq, nat_lt, Option, None, Some, refl, ap, sym, subst, ◌∙◌, append_assoc, append-nil, arith}
-use Rattle.std.specs.List.{AllByRecursion, flat_map, list_any}
-use Rattle.std.proofs.lemmas.Bool.{eq-eqb, eqb-true}
+use Rattle.std.proofs.Common.{◌≡◌, ℕ, ◌<◌, inl, inr, Bool, true, false, cond, not, ◌&&◌, ◌||◌, zero, suc, ◌+◌, List, [], ◌∷◌, ◌++◌, take, get_or, length, map, nat_eq, nat_lt, Option, Some, refl, ap, sym, subst, ◌∙◌, append_assoc, append-nil, arith}
+use Rattle.std.specs.List.{AllByRecursion, list_any}
+use Rattle.std.proofs.lemmas.Bool.{eqb-true}
 use Rattle.std.proofs.lemmas.List.{take_more}
 use Rattle.vf_base.specs.Links.{Traffic, after_fault, after_octets, after_shut, has_arrived, has_note, noted}
 use Rattle.vf_base.specs.declared.events.ScriptEvent.{ScriptEvent}
 use Rattle.vf_filestore.proofs.Lists.{all_right, flat_map-append}
 use Rattle.vf_filestore.proofs.Parties.{nat_eq_flips}
-use Rattle.vf_responder.specs.Sends.{AreSent, Fails, Goes, IsFresh, Passes, SendsReply, Tries, after_end, is_due, is_lost}
+use Rattle.vf_responder.specs.Sends.{AreSent, IsFresh, SendsReply, Tries, after_end, is_due, is_lost}
 use Rattle.vf_responder.specs.Served.{is_shut, octets_by, octets_on}
 use Rattle.vf_responder.specs.declared.event.Reply.{Reply}
 

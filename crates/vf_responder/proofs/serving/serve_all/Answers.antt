@@ -1,7 +1,6 @@
-use Rattle.std.proofs.Common.{◌≡◌, ◌∙◌, ℕ, List, [], Option, None, Some, Result, Ok, Err, refl, ap, sym, subst}
+use Rattle.std.proofs.Common.{◌≡◌, ◌∙◌, ℕ, List, Option, Some, Result, Ok, Err, refl, ap, sym, subst}
 use Rattle.std.proofs.lemmas.Result.{err_from_is_err_and}
 use Rattle.vf_base.specs.declared.events.LinkEvent.{LinkEvent}
-use Rattle.vf_journal.specs.declared.error.JournalError.{JournalError}
 use Rattle.vf_responder.proofs.Serves.{IsServed, comes, ends_along, ends_kept, ends_well, fails_along, fails_kept, fails_next, served_first, served_on, stops_along, stops_kept, stops_serving}
 use Rattle.vf_responder.specs.Sends.{IsEventNext, RisesNext, TakesNext}
 use Rattle.vf_responder.specs.Served.{KeepsAnswered, Serves}
