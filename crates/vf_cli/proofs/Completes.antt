@@ -1,19 +1,12 @@
 -- A command that no fault of the outside keeps from its end has its own status, or that of want of memory.
-use Rattle.std.proofs.Common.{◌≡◌, inl, inr, ⊎_elim, ℕ, List, [], ◌∷◌, Option, Some, None, Result, Ok, Err, arith, subst, sym, ◌∙◌}
+use Rattle.std.proofs.Common.{◌≡◌, inl, inr, ⊎_elim, ℕ, List, [], ◌∷◌, Option, Some, None, arith, subst, sym, ◌∙◌}
 use Rattle.vf_attr.specs.declared.file.File.{File}
-use Rattle.vf_cli.specs.Ftam.{list_status, serve_statuses}
+use Rattle.vf_cli.specs.Ftam.{list_status}
 use Rattle.vf_cli_dialogue.specs.Dialogue.{MeetsDialogue, dialogue}
 use Rattle.vf_cli_printing.specs.Printed.{IsOneOf, Printed, Prints}
-use Rattle.vf_cli_serve.specs.Served.{EndsServe, PrintsServed}
-use Rattle.vf_journal.specs.Image.{Refusal, refusal}
-use Rattle.vf_journal.specs.declared.error.JournalError.TheVariants as errors
-use Rattle.vf_responder.specs.Served.{Refuses}
-use Rattle.vf_responder.specs.declared.error.ServeError.{ServeError}
-use Rattle.vf_responder.specs.declared.error.ServeError.TheVariants.{Respond, LinksFault, NoMemory}
-use Rattle.vf_responder.specs.declared.serving.Served.{Served}
+use Rattle.vf_journal.specs.Image.{Refusal}
 use Rattle.vf_store_commands.specs.ErrorLines.{no_store_line}
 use Rattle.vf_store_commands.specs.Listing.{EndsList, PrintsOpened, file_lines}
-use Rattle.vf_store_commands.specs.Making.{EndsInit}
 
 -- STATUSES that a command never has
 abbrev AreOthers : List ℕ → ℕ → Type 0
@@ -28,33 +21,12 @@ pub dialogue_never_five : (status : ℕ) → IsOneOf (0 ∷ 7 ∷ 11 ∷ 3 ∷ 4
 dialogue_never_five status =
     never (0 ∷ 7 ∷ 11 ∷ 3 ∷ 4 ∷ 9 ∷ []) 5 status ((λ e. omega arith), ((λ e. omega arith), ((λ e. omega arith), ((λ e. omega arith), ((λ e. omega arith), ((λ e. omega arith), tt))))))
 
-pub dialogue_never_ten : (status : ℕ) → IsOneOf (0 ∷ 7 ∷ 11 ∷ 3 ∷ 4 ∷ 9 ∷ []) status → status ≡ 10 → ⊥
-dialogue_never_ten status =
-    never (0 ∷ 7 ∷ 11 ∷ 3 ∷ 4 ∷ 9 ∷ []) 10 status ((λ e. omega arith), ((λ e. omega arith), ((λ e. omega arith), ((λ e. omega arith), ((λ e. omega arith), ((λ e. omega arith), tt))))))
-
-pub init_never_ten : (status : ℕ) → EndsInit status → status ≡ 10 → ⊥
-init_never_ten status =
-    never (0 ∷ 3 ∷ 4 ∷ 5 ∷ 8 ∷ 9 ∷ 11 ∷ 12 ∷ []) 10 status
-    ((λ e. omega arith), ((λ e. omega arith), ((λ e. omega arith), ((λ e. omega arith), ((λ e. omega arith), ((λ e. omega arith), ((λ e. omega arith), ((λ e. omega arith), tt))))))))
-
-pub list_never_ten : (status : ℕ) → EndsList status → status ≡ 10 → ⊥
-list_never_ten status =
-    never (0 ∷ 4 ∷ 5 ∷ 8 ∷ 9 ∷ 12 ∷ []) 10 status ((λ e. omega arith), ((λ e. omega arith), ((λ e. omega arith), ((λ e. omega arith), ((λ e. omega arith), ((λ e. omega arith), tt))))))
-
-pub serve_never_three : (status : ℕ) → EndsServe status → status ≡ 3 → ⊥
-serve_never_three status =
-    never (0 ∷ 4 ∷ 5 ∷ 8 ∷ 9 ∷ 10 ∷ 12 ∷ []) 3 status
-    ((λ e. omega arith), ((λ e. omega arith), ((λ e. omega arith), ((λ e. omega arith), ((λ e. omega arith), ((λ e. omega arith), ((λ e. omega arith), tt)))))))
-
 pub list_never_three : (status : ℕ) → EndsList status → status ≡ 3 → ⊥
 list_never_three status =
     never (0 ∷ 4 ∷ 5 ∷ 8 ∷ 9 ∷ 12 ∷ []) 3 status ((λ e. omega arith), ((λ e. omega arith), ((λ e. omega arith), ((λ e. omega arith), ((λ e. omega arith), ((λ e. omega arith), tt))))))
 
 pub usage_never_three : (status : ℕ) → IsOneOf (2 ∷ 4 ∷ []) status → status ≡ 3 → ⊥
 usage_never_three status = never (2 ∷ 4 ∷ []) 3 status ((λ e. omega arith), ((λ e. omega arith), tt))
-
-pub usage_never_ten : (status : ℕ) → IsOneOf (2 ∷ 4 ∷ []) status → status ≡ 10 → ⊥
-usage_never_ten status = never (2 ∷ 4 ∷ []) 10 status ((λ e. omega arith), ((λ e. omega arith), tt))
 
 pub usage_never_five : (status : ℕ) → IsOneOf (2 ∷ 4 ∷ []) status → status ≡ 5 → ⊥
 usage_never_five status = never (2 ∷ 4 ∷ []) 5 status ((λ e. omega arith), ((λ e. omega arith), tt))
@@ -92,27 +64,3 @@ module _ (status : ℕ) (three : status ≡ 3 → ⊥) (four : status ≡ 4 → 
       ⊎_elim (λ outside. inr (inl (nine (inr (inr outside.0)))))
       (λ printed. ⊎_elim (λ memory. inr (inl memory.0))
       (λ some. ends (4 ∷ []) (record { octets = file_lines some.0; status = 0 }) old new only_four some.2) printed) prints
-
--- the statuses of `serve`, in which nothing but the links failed
-module _ (status : ℕ) (four : status ≡ 4 → ⊥) (five : status ≡ 5 → ⊥) where
-  or_nine : (printed : Printed) (old new : Option (List ℕ)) → Prints (4 ∷ 9 ∷ []) printed status old new → IsOneOf (printed.status ∷ 9 ∷ []) status
-  or_nine printed old new prints =
-      ⊎_elim (λ all. inl all.0) (λ some. inr (⊎_elim (λ e. absurd (four e)) (λ rest. rest) some.0)) prints
-
-  none_refused : (image : List ℕ) → None ≡ refusal image → IsOneOf (serve_statuses None) status → IsOneOf (serve_statuses (refusal image)) status
-  none_refused image is ends = subst (λ (refused : Option Refusal). IsOneOf (serve_statuses refused) status) is ends
-
-  at_nine : IsOneOf (9 ∷ []) status → IsOneOf (serve_statuses None) status
-  at_nine nine = inr (⊎_elim (λ e. inl e) (λ none. absurd none) nine)
-
-  pub serve_ends : (image : List ℕ) (answer : Result Served ServeError) (old new : Option (List ℕ)) → PrintsServed answer status old new → Refuses image answer
-      → IsOneOf (serve_statuses (refusal image)) status
-  serve_ends image (Ok served) old new prints is = none_refused image is (⊎_elim (λ e. inl e) at_nine (or_nine _ old new prints))
-  serve_ends image (Err LinksFault) old new prints is = none_refused image is (inr (inr (inl prints.0)))
-  serve_ends image (Err NoMemory) old new prints is = none_refused image is (inr (inl prints.0))
-  serve_ends image (Err (Respond errors.DiskFault)) old new prints is = absurd (five prints.0)
-  serve_ends image (Err (Respond errors.NoMemory)) old new prints is = none_refused image is (inr (inl prints.0))
-  serve_ends image (Err (Respond (errors.Full length bound))) old new prints is =
-      none_refused image is (⊎_elim (λ e. inr (inr (inr (inl e)))) at_nine (or_nine _ old new prints))
-  serve_ends image (Err (Respond (errors.NotAStore place found expected))) old new prints is =
-      subst (λ (refused : Option Refusal). IsOneOf (serve_statuses refused) status) is (or_nine _ old new prints)

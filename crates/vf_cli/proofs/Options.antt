@@ -1,5 +1,5 @@
 -- The options of words, as they are read one after another.
-use Rattle.std.proofs.Common.{◌≡◌, ◌∙◌, ℕ, ◌-◌, ◌≤◌, cond, List, [], ◌∷◌, Option, Some, None, drop, get_or, is_some, length, take, option_and_then, refl, ap, sym, arith}
+use Rattle.std.proofs.Common.{◌≡◌, ◌∙◌, ℕ, ◌-◌, ◌≤◌, Bool, true, false, cond, List, [], ◌∷◌, Option, Some, None, drop, get_or, is_some, length, take, option_and_then, refl, ap, sym, arith}
 use Rattle.std.specs.List.{position}
 use Rattle.std.proofs.lemmas.List.{take_all}
 use Rattle.vf_cli.specs.Given.{Parts, first_at, first_of}

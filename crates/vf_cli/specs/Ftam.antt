@@ -2,12 +2,11 @@
 use Rattle.std.specs.Prelude.{◌≡◌, ℕ, Bool, true, false, List, [], ◌∷◌, ◌++◌, Option, None, Some, codes}
 use Rattle.vf_cli_dialogue.specs.Dialogue.{MeetsDialogue, dialogue}
 use Rattle.vf_cli_printing.specs.Printed.{Printed, Prints, line_feed}
-use Rattle.vf_cli_serve.specs.Served.{EndsServe}
 use Rattle.vf_journal.specs.Image.{Refusal, refusal}
 use Rattle.vf_store_commands.specs.Listing.{EndsList, PrintsList}
 use Rattle.vf_store_commands.specs.Making.{EndsInit, printed_by_init}
 use Rattle.vf_cli.specs.declared.command.Command.{Command}
-use Rattle.vf_cli.specs.declared.command.Command.TheVariants.{Dialogue, InitStore, ListFiles, Serve}
+use Rattle.vf_cli.specs.declared.command.Command.TheVariants.{Dialogue, InitStore, ListFiles}
 
 -- words outside the grammar, and they alone
 abbrev pub usage_line : List ℕ
@@ -18,7 +17,7 @@ usage = record { octets = usage_line; status = 2 }
 
 -- WHAT IS PRINTED. Of each command: by the octets of the disk and what the source had left before the call, and by what the
 -- sink had taken before and after it. Where the disk or the source don't tell what they have, only the statuses of the
--- command are owed. What `serve` prints goes by its links too, and stands in a definition of its own.
+-- command are owed.
 abbrev pub MeetsInit : ℕ → (disk left old new : Option (List ℕ)) → Type 0
 MeetsInit status disk left old new =
     EndsInit status
@@ -33,25 +32,17 @@ MeetsCommand None status disk left old new = Prints (4 ∷ []) usage status old 
 MeetsCommand (Some Dialogue) status disk left old new = MeetsDialogue status left old new
 MeetsCommand (Some InitStore) status disk left old new = MeetsInit status disk left old new
 MeetsCommand (Some ListFiles) status disk left old new = MeetsList status disk old new
-MeetsCommand (Some Serve) status disk left old new = EndsServe status
 
--- STATUSES. The statuses of a command where neither the disk nor the input or the output fails, for a disk of these octets and
--- for its input: the one that it comes to, and 9 where memory is wanting. Of `serve` the links may fail, and the store may come
--- to be full.
+-- STATUSES. The status of a command where nothing of the outside fails, for a disk of these octets and for its input
 abbrev pub list_status : Option Refusal → ℕ
 list_status None = 0
 list_status (Some refused) = 8
 
-abbrev pub serve_statuses : Option Refusal → List ℕ
-serve_statuses None = 0 ∷ 9 ∷ 10 ∷ 12 ∷ []
-serve_statuses (Some refused) = 8 ∷ 9 ∷ []
-
-abbrev pub statuses_of : Option Command → (disk input : List ℕ) → List ℕ
-statuses_of None disk input = 2 ∷ 9 ∷ []
-statuses_of (Some Dialogue) disk input = (dialogue input).status ∷ 9 ∷ []
-statuses_of (Some InitStore) disk input = (printed_by_init disk input).status ∷ 9 ∷ []
-statuses_of (Some ListFiles) disk input = list_status (refusal disk) ∷ 9 ∷ []
-statuses_of (Some Serve) disk input = serve_statuses (refusal disk)
+abbrev pub status_of : Option Command → (disk input : List ℕ) → ℕ
+status_of None disk input = 2
+status_of (Some Dialogue) disk input = (dialogue input).status
+status_of (Some InitStore) disk input = (printed_by_init disk input).status
+status_of (Some ListFiles) disk input = list_status (refusal disk)
 
 -- whether a command uses its disk
 abbrev pub uses_disk : Option Command → Bool
@@ -59,12 +50,3 @@ uses_disk None = false
 uses_disk (Some Dialogue) = false
 uses_disk (Some InitStore) = true
 uses_disk (Some ListFiles) = true
-uses_disk (Some Serve) = true
-
--- whether it uses its links
-abbrev pub uses_links : Option Command → Bool
-uses_links None = false
-uses_links (Some Dialogue) = false
-uses_links (Some InitStore) = false
-uses_links (Some ListFiles) = false
-uses_links (Some Serve) = true

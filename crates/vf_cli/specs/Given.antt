@@ -1,5 +1,5 @@
 -- The options that the code keeps, and the one with which words begin, as the definitions have them.
-use Rattle.std.specs.Prelude.{ℕ, ◌+◌, List, [], ◌∷◌, Option, None, Some, drop, take, option_copied}
+use Rattle.std.specs.Prelude.{ℕ, ◌+◌, ◌≡◌, List, [], ◌∷◌, Option, None, Some, drop, take, map, option_copied, string_bytes}
 use Rattle.std.specs.List.{position}
 use Rattle.vf_cli.specs.Words.{Given, is_equals}
 use Rattle.vf_cli.specs.declared.words.Options.{Options}

@@ -12,6 +12,12 @@ pub enum Command {
     ListFiles,
     /// `serve`: the associations that come to a port, over a store.
     Serve,
+    /// `put`: the input becomes the contents of a file of another filestore.
+    Put,
+    /// `get`: the contents of a file of another filestore are written to the output.
+    Get,
+    /// `generate`: files of drawn contents, over a store.
+    Generate,
 }
 
 /// What the command wants of the outside: the values of its options, where it has them.
@@ -19,6 +25,7 @@ pub enum Command {
 pub struct Wanted {
     /// The path of the store, 1 to 255 octets, each a printable character of ASCII.
     pub store: Option<Octets>,
+    /// The name or the address of the other end, in the same form.
     pub host: Option<Octets>,
     /// 1 to 65535.
     pub port: Option<u16>,

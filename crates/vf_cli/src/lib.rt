@@ -2,6 +2,7 @@
 #![tactic(auto)]
 
 mod command;
+mod options;
 mod top;
 mod words;
 

@@ -102,6 +102,11 @@ pub(crate) fn sleep(clock: &impl Clock) {
     thread::sleep(clock, Duration::from_millis(1));
 }
 
+/// Sleeps for a tenth of a second.
+pub(crate) fn pause(clock: &impl Clock) {
+    thread::sleep(clock, Duration::from_millis(100));
+}
+
 /// The moment by the system's clock. Where the clock tells none it is the first one, and the last one past the year 9999.
 pub(crate) fn moment(clock: &impl Clock) -> Moment {
     let seconds = match SystemTime::now(clock) {

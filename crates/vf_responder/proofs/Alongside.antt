@@ -1,7 +1,7 @@
 -- Images along the answers to some events, and to more.
-use Rattle.std.proofs.Common.{◌≡◌, ℕ, zero, suc, List, [], ◌∷◌, ◌++◌, length, take, refl, ap, sym, subst, arith}
+use Rattle.std.proofs.Common.{◌≡◌, ℕ, zero, suc, List, [], ◌∷◌, ◌++◌, take, refl, ap, sym, subst}
 use Rattle.vf_store.specs.Represented.{Represents}
-use Rattle.vf_responder.specs.Along.{RepresentsAlong, RepresentsPast}
+use Rattle.vf_responder.specs.Along.{RepresentsAlong}
 use Rattle.vf_responder.specs.Answers.{Answer, at_end}
 use Rattle.vf_responder.specs.Run.{after, tables_in}
 use Rattle.vf_responder.specs.Serving.{Serving}
@@ -19,15 +19,3 @@ along_first serving (answer ∷ first) later image (suc count, represents) =
 pub along_later : (serving : Serving) (first later : List Answer) (image : List ℕ) → RepresentsAlong (at_end serving first) later image → RepresentsAlong serving (first ++ later) image
 along_later serving [] later image along = along
 along_later serving (answer ∷ first) later image along = let more = along_later answer.state first later image along in (suc more.0, more.1)
-
--- an image that represents the tables along later answers does so past the first
-pub past_later : (serving : Serving) (first later : List Answer) (image : List ℕ) → RepresentsAlong (at_end serving first) later image → RepresentsPast (length first) serving (first ++ later) image
-past_later serving [] later image along = (along.0, omega arith, along.1)
-past_later serving (answer ∷ first) later image along =
-    let more = past_later answer.state first later image along in (suc more.0, omega (arith, more.1), more.2)
-
--- and one that represents those after all answers is past them
-pub past_all : (serving : Serving) (answers : List Answer) (image : List ℕ) → Represents image (tables_in (at_end serving answers)) → RepresentsPast (length answers) serving answers image
-past_all serving [] image represents = (0, omega arith, represents)
-past_all serving (answer ∷ answers) image represents =
-    let more = past_all answer.state answers image represents in (suc more.0, omega (arith, more.1), more.2)

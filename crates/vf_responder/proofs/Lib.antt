@@ -1,7 +1,7 @@
 pub mod SendingLemmas
 pub mod ChainLemmas
-pub mod ApartLemmas
 pub mod MapLemmas
+pub mod Lacking
 pub mod StandLemmas
 pub mod SaysLemmas
 pub mod TakeLemmas
@@ -19,12 +19,3 @@ pub mod Lives
 pub mod Alongside
 pub mod Rounds
 pub mod Serves
-pub mod Heard
-pub mod ReadLemmas
-pub mod HearLemmas
-pub mod OpeningLemmas
-pub mod PutBackLemmas
-pub mod BegunLemmas
-pub mod PieceLoopLemmas
-pub mod AskedLemmas
-pub mod WayLemmas

@@ -1,8 +1,7 @@
 -- The run over the events that links told, with one more: its replies were sent, and the links on which that failed have ended.
-use Rattle.std.proofs.Common.{◌≡◌, ℕ, ◌+◌, ◌<◌, ◌≤◌, Bool, true, false, cond, not, ◌&&◌, ◌||◌, List, [], ◌∷◌, ◌++◌, ◌-◌, length, map, nat_eq, take, refl, ap, sym, subst, ◌∙◌, append_assoc, append-nil, length-append, arith}
+use Rattle.std.proofs.Common.{◌≡◌, ℕ, ◌+◌, ◌<◌, ◌≤◌, Bool, true, false, cond, not, ◌&&◌, ◌||◌, List, [], ◌∷◌, ◌++◌, length, map, nat_eq, refl, ap, sym, subst, ◌∙◌, append_assoc, append-nil, length-append, arith}
 use Rattle.std.specs.List.{AllByRecursion, flat_map, list_any}
 use Rattle.std.proofs.lemmas.Bool.{eq-eqb, eqb-true}
-use Rattle.std.proofs.lemmas.List.{length-take-le, take-append-le, take_all}
 use Rattle.vf_base.specs.Links.{Traffic, arrives, has_arrived, has_note}
 use Rattle.vf_base.specs.declared.events.ScriptEvent.{ScriptEvent}
 use Rattle.vf_base.specs.declared.events.ScriptEvent.TheVariants.{Arrived, Octets, Ended}
@@ -14,7 +13,7 @@ use Rattle.vf_responder.proofs.Sent.{any-append, lost_notes}
 use Rattle.vf_responder.specs.Answers.{Answer, at_end, spoken_in}
 use Rattle.vf_responder.specs.Run.{run, trail}
 use Rattle.vf_responder.specs.Sends.{AreSent, IsFresh, breaks, is_lost}
-use Rattle.vf_responder.specs.Served.{IsFront, IsSent, breaks_at, is_noted_at, is_shut, lived, lived_from, lived_with, octets_by, octets_on, octets_to, untold}
+use Rattle.vf_responder.specs.Served.{IsSent, breaks_at, is_shut, lived, lived_from, octets_by, octets_on, untold}
 use Rattle.vf_responder.specs.Serving.{Serving}
 use Rattle.vf_responder.specs.declared.event.Reply.{Reply}
 
@@ -120,58 +119,13 @@ lived_from-more count at failed lost (first ∷ events) event before is =
     ++ lived_from-more (count + 1) at failed lost events event before later i)
     ∙ sym (append_assoc (breaks_at (count + 1) failed) (lived_from (count + 1) failed events) (event ∷ breaks lost)))
 
--- later breaks change nothing before them
-lived_from-same : (count at : ℕ) (failed : List (ℕ × ℕ)) (lost : List ℕ) (events : List ScriptEvent) → count + length events < at
-    → lived_from count (failed ++ notes_at at lost) events ≡ lived_from count failed events
-lived_from-same count at failed lost [] less = refl
-lived_from-same count at failed lost (first ∷ events) less =
-    let later : count + 1 + length events < at = omega (arith, less) in
-    let none : breaks_at (count + 1) (failed ++ notes_at at lost) ≡ breaks_at (count + 1) failed =
-    breaks_at-append (count + 1) failed (notes_at at lost)
-    ∙ ap (λ (more : List ScriptEvent). breaks_at (count + 1) failed ++ more) (later_breaks (count + 1) at lost (omega (arith, later)))
-    ∙ append-nil (breaks_at (count + 1) failed) in
-    ap (λ (events : List ScriptEvent). first ∷ events) (λ i. none i ++ lived_from-same (count + 1) at failed lost events later i)
-
--- ---- notes
-
-note_has : (link count : ℕ) (notes : List (ℕ × ℕ)) → is_noted_at link count notes ≡ true → has_note link notes ≡ true
-note_has link count [] is = absurd cc
-note_has link count (note ∷ notes) is = by (nat_eq link note.0) (nat_eq count note.1) is (note_has link count notes)
-  where
-    by : (a b : Bool) → ((a && b) || is_noted_at link count notes) ≡ true → (is_noted_at link count notes ≡ true → has_note link notes ≡ true) → (a || has_note link notes) ≡ true
-    by true b is later = refl
-    by false b is later = later is
-
-note_most : (link count most : ℕ) (notes : List (ℕ × ℕ)) → AllByRecursion (λ (note : ℕ × ℕ). note.1 ≤ most) notes → is_noted_at link count notes ≡ true → count ≤ most
-note_most link count most [] below is = absurd cc
-note_most link count most (note ∷ notes) below is = by (nat_eq link note.0) (nat_eq count note.1) refl is (note_most link count most notes below.1)
-  where
-    by : (a b : Bool) → nat_eq count note.1 ≡ b → ((a && b) || is_noted_at link count notes) ≡ true → (is_noted_at link count notes ≡ true → count ≤ most) → count ≤ most
-    by true true same is later = (let at : count ≡ note.1 = eqb-true count note.1 same in omega (arith, at, below.0))
-    by true false same is later = later is
-    by false b same is later = later is
-
-note_lost : (link count at : ℕ) (lost : List ℕ) → is_noted_at link count (notes_at at lost) ≡ true → (count ≡ at) × (is_lost link lost ≡ true)
-note_lost link count at [] is = absurd cc
-note_lost link count at (one ∷ lost) is = by (nat_eq link one) (nat_eq count at) refl is (note_lost link count at lost)
-  where
-    by : (a b : Bool) → nat_eq count at ≡ b → ((a && b) || is_noted_at link count (notes_at at lost)) ≡ true
-        → (is_noted_at link count (notes_at at lost) ≡ true → (count ≡ at) × (is_lost link lost ≡ true)) → (count ≡ at) × ((a || is_lost link lost) ≡ true)
-    by true true same is later = (eqb-true count at same, refl)
-    by true false same is later = ((later is).0, refl)
-    by false b same is later = later is
-
-no_front : (front rest : List ℕ) → front ++ rest ≡ [] → front ≡ []
-no_front [] rest is = refl
-no_front (octet ∷ front) rest is = absurd cc
-
 -- ---- a round
 
 -- What holds between two rounds: the state is that of what was lived, whose replies were sent; and a party stands only on a link that has
 -- arrived and on which no send failed.
 pub record Lives (serving : Serving) (traffic : Traffic) (now : Serving) (last : ℕ) : Type 0 where
   pub is : now ≡ at_end serving (run (lived traffic) serving)
-  pub sent : IsSent serving traffic.events traffic
+  pub sent : IsSent (spoken_in (run (lived traffic) serving)) traffic
   pub noted : AllByRecursion (λ (note : ℕ × ℕ). note.1 ≤ length traffic.events) traffic.failed
   pub off : (link : ℕ) → (has_arrived link traffic.events && not (has_note link traffic.failed)) ≡ false → IsAbsent link now.filestore
   pub arrived : (link : ℕ) → has_arrived link traffic.events ≡ true → link ≤ last
@@ -324,92 +278,40 @@ module _ (serving : Serving) (traffic : Traffic) (now : Serving) (last : ℕ) (l
     octets_elsewhere link [] all = refl
     octets_elsewhere link (reply ∷ said) all = (λ i. cond (all.0 i) reply.octets [] ++ octets_on link said) ∙ octets_elsewhere link said all.1
 
-    noted_new : (link count : ℕ) → is_noted_at link count new.failed ≡ (is_noted_at link count traffic.failed || is_noted_at link count (notes_at at lost))
-    noted_new link count =
-        ap (is_noted_at link count) failed_is ∙ any-append (λ (note : ℕ × ℕ). nat_eq link note.0 && nat_eq count note.1) traffic.failed (notes_at at lost)
-
-    -- what was said to earlier events, and to all
-    octets_first : (link count : ℕ) → count ≤ length traffic.events → octets_to link serving (take count new.events) new ≡ octets_to link serving (take count traffic.events) traffic
-    octets_first link count most =
-        let long : length (take count traffic.events) ≡ count = length-take-le count traffic.events most in
-        ap (λ (events : List ScriptEvent). octets_on link (spoken_in (run events serving)))
-        ((λ i. lived_from 0 (failed_is i) (take count (sent.events i)))
-        ∙ ap (λ (events : List ScriptEvent). lived_from 0 (traffic.failed ++ notes_at at lost) events) (take-append-le count traffic.events (event ∷ []) most)
-        ∙ lived_from-same 0 at traffic.failed lost (take count traffic.events) (omega (arith, long, at_is, most)))
-
-    octets_new : (link : ℕ) → octets_to link serving new.events new ≡ octets_to link serving traffic.events traffic ++ octets_on link (spoken_in (trail event now))
-    octets_new link =
-        ap (octets_on link) spoken_is ∙ flat_map-append (octets_by link) (spoken_in (run (lived traffic) serving)) (spoken_in (trail event now))
-
-    IsCut : (link count : ℕ) → Type 0
-    IsCut link count =
-        IsFront (octets_to link serving (take (count - 1) new.events) new) (new.taken link) × IsFront (new.taken link) (octets_to link serving (take count new.events) new)
-
-    -- on a link on which a send failed before
-    cut_before : (link count : ℕ) → is_noted_at link count traffic.failed ≡ true → IsCut link count
-    unfolding IsCut
-    cut_before link count is =
-        let most : count ≤ length traffic.events = note_most link count (length traffic.events) traffic.failed lives.noted is in
-        let none : octets_on link (spoken_in (trail event now)) ≡ [] =
-        octets_elsewhere link (spoken_in (trail event now)) (noted_avoids link (note_has link count traffic.failed is)).elsewhere in
-        let same : traffic.taken link ≡ new.taken link =
-        sym (sent.taken link ∙ ap (λ (front : List ℕ). traffic.taken link ++ front) (no_front (sent.front link) (sent.rest link) (sym (sent.parts link) ∙ none)) ∙ append-nil (traffic.taken link)) in (
-          subst (λ (taken : List ℕ). IsFront (octets_to link serving (take (count - 1) new.events) new) taken) same
-              (subst (λ (octets : List ℕ). IsFront octets (traffic.taken link)) (sym (octets_first link (count - 1) (omega (arith, most)))) (lives.sent.before link count is)),
-          subst (λ (taken : List ℕ). IsFront taken (octets_to link serving (take count new.events) new)) same
-              (subst (λ (octets : List ℕ). IsFront (traffic.taken link) octets) (sym (octets_first link count most)) (lives.sent.within link count is)),
-        )
-
-    -- and on one on which it failed now
-    cut_now : (link count : ℕ) → is_noted_at link count (notes_at at lost) ≡ true → IsCut link count
-    unfolding IsCut
-    cut_now link count is =
-        let both = note_lost link count at lost is in
-        let here : count ≡ at = both.0 in
-        let last : count - 1 ≡ length traffic.events = omega (arith, here, at_is) in
-        let long : length new.events ≡ at = ap length sent.events ∙ at_length in
-        let old : traffic.taken link ≡ octets_to link serving traffic.events traffic = lives.sent.whole link (sent.first link both.1) in
-        let before : octets_to link serving (take (count - 1) new.events) new ≡ octets_to link serving traffic.events traffic =
-        ap (λ count. octets_to link serving (take count new.events) new) last
-        ∙ octets_first link (length traffic.events) (omega arith)
-        ∙ ap (λ (events : List ScriptEvent). octets_to link serving events traffic) (take_all (length traffic.events) traffic.events (omega arith)) in (
-          (sent.front link, sent.taken link ∙ ap (λ (octets : List ℕ). octets ++ sent.front link) (old ∙ sym before)),
-          (
-            sent.rest link,
-            ap (λ (events : List ScriptEvent). octets_to link serving events new) (take_all count new.events (omega (arith, here, long)))
-                ∙ octets_new link
-                ∙ (λ i. sym old i ++ sent.parts link i)
-                ∙ sym (append_assoc (traffic.taken link) (sent.front link) (sent.rest link))
-                ∙ ap (λ (taken : List ℕ). taken ++ sent.rest link) (sym (sent.taken link)),
-          ),
-        )
-
-    cut : (link count : ℕ) → is_noted_at link count new.failed ≡ true → IsCut link count
-    cut link count is = by (is_noted_at link count traffic.failed) (is_noted_at link count (notes_at at lost)) refl refl (sym (noted_new link count) ∙ is)
-      where
-        by : (a b : Bool) → is_noted_at link count traffic.failed ≡ a → is_noted_at link count (notes_at at lost) ≡ b → (a || b) ≡ true → IsCut link count
-        by true b was is some = cut_before link count was
-        by false true was is some = cut_now link count is
-        by false false was is some = absurd cc
-
-    said_sent : IsSent serving new.events new
-    unfolding IsCut
+    said_sent : IsSent (spoken_in (run (lived traffic) serving) ++ spoken_in (trail event now)) new
     said_sent = record {
+      rest = λ link. sent.rest link ++ lives.sent.rest link;
+      taken = λ link.
+          flat_map-append (octets_by link) (spoken_in (run (lived traffic) serving)) (spoken_in (trail event now))
+          ∙ ap (λ (octets : List ℕ). octets ++ octets_on link (spoken_in (trail event now))) (lives.sent.taken link)
+          ∙ by link (has_note link traffic.failed) refl
+          ∙ append_assoc (new.taken link) (sent.rest link) (lives.sent.rest link);
       whole = λ link whole.
           let both : (has_note link traffic.failed || is_lost link lost) ≡ false = sym (has_new link) ∙ whole in
-          let all : sent.front link ≡ octets_on link (spoken_in (trail event now)) =
-          sym (sent.parts link ∙ ap (λ (rest : List ℕ). sent.front link ++ rest) (sent.whole link (either_second (has_note link traffic.failed) (is_lost link lost) both)) ∙ append-nil (sent.front link)) in
-          sent.taken link
-          ∙ (λ i. lives.sent.whole link (either_first (has_note link traffic.failed) (is_lost link lost) both) i ++ all i)
-          ∙ sym (octets_new link);
-      before = λ link count is. (cut link count is).0;
-      within = λ link count is. (cut link count is).1;
+          (λ i. sent.whole link (either_second (has_note link traffic.failed) (is_lost link lost) both) i
+          ++ lives.sent.whole link (either_first (has_note link traffic.failed) (is_lost link lost) both) i);
       shut = λ link.
           sent.shut link
           ∙ ap (λ (b : Bool). b || is_shut link (spoken_in (trail event now))) (lives.sent.shut link)
-          ∙ sym (any-append (λ (spoken : Reply). spoken.shut && nat_eq spoken.link link) (spoken_in (run (lived traffic) serving)) (spoken_in (trail event now)))
-          ∙ ap (is_shut link) (sym spoken_is);
+          ∙ sym (any-append (λ (spoken : Reply). spoken.shut && nat_eq spoken.link link) (spoken_in (run (lived traffic) serving)) (spoken_in (trail event now)));
     }
+      where
+        by : (link : ℕ) (b : Bool) → has_note link traffic.failed ≡ b
+            → (traffic.taken link ++ lives.sent.rest link) ++ octets_on link (spoken_in (trail event now)) ≡ (new.taken link ++ sent.rest link) ++ lives.sent.rest link
+        by link true noted =
+            let none : octets_on link (spoken_in (trail event now)) ≡ [] = octets_elsewhere link (spoken_in (trail event now)) (noted_avoids link noted).elsewhere in
+            let taken : traffic.taken link ≡ new.taken link ++ sent.rest link =
+            sym (append-nil (traffic.taken link)) ∙ ap (λ (octets : List ℕ). traffic.taken link ++ octets) (sym none) ∙ sent.taken link in
+            ap (λ (octets : List ℕ). (traffic.taken link ++ lives.sent.rest link) ++ octets) none
+            ∙ append-nil (traffic.taken link ++ lives.sent.rest link)
+            ∙ ap (λ (octets : List ℕ). octets ++ lives.sent.rest link) taken
+        by link false whole =
+            let nothing : lives.sent.rest link ≡ [] = lives.sent.whole link whole in
+            ap (λ (rest : List ℕ). (traffic.taken link ++ rest) ++ octets_on link (spoken_in (trail event now))) nothing
+            ∙ ap (λ (octets : List ℕ). octets ++ octets_on link (spoken_in (trail event now))) (append-nil (traffic.taken link))
+            ∙ sent.taken link
+            ∙ sym (append-nil (new.taken link ++ sent.rest link))
+            ∙ ap (λ (rest : List ℕ). (new.taken link ++ sent.rest link) ++ rest) (sym nothing)
 
     off_new : (link : ℕ) → (has_arrived link new.events && not (has_note link new.failed)) ≡ false → IsAbsent link (at_end now (run (event ∷ breaks lost) now)).filestore
     off_new link free =
@@ -432,7 +334,7 @@ module _ (serving : Serving) (traffic : Traffic) (now : Serving) (last : ℕ) (l
     pub lives_on : Lives serving new (at_end now (run (event ∷ breaks lost) now)) later
     lives_on = record {
       is = now_is;
-      sent = said_sent;
+      sent = subst (λ (said : List Reply). IsSent said new) (sym spoken_is) said_sent;
       noted =
           let count : length new.events ≡ at = ap length sent.events ∙ at_length in
           subst (AllByRecursion (λ (note : ℕ × ℕ). note.1 ≤ length new.events)) (sym failed_is)
@@ -462,29 +364,11 @@ module _ (serving : Serving) (traffic : Traffic) (now : Serving) (last : ℕ) (l
         known_by link false true was is some = ap (has_arrived link) sent.events ∙ sent.known link is
         known_by link false false was is some = absurd cc
 
--- WHERE AN EVENT WAS HANDED OUT AND NOTHING SENT
-pub lived_more : (serving : Serving) (traffic : Traffic) (now : Serving) (last : ℕ) (lives : Lives serving traffic now last) (event : ScriptEvent) (rest : List ScriptEvent)
-    → lived (with_event event rest traffic) ≡ lived traffic ++ event ∷ []
-lived_more serving traffic now last lives event rest =
-    let at : ℕ = length traffic.events + 1 in
-    ap (λ (failed : List (ℕ × ℕ)). lived_from 0 failed (traffic.events ++ event ∷ [])) (sym (append-nil traffic.failed))
-    ∙ lived_from-more 0 at traffic.failed [] traffic.events event
-    (all_weaker (λ (note : ℕ × ℕ). note.1 ≤ length traffic.events) (IsBefore at) traffic.failed (λ note below. omega (arith, below)) lives.noted)
-    (omega arith)
-
 -- BEFORE THE FIRST EVENT
-pub none_sent_yet : (serving : Serving) (left : List ScriptEvent) → IsSent serving [] (untold left)
-none_sent_yet serving left = record {
-  whole = λ link whole. refl;
-  before = λ link count is. absurd cc;
-  within = λ link count is. absurd cc;
-  shut = λ link. refl;
-}
-
 pub lives_first : (serving : Serving) (left : List ScriptEvent) (last : ℕ) → serving.filestore.parties ≡ [] → Lives serving (untold left) serving last
 lives_first serving left last none = record {
   is = refl;
-  sent = none_sent_yet serving left;
+  sent = record { rest = λ link. []; taken = λ link. refl; whole = λ link whole. refl; shut = λ link. refl };
   noted = tt;
   off = λ link free. subst (AllByRecursion (IsOff link)) (sym none) tt;
   arrived = λ link is. absurd cc;

@@ -14,7 +14,7 @@ use Rattle.vf_locks.specs.Table.{held}
 use Rattle.vf_locks.specs.declared.held.Held.{Held}
 use Rattle.vf_store.specs.StoreState.{StoreState}
 use Rattle.vf_stack.specs.Association.{Association, beginning}
-use Rattle.vf_filestore.proofs.Others.{arrivals_count, arrivals_leave_others, arrivals_stand}
+use Rattle.vf_responder.proofs.Lacking.{arrivals_count, arrivals_leave_others, arrivals_stand}
 use Rattle.vf_responder.proofs.MapLemmas.{distinct-last, link_of-other, link_of-own}
 use Rattle.vf_responder.proofs.StandLemmas.{at-other, at-some, one-more, stands-by, with-other, with-own}
 use Rattle.vf_responder.specs.Represents.{IsLink, IsLinkOf, Kept, Represents, link_of, with_link}
@@ -82,12 +82,6 @@ put-again number q serving false e = sym (with-other q number (serving.associati
 pub none-by : (number : ℕ) (p : Option StandingParty) (a : Association) → IsLinkOf number None p a → p ≡ None
 none-by number None a is = refl
 none-by number (Some party) a is = absurd is
-
--- nobody stands where no link does
-pub nobody-on : {D : Type 0} (number : ℕ) (kept : Kept D) (serving : Serving) → Represents kept serving → link_of number kept.links ≡ None → party_of number serving.filestore.parties ≡ None
-nobody-on number kept serving represents free =
-    none-by number (party_of number serving.filestore.parties) (serving.associations number)
-    (subst (λ (l : Option Link). IsLinkOf number l (party_of number serving.filestore.parties) (serving.associations number)) free (represents.links number))
 
 -- ---- an arrival
 

@@ -12,7 +12,7 @@ use Rattle.vf_session.specs.Trace.{next}
 use Rattle.vf_stack.specs.Association.{Association}
 use Rattle.vf_stack.specs.Represents as stack
 use Rattle.vf_stack.specs.declared.indication.Indication.{Indication}
-use Rattle.vf_filestore.proofs.Others.{breaks_leave_none}
+use Rattle.vf_responder.proofs.Lacking.{breaks_leave_none}
 use Rattle.vf_responder.proofs.StandLemmas.{IsOn, broken-off, on-link, stays-on}
 use Rattle.vf_responder.specs.Answers.{Answer, answering, answering_on, at_end, says, speaking, spoken_in, told}
 use Rattle.vf_responder.specs.Meanings as run

@@ -15,14 +15,11 @@ pub none_sent : (traffic : Traffic) → AreSent traffic traffic [] []
 none_sent traffic = record {
   events = refl;
   left = refl;
-  front = λ link. [];
   rest = λ link. [];
-  parts = λ link. refl;
-  taken = λ link. sym (append-nil (traffic.taken link));
+  taken = λ link. refl;
   whole = λ link whole. refl;
   failed = sym (append-nil traffic.failed);
   known = λ link is. absurd cc;
-  first = λ link is. absurd cc;
   shut = λ link. or_false (has_note link traffic.shut);
 }
   where
@@ -80,14 +77,11 @@ lost_notes link at (one ∷ lost) = ap (λ b. nat_eq link one || b) (lost_notes 
 record AreTried (old new : Traffic) (said : List Reply) (reply : Reply) (lost : List ℕ) : Type 0 where
   events : new.events ≡ old.events
   left : new.left ≡ old.left
-  front : ℕ → List ℕ
   rest : ℕ → List ℕ
-  parts : (link : ℕ) → octets_on link (said ++ reply ∷ []) ≡ front link ++ rest link
-  taken : (link : ℕ) → new.taken link ≡ old.taken link ++ front link
+  taken : (link : ℕ) → old.taken link ++ octets_on link (said ++ reply ∷ []) ≡ new.taken link ++ rest link
   whole : (link : ℕ) → is_lost link lost ≡ false → rest link ≡ []
   failed : new.failed ≡ old.failed ++ map (λ (link : ℕ). (link, length old.events)) lost
   known : (link : ℕ) → is_lost link lost ≡ true → has_arrived link old.events ≡ true
-  first : (link : ℕ) → is_lost link lost ≡ true → has_note link old.failed ≡ false
   shut : (link : ℕ) → has_note link new.shut ≡ (has_note link old.shut || is_shut link said)
 
 and_false : (a b : Bool) → (a && not b) ≡ false → b ≡ false → a ≡ false
@@ -111,17 +105,15 @@ passed : (old mid : Traffic) (said : List Reply) (reply : Reply) (lost : List �
 passed old mid said reply lost sent due = record {
   events = sent.events;
   left = sent.left;
-  front = sent.front;
   rest = λ link. sent.rest link ++ octets_by link reply;
-  parts = λ link.
-      octets_on-more link said reply
-      ∙ ap (λ (octets : List ℕ). octets ++ octets_by link reply) (sent.parts link)
-      ∙ append_assoc (sent.front link) (sent.rest link) (octets_by link reply);
-  taken = sent.taken;
+  taken = λ link.
+      ap (λ (octets : List ℕ). old.taken link ++ octets) (octets_on-more link said reply)
+      ∙ sym (append_assoc (old.taken link) (octets_on link said) (octets_by link reply))
+      ∙ ap (λ (octets : List ℕ). octets ++ octets_by link reply) (sent.taken link)
+      ∙ append_assoc (mid.taken link) (sent.rest link) (octets_by link reply);
   whole = λ link whole. by link (nat_eq reply.link link) refl whole ∙ sent.whole link whole;
   failed = sent.failed;
   known = sent.known;
-  first = sent.first;
   shut = sent.shut;
 }
   where
@@ -132,42 +124,33 @@ passed old mid said reply lost sent due = record {
         ∙ append-nil (sent.rest link)
     by link false is whole = append-nil (sent.rest link)
 
--- on a link on which nothing was left behind, octets more
-more_behind : (octets front rest more : List ℕ) → octets ≡ front ++ rest → rest ≡ [] → octets ++ more ≡ (front ++ more) ++ []
-more_behind octets front rest more parts none =
-    ap (λ (octets : List ℕ). octets ++ more) (parts ∙ ap (λ (rest : List ℕ). front ++ rest) none ∙ append-nil front)
-    ∙ sym (append-nil (front ++ more))
-
 went : (old mid : Traffic) (said : List Reply) (reply : Reply) (lost : List ℕ) → AreSent old mid said lost → is_due reply lost ≡ true
     → AreTried old (after_octets reply.link reply.octets mid) said reply lost
 went old mid said reply lost sent due = record {
   events = sent.events;
   left = sent.left;
-  front = λ link. sent.front link ++ cond (nat_eq link reply.link) reply.octets [];
   rest = sent.rest;
-  parts = λ link.
-      octets_on-more link said reply
-      ∙ ap (λ (b : Bool). octets_on link said ++ cond b reply.octets []) (nat_eq_flips reply.link link)
+  taken = λ link.
+      ap (λ (octets : List ℕ). old.taken link ++ octets) (octets_on-more link said reply)
+      ∙ sym (append_assoc (old.taken link) (octets_on link said) (octets_by link reply))
+      ∙ ap (λ (octets : List ℕ). octets ++ octets_by link reply) (sent.taken link)
+      ∙ ap (λ (b : Bool). (mid.taken link ++ sent.rest link) ++ cond b reply.octets []) (nat_eq_flips reply.link link)
       ∙ by link (nat_eq link reply.link) refl;
-  taken = λ link. taken_by link (nat_eq link reply.link);
   whole = sent.whole;
   failed = sent.failed;
   known = sent.known;
-  first = sent.first;
   shut = sent.shut;
 }
   where
-    by : (link : ℕ) (b : Bool) → nat_eq link reply.link ≡ b → octets_on link said ++ cond b reply.octets [] ≡ (sent.front link ++ cond b reply.octets []) ++ sent.rest link
+    by : (link : ℕ) (b : Bool) → nat_eq link reply.link ≡ b
+        → (mid.taken link ++ sent.rest link) ++ cond b reply.octets [] ≡ cond b (mid.taken link ++ reply.octets) (mid.taken link) ++ sent.rest link
     by link true is =
         let whole : sent.rest link ≡ [] = sent.whole link (ap (λ n. is_lost n lost) (eqb-true link reply.link is) ∙ and_first (nat_lt 0 (length reply.octets)) (is_lost reply.link lost) due) in
-        more_behind (octets_on link said) (sent.front link) (sent.rest link) reply.octets (sent.parts link) whole
-        ∙ ap (λ (rest : List ℕ). (sent.front link ++ reply.octets) ++ rest) (sym whole)
-    by link false is =
-        append-nil (octets_on link said) ∙ sent.parts link ∙ ap (λ (front : List ℕ). front ++ sent.rest link) (sym (append-nil (sent.front link)))
-
-    taken_by : (link : ℕ) (b : Bool) → cond b (mid.taken link ++ reply.octets) (mid.taken link) ≡ old.taken link ++ (sent.front link ++ cond b reply.octets [])
-    taken_by link true = ap (λ (octets : List ℕ). octets ++ reply.octets) (sent.taken link) ∙ append_assoc (old.taken link) (sent.front link) reply.octets
-    taken_by link false = sent.taken link ∙ ap (λ (front : List ℕ). old.taken link ++ front) (sym (append-nil (sent.front link)))
+        ap (λ (rest : List ℕ). (mid.taken link ++ rest) ++ reply.octets) whole
+        ∙ ap (λ (octets : List ℕ). octets ++ reply.octets) (append-nil (mid.taken link))
+        ∙ sym (append-nil (mid.taken link ++ reply.octets))
+        ∙ ap (λ (rest : List ℕ). (mid.taken link ++ reply.octets) ++ rest) (sym whole)
+    by link false is = append-nil (mid.taken link ++ sent.rest link)
 
 failed : (old mid : Traffic) (said : List Reply) (reply : Reply) (lost front rest : List ℕ) → AreSent old mid said lost → is_due reply lost ≡ true
     → reply.octets ≡ front ++ rest → IsFresh old reply
@@ -175,13 +158,13 @@ failed : (old mid : Traffic) (said : List Reply) (reply : Reply) (lost front res
 failed old mid said reply lost front rest sent due parts fresh = record {
   events = sent.events;
   left = sent.left;
-  front = λ link. sent.front link ++ cond (nat_eq link reply.link) front [];
   rest = λ link. cond (nat_eq link reply.link) rest (sent.rest link);
-  parts = λ link.
-      octets_on-more link said reply
-      ∙ ap (λ (b : Bool). octets_on link said ++ cond b reply.octets []) (nat_eq_flips reply.link link)
+  taken = λ link.
+      ap (λ (octets : List ℕ). old.taken link ++ octets) (octets_on-more link said reply)
+      ∙ sym (append_assoc (old.taken link) (octets_on link said) (octets_by link reply))
+      ∙ ap (λ (octets : List ℕ). octets ++ octets_by link reply) (sent.taken link)
+      ∙ ap (λ (b : Bool). (mid.taken link ++ sent.rest link) ++ cond b reply.octets []) (nat_eq_flips reply.link link)
       ∙ by link (nat_eq link reply.link) refl;
-  taken = λ link. taken_by link (nat_eq link reply.link);
   whole = λ link whole. whole_by link (nat_eq link reply.link) refl (sym (any-append (nat_eq link) lost (reply.link ∷ [])) ∙ whole);
   failed =
       let more : noted reply.link mid.events mid.failed ≡ mid.failed ++ (reply.link, length mid.events) ∷ [] =
@@ -194,7 +177,6 @@ failed old mid said reply lost front rest sent due parts fresh = record {
       ∙ append_assoc old.failed (notes lost) ((reply.link, length old.events) ∷ [])
       ∙ ap (λ (more : List (ℕ × ℕ)). old.failed ++ more) (sym (notes_more lost));
   known = λ link is. known_by link (is_lost link lost) (nat_eq link reply.link) refl refl (sym (any-append (nat_eq link) lost (reply.link ∷ [])) ∙ is);
-  first = λ link is. first_by link (is_lost link lost) (nat_eq link reply.link) refl refl (sym (any-append (nat_eq link) lost (reply.link ∷ [])) ∙ is);
   shut = sent.shut;
 }
   where
@@ -202,11 +184,6 @@ failed old mid said reply lost front rest sent due parts fresh = record {
     known_by link true b was is some = sent.known link was
     known_by link false true was is some = ap (λ n. has_arrived n old.events) (eqb-true link reply.link is) ∙ fresh.arrived
     known_by link false false was is some = absurd cc
-
-    first_by : (link : ℕ) (a b : Bool) → is_lost link lost ≡ a → nat_eq link reply.link ≡ b → (a || (b || false)) ≡ true → has_note link old.failed ≡ false
-    first_by link true b was is some = sent.first link was
-    first_by link false true was is some = ap (λ n. has_note n old.failed) (eqb-true link reply.link is) ∙ fresh.whole
-    first_by link false false was is some = absurd cc
 
     notes : List ℕ → List (ℕ × ℕ)
     notes lost = map (λ (link : ℕ). (let note : ℕ × ℕ = (link, length old.events) in note)) lost
@@ -217,19 +194,14 @@ failed old mid said reply lost front rest sent due parts fresh = record {
     notes_more (one ∷ lost) = ap (λ (more : List (ℕ × ℕ)). (one, length old.events) ∷ more) (notes_more lost)
 
     by : (link : ℕ) (b : Bool) → nat_eq link reply.link ≡ b
-        → octets_on link said ++ cond b reply.octets [] ≡ (sent.front link ++ cond b front []) ++ cond b rest (sent.rest link)
+        → (mid.taken link ++ sent.rest link) ++ cond b reply.octets [] ≡ cond b (mid.taken link ++ front) (mid.taken link) ++ cond b rest (sent.rest link)
     by link true is =
         let whole : sent.rest link ≡ [] = sent.whole link (ap (λ n. is_lost n lost) (eqb-true link reply.link is) ∙ and_first (nat_lt 0 (length reply.octets)) (is_lost reply.link lost) due) in
-        more_behind (octets_on link said) (sent.front link) (sent.rest link) reply.octets (sent.parts link) whole
-        ∙ append-nil (sent.front link ++ reply.octets)
-        ∙ ap (λ (octets : List ℕ). sent.front link ++ octets) parts
-        ∙ sym (append_assoc (sent.front link) front rest)
-    by link false is =
-        append-nil (octets_on link said) ∙ sent.parts link ∙ ap (λ (front : List ℕ). front ++ sent.rest link) (sym (append-nil (sent.front link)))
-
-    taken_by : (link : ℕ) (b : Bool) → cond b (mid.taken link ++ front) (mid.taken link) ≡ old.taken link ++ (sent.front link ++ cond b front [])
-    taken_by link true = ap (λ (octets : List ℕ). octets ++ front) (sent.taken link) ∙ append_assoc (old.taken link) (sent.front link) front
-    taken_by link false = sent.taken link ∙ ap (λ (front : List ℕ). old.taken link ++ front) (sym (append-nil (sent.front link)))
+        ap (λ (rest : List ℕ). (mid.taken link ++ rest) ++ reply.octets) whole
+        ∙ ap (λ (octets : List ℕ). octets ++ reply.octets) (append-nil (mid.taken link))
+        ∙ ap (λ (octets : List ℕ). mid.taken link ++ octets) parts
+        ∙ sym (append_assoc (mid.taken link) front rest)
+    by link false is = append-nil (mid.taken link ++ sent.rest link)
 
     whole_by : (link : ℕ) (b : Bool) → nat_eq link reply.link ≡ b → (is_lost link lost || (nat_eq link reply.link || false)) ≡ false → cond b rest (sent.rest link) ≡ []
     whole_by link true is whole = absurd (neither (is_lost link lost) (nat_eq link reply.link) is whole)
@@ -266,14 +238,11 @@ ends old mid said reply lost tried arrived = by reply.shut refl
     by true is = record {
       events = tried.events;
       left = tried.left;
-      front = tried.front;
       rest = tried.rest;
-      parts = tried.parts;
       taken = tried.taken;
       whole = tried.whole;
       failed = tried.failed;
       known = tried.known;
-      first = tried.first;
       shut = λ link.
           noted_has link reply.link mid.events mid.shut (ap (has_arrived reply.link) tried.events ∙ arrived)
           ∙ (λ i. tried.shut link i || nat_eq_flips link reply.link i)
@@ -283,14 +252,11 @@ ends old mid said reply lost tried arrived = by reply.shut refl
     by false is = record {
       events = tried.events;
       left = tried.left;
-      front = tried.front;
       rest = tried.rest;
-      parts = tried.parts;
       taken = tried.taken;
       whole = tried.whole;
       failed = tried.failed;
       known = tried.known;
-      first = tried.first;
       shut = λ link.
           tried.shut link ∙ ap (λ (b : Bool). has_note link old.shut || b) (or_nothing (is_shut link said) ∙ sym (shut_more link false is));
     }

@@ -15,8 +15,7 @@ use Rattle.vf_filestore.specs.State.{State, StandingParty, party_of}
 use Rattle.vf_filestore.specs.Tables.{tables_of}
 use Rattle.vf_locks.specs.declared.held.Held.{Held}
 use Rattle.vf_stack.specs.Association.{Association}
-use Rattle.vf_filestore.proofs.Counts.{breaks_count}
-use Rattle.vf_filestore.proofs.Others.{breaks_leave_none, breaks_leave_others}
+use Rattle.vf_responder.proofs.Lacking.{breaks_count, breaks_leave_none, breaks_leave_others}
 use Rattle.vf_responder.proofs.MapLemmas.{distinct-front, distinct-last, last-free, link_of-other, link_of-own}
 use Rattle.vf_responder.specs.Represents.{IsLink, IsLinkOf, Kept, Represents, link_of, with_link}
 use Rattle.vf_responder.specs.Serving.{Serving, with_association}

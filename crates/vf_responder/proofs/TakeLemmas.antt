@@ -1,12 +1,12 @@
 -- A message of a link's party, once the association in its way is gone: what changes, and the state represented after it.
-use Rattle.std.proofs.Common.{◌≡◌, ℕ, ◌+◌, Bool, true, false, ◌&&◌, List, [], ◌∷◌, ◌++◌, length, Option, Some, None, ⊎_elim, refl, ap, sym, subst, ◌∙◌, arith}
+use Rattle.std.proofs.Common.{◌≡◌, ◌≢◌, ℕ, ◌+◌, Bool, true, false, ◌&&◌, List, [], ◌∷◌, ◌++◌, length, Option, Some, None, inl, inr, ⊎_elim, refl, ap, sym, subst, ◌∙◌, arith}
 use Rattle.std.specs.Prelude.{IfSome, is_some, not, if◌then◌else◌}
 use Rattle.vf_elements.specs.declared.message.Said.{Said}
 use Rattle.vf_stack.specs.Association.{Association}
 use Rattle.vf_disk.proofs.Runs.{weaker}
 use Rattle.vf_disk.specs.Disk.{LeavesOnly}
 use Rattle.vf_elements.specs.declared.message.Message.{Message}
-use Rattle.vf_filestore.proofs.RangedStates.{messages_reached, read_messages_make}
+use Rattle.vf_filestore.proofs.RangedStates.{messages_reached, read_messages_fit, read_messages_make}
 use Rattle.vf_filestore.specs.Aborts.{Setting}
 use Rattle.vf_filestore.specs.Conclusion.{Answered}
 use Rattle.vf_filestore.specs.Decision.{decision}
@@ -16,15 +16,13 @@ use Rattle.vf_filestore.specs.Sound.{IsSound}
 use Rattle.vf_filestore.specs.State.{State, StandingParty, party_of}
 use Rattle.vf_filestore.specs.Tables.{tables_of}
 use Rattle.vf_filestore.specs.Transition.{Turn, answered, superseded_by, transition}
-use Rattle.vf_party_steps.specs.Steps.{HoldersOfFiles}
+use Rattle.vf_party_steps.specs.Steps.{HoldersOfFiles, StandsIn}
 use Rattle.vf_party.specs.Turns.{IsNext, IsParty, IsTaken}
 use Rattle.vf_party.specs.declared.party.Outcome.{Outcome}
 use Rattle.vf_party.specs.declared.party.Party.{Party}
-use Rattle.vf_stack.specs.Represents as stack_of
 use Rattle.vf_stack.specs.declared.indication.Indication.{Indication}
 use Rattle.vf_store.specs.Commit.{AreFitting}
 use Rattle.vf_store.specs.Represented.{Represents as ImageRepresents, RepresentsEither}
-use Rattle.vf_store.specs.StoreState.{IsRepresented, StoreState}
 use Rattle.vf_tables.specs.Changes.{after_all}
 use Rattle.vf_tables.specs.Fitting.{all_fit}
 use Rattle.vf_tables.specs.Making.{made_of}
@@ -32,15 +30,12 @@ use Rattle.vf_tables.specs.Validity.{is_valid}
 use Rattle.vf_tables.specs.declared.change.Change.{Change}
 use Rattle.vf_tables.specs.declared.tables.Tables.{Tables}
 use Rattle.vf_responder.proofs.ChainLemmas.{along-all, along-none, at_end-join, joined-answers}
-use Rattle.vf_filestore.proofs.Counts.{answers_count}
-use Rattle.vf_filestore.proofs.GivingWay.{answers_follow}
-use Rattle.vf_filestore.proofs.Others.{answers_leave_others}
-use Rattle.vf_filestore.specs.GivingWay.{gone_of}
+use Rattle.vf_responder.proofs.Lacking.{answers_count, answers_follow, answers_leave_others, gone_of}
 use Rattle.vf_responder.proofs.SaysLemmas.{said-once}
-use Rattle.vf_responder.proofs.StoreLemmas.{idle-along}
-use Rattle.vf_responder.proofs.StandLemmas.{leaves-it, on-link, stays-on}
+use Rattle.vf_responder.proofs.StandLemmas.{IsOn, leaves-it, on-link, stays-on}
 use Rattle.vf_responder.specs.Along.{RepresentsAlong}
-use Rattle.vf_responder.specs.Answers.{Answer, at_end, giving_way, says, setting_at}
+use Rattle.vf_responder.specs.Answers.{Answer, answering, at_end, giving_way, says, setting_at}
+use Rattle.vf_responder.specs.Meanings as run
 use Rattle.vf_responder.specs.Replies.{sending_all}
 use Rattle.vf_responder.specs.Represents.{Answers, Does, GivesWay, IsLink, Kept, Represents, put_back, way_by, way_of, with_link}
 use Rattle.vf_responder.specs.Run.{tables_in}
@@ -301,45 +296,3 @@ take-run clock left_since before after link kept mid_kept locks moment indicatio
     weaker clock left_since before after (RepresentsEither mid_kept.store.tables (after_all mid_kept.store.tables outcome.changes)) (RepresentsAlong serving (taking moment link.number serving indication message)) leaves
     (along-so link kept mid_kept locks serving moment indication message outcome old mid read represents same
     (taken-so link kept mid_kept locks serving moment indication asked message outcome old mid represents ask (way serving represents) turn))
-
--- ---- what keeping the changes owes
-
-module _ {D : Type 0} (shown : D → Option (List ℕ)) (may_leave : D → List ℕ → Type 0) (link : Link) (kept mid_kept : Kept D) (locks : HoldersOfFiles) (moment : ℕ) (asked : Asked) (message : Message) (outcome : Outcome) (old mid : List Reply)
-    (same : mid_kept.store ≡ kept.store) (way : GivesWay link message kept old mid_kept mid) (turn : TakesOn mid_kept.store.tables mid_kept.locks locks link moment asked message outcome) where
-  -- what is represented after it
-  pub take-kept : (P : Type 0) → (AreFitting mid_kept.store.tables outcome.changes → IsRepresented shown may_leave mid_kept.store → P)
-      → (serving : Serving) → Represents (with_link link kept) serving → (indication : Indication) → IsRead message → IsAsked asked indication → IsRepresented shown may_leave kept.store → P
-  take-kept P keeps serving represents indication read ask stands =
-      keeps (take-fits link kept mid_kept locks moment indication asked message outcome old mid serving read ask represents way turn)
-      (subst (λ (store : StoreState D). IsRepresented shown may_leave store) (sym same) stands)
-
-  -- and what is represented meanwhile
-  pub take-along : (clock : D → ℕ) (left_since : D → ℕ → List ℕ → Type 0) (after : D)
-      → (AreFitting mid_kept.store.tables outcome.changes → IsRepresented shown may_leave mid_kept.store
-      → LeavesOnly clock left_since mid_kept.store.disk after (RepresentsEither mid_kept.store.tables (after_all mid_kept.store.tables outcome.changes)))
-      → (indication : Indication) → IsRead message → IsAsked asked indication → (serving : Serving) → Represents (with_link link kept) serving → IsRepresented shown may_leave kept.store
-      → LeavesOnly clock left_since kept.store.disk after (RepresentsAlong serving (taking moment link.number serving indication message))
-  take-along clock left_since after leaves indication read ask serving represents stands =
-      subst (λ (store : StoreState D). LeavesOnly clock left_since store.disk after (RepresentsAlong serving (taking moment link.number serving indication message))) same
-      (take-run clock left_since mid_kept.store.disk after link kept mid_kept locks moment indication asked message outcome old mid serving read ask represents way turn
-      (ap (λ (store : StoreState D). store.tables) same)
-      (leaves (take-fits link kept mid_kept locks moment indication asked message outcome old mid serving read ask represents way turn)
-      (subst (λ (store : StoreState D). IsRepresented shown may_leave store) (sym same) stands)))
-
--- No call was made.
-pub still-along : {D : Type 0} (shown : D → Option (List ℕ)) (may_leave : D → List ℕ → Type 0) (clock : D → ℕ) (left_since : D → ℕ → List ℕ → Type 0)
-    (only_now : (disk : D) (image : List ℕ) → left_since disk (clock disk) image → may_leave disk image)
-    (link : Link) (kept : Kept D) (after : StoreState D) (answers : Serving → List Answer) → after ≡ kept.store
-    → (serving : Serving) → Represents (with_link link kept) serving → IsRepresented shown may_leave kept.store
-    → LeavesOnly clock left_since kept.store.disk after.disk (RepresentsAlong serving (answers serving))
-still-along {D} shown may_leave clock left_since only_now link kept after answers same serving represents stands =
-    subst (λ (store : StoreState D). LeavesOnly clock left_since kept.store.disk store.disk (RepresentsAlong serving (answers serving))) (sym same)
-    (idle-along shown may_leave clock left_since only_now kept.store serving (answers serving) stands represents.tables)
-
--- What is said of the link after the party's turn is said of the link before it.
-pub said-of : (link turned link' : Link) (asked : Asked) (said : List Said) (party : Option Party) (old new : List Reply) → turned.stack ≡ link.stack → turned.number ≡ link.number
-    → ((a : Association) (i : Indication) → IsCalled turned.stack a → IsAsked asked i → IsSaid turned.number (sending_all i a said) (not (is_some party)) old link'.stack new)
-    → (a : Association) (i : Indication) → IsCalled link.stack a → IsAsked asked i → IsSaid link.number (sending_all i a said) (not (is_some party)) old link'.stack new
-said-of link turned link' asked said party old new stack number says = λ a i called ask.
-    subst (λ (n : ℕ). IsSaid n (sending_all i a said) (not (is_some party)) old link'.stack new) number
-    (says a i (subst (λ (kept : stack_of.Kept). IsCalled kept a) (sym stack) called) ask)

@@ -1,17 +1,18 @@
 -- Indications, one after another, and octets cut anywhere.
-use Rattle.std.proofs.Common.{◌≡◌, ℕ, Bool, true, false, List, [], ◌∷◌, ◌++◌, Option, None, Ok, Err, Result, refl, ap, sym, subst, ◌∙◌, append_assoc}
-use Rattle.std.specs.Prelude.{IfOk, if◌then◌else◌}
+use Rattle.std.proofs.Common.{◌≡◌, ℕ, Bool, true, false, List, [], ◌∷◌, ◌++◌, Option, Some, None, Ok, Err, Result, refl, ap, sym, subst, ◌∙◌, append_assoc}
+use Rattle.std.specs.Prelude.{IfOk, is_some, if◌then◌else◌}
 use Rattle.vf_elements.specs.declared.message.Message.{Message}
 use Rattle.vf_elements.specs.declared.message.Said.{Said}
 use Rattle.vf_elements.specs.declared.message.Said.TheVariants as answers
 use Rattle.vf_filestore.specs.Dockets.{broken}
 use Rattle.vf_filestore.specs.HoldersAfter.{Keeps}
 use Rattle.vf_filestore.specs.Ranges.{IsRead}
-use Rattle.vf_filestore.specs.State.{StandingParty, party_of}
-use Rattle.vf_party.specs.Turns.{IsParty, LeavesParty}
+use Rattle.vf_filestore.specs.State.{State, StandingParty, party_of}
+use Rattle.vf_locks.specs.declared.held.Held.{Held}
+use Rattle.vf_party_steps.specs.Steps.{HoldersOfFiles, StandsIn}
+use Rattle.vf_party.specs.Turns.{LeavesParty}
 use Rattle.vf_session.specs.Trace.{next}
 use Rattle.vf_stack.specs.Association.{Association}
-use Rattle.vf_stack.specs.Represents as stack
 use Rattle.vf_stack.specs.declared.indication.Indication.{Indication}
 use Rattle.vf_stack.specs.declared.indication.Indication.TheVariants as indications
 use Rattle.vf_disk.specs.Disk.{LeavesOnly}
@@ -20,13 +21,13 @@ use Rattle.vf_responder.proofs.ChainLemmas.{at_end-join}
 use Rattle.vf_responder.specs.Along.{RepresentsAlong}
 use Rattle.vf_responder.proofs.SaysLemmas.{abort-alone, says-gone, says-nothing, told-on}
 use Rattle.vf_responder.proofs.StandLemmas.{IsOn, on-link}
-use Rattle.vf_responder.specs.Answers.{Answer, answering_on, at_end, octet_heard, octets_heard, speaking, told, told_all}
+use Rattle.vf_responder.specs.Answers.{Answer, answering, answering_on, at_end, octet_heard, octets_heard, speaking, told, told_all}
 use Rattle.vf_responder.specs.Meanings as run
 use Rattle.vf_responder.specs.Meanings.{transfer_check}
 use Rattle.vf_responder.specs.Replies.{sending_all}
 use Rattle.vf_responder.specs.Represents.{Answers, Does, Kept, Represents, put_back, with_link}
 use Rattle.vf_responder.specs.Serving.{Serving, stands}
-use Rattle.vf_responder.specs.Steps.{IsCalled, IsReadMeaning, IsReadTold, taking, taking_by}
+use Rattle.vf_responder.specs.Steps.{IsCalled, IsReadMeaning, IsReadTold, IsSaid, taking, taking_by}
 use Rattle.vf_responder.specs.declared.event.Reply.{Reply}
 use Rattle.vf_responder.specs.declared.link.Link.{Link}
 
@@ -34,10 +35,6 @@ use Rattle.vf_responder.specs.declared.link.Link.{Link}
 pub record AsksSo {D : Type 0} (link : Link) (kept : Kept D) (serving : Serving) (serial : ℕ) (last : Option ℕ) : Type 0 where
   pub serial_is : (a : Association) → IsCalled link.stack a → serial ≡ next a.exchange.trace
   pub last_is : (on : IsOn link kept serving) → last ≡ transfer_check on.party.history
-
-pub asks-so : {D : Type 0} (link : Link) (kept : Kept D) (serving : Serving) (serial : ℕ) (last : Option ℕ) → ((a : Association) → stack.Represents link.stack a → serial ≡ next a.exchange.trace)
-    → ((party : StandingParty) → IsParty link.party party → last ≡ transfer_check party.history) → AsksSo link kept serving serial last
-asks-so link kept serving serial last numbered checked = record { serial_is = λ a called. numbered a called.represents; last_is = λ on. checked on.party on.is.represented }
 
 meant-so : {D : Type 0} (link : Link) (kept : Kept D) (serving : Serving) (on : IsOn link kept serving) (serial : ℕ) (last : Option ℕ) (indication : Indication) (meant : run.Meaning)
     → AsksSo link kept serving serial last → meant ≡ run.meaning serial last indication

@@ -1,5 +1,5 @@
 -- What an image of the disk may represent while events are answered (profile).
-use Rattle.std.specs.Prelude.{ℕ, ◌≤◌, List}
+use Rattle.std.specs.Prelude.{ℕ, List}
 use Rattle.vf_store.specs.Represented.{Represents}
 use Rattle.vf_responder.specs.Answers.{Answer}
 use Rattle.vf_responder.specs.Run.{after, tables_in}
@@ -8,7 +8,3 @@ use Rattle.vf_responder.specs.Serving.{Serving}
 -- the image represents the tables after some number of the answers
 abbrev pub RepresentsAlong : Serving → List Answer → List ℕ → Type 0
 RepresentsAlong serving answers image = (count : ℕ) × Represents image (tables_in (after count serving answers))
-
--- and after no fewer than the first so many
-abbrev pub RepresentsPast : (first : ℕ) → Serving → List Answer → List ℕ → Type 0
-RepresentsPast first serving answers image = (count : ℕ) × (first ≤ count) × Represents image (tables_in (after count serving answers))

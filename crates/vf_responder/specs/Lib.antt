@@ -3,12 +3,11 @@ pub mod Meanings
 pub mod Replies
 pub mod Answers
 pub mod Run
-pub mod Cut
 pub mod Events
 pub mod Along
 pub mod Represents
 pub mod Steps
-pub mod Hears
 pub mod Served
 pub mod Sends
 pub mod Examples
+pub mod Sends

@@ -13,7 +13,7 @@ use Rattle.vf_responder.specs.Along.{RepresentsAlong}
 use Rattle.vf_responder.specs.Answers.{at_end, spoken_in}
 use Rattle.vf_responder.specs.Represents.{Kept, Represents}
 use Rattle.vf_responder.specs.Run.{run, trail}
-use Rattle.vf_responder.specs.Served.{IsThrough, is_shut, octets_on}
+use Rattle.vf_responder.specs.Served.{is_shut, octets_on}
 use Rattle.vf_responder.specs.Serving.{Serving}
 use Rattle.vf_responder.specs.declared.error.ServeError.{ServeError}
 use Rattle.vf_responder.specs.declared.error.ServeError.TheVariants.{Respond, LinksFault, NoMemory}
@@ -65,19 +65,15 @@ pub record IsFresh (traffic : Traffic) (reply : Reply) : Type 0 where
   pub arrived : has_arrived reply.link traffic.events ≡ true
   pub whole : has_note reply.link traffic.failed ≡ false
 
--- On each link a front of what was said was taken behind what had been taken before: all of it, unless the link was lost. Those
--- that were lost are noted; and links were shut.
+-- What was said was taken, or a front of it on the links that were lost, which are noted; and links were shut.
 pub record AreSent (old new : Traffic) (said : List Reply) (lost : List ℕ) : Type 0 where
   pub events : new.events ≡ old.events
   pub left : new.left ≡ old.left
-  pub front : ℕ → List ℕ
   pub rest : ℕ → List ℕ
-  pub parts : (link : ℕ) → octets_on link said ≡ front link ++ rest link
-  pub taken : (link : ℕ) → new.taken link ≡ old.taken link ++ front link
+  pub taken : (link : ℕ) → old.taken link ++ octets_on link said ≡ new.taken link ++ rest link
   pub whole : (link : ℕ) → is_lost link lost ≡ false → rest link ≡ []
   pub failed : new.failed ≡ old.failed ++ map (λ (link : ℕ). (link, length old.events)) lost
   pub known : (link : ℕ) → is_lost link lost ≡ true → has_arrived link old.events ≡ true
-  pub first : (link : ℕ) → is_lost link lost ≡ true → has_note link old.failed ≡ false
   pub shut : (link : ℕ) → has_note link new.shut ≡ (has_note link old.shut || is_shut link said)
 
 -- where the object tells what was taken
@@ -120,10 +116,10 @@ RisesNext last last' (Ok (Some event)) = RisesWith last last' event
 RisesNext last last' (Ok None) = last' ≡ last
 RisesNext last last' (Err error) = last' ≡ last
 
-abbrev pub TurnsNext : (turns turns' : ℕ) (through : Bool) → Result (Option LinkEvent) ServeError → Type 0
-TurnsNext turns turns' through (Ok (Some event)) = turns' < turns
-TurnsNext turns turns' through (Ok None) = IsThrough turns' through
-TurnsNext turns turns' through (Err error) = Unit {0}
+abbrev pub TurnsNext : (turns turns' : ℕ) → Result (Option LinkEvent) ServeError → Type 0
+TurnsNext turns turns' (Ok (Some event)) = turns' < turns
+TurnsNext turns turns' (Ok None) = Unit {0}
+TurnsNext turns turns' (Err error) = Unit {0}
 
 -- an event is one, and not the end
 abbrev pub IsEventNext : Result (Option LinkEvent) ServeError → Type 0

@@ -1,5 +1,5 @@
 //! What is answered to octets, one thing that they tell after the other.
-ghost use Rattle.std.specs.Prelude.{◌≡◌, ◌+◌, ◌<◌, ◌≤◌, ◌∷◌, [], ℕ, IfNone, IfOk, IfSome, None, OnErr, OnOk, Some, false, length, true};
+ghost use Rattle.std.specs.Prelude.{◌≡◌, ◌+◌, ◌<◌, ◌≤◌, ◌∷◌, [], ℕ, IfNone, IfOk, IfSome, None, OnOk, Some, false, length, true};
 ghost use Rattle.vf_elements.specs.declared.message.Said.TheVariants as answers;
 ghost use Rattle.std.specs.List.{AllByRecursion};
 ghost use Rattle.vf_filestore.specs.Ranges.{IsRead};
@@ -23,6 +23,7 @@ use crate::event::Reply;
 use crate::keeping::{Keeping, put};
 use crate::link::Link;
 use crate::meaning::{Asked, Meaning, SUPERSEDED, asked_by, meaning_of};
+use crate::replies::speak;
 use std::alloc::Global;
 use vf_base::{Moment, Name, NoMemory};
 use vf_disk::Disk;
@@ -59,7 +60,7 @@ fn recovering(link: &Link, message: &Message) -> Option<u32>
 }
 
 impl<D: Disk> Keeping<D> {
-    /// Octets come on a link. What is said is said before the next of them is heard; after an error nothing of it is appended.
+    /// Octets come on a link. What is said is said before the next of them is heard.
     pub(crate) fn hear(
         &mut self,
         alloc: Global,
@@ -74,17 +75,13 @@ impl<D: Disk> Keeping<D> {
         ensures causes { AnswerCauses self.old.store.journal.limit (D.fault_count self.old.store.disk) (D.fault_count self.new.store.disk) result }
         ensures limit { self.new.store.journal.limit ≡ self.old.store.journal.limit }
         ensures bound { length self.old.links.entries ≤ 64 → length self.new.links.entries ≤ 64 }
-        ensures err { OnErr result (replies.new.items ≡ replies.old.items) }
     {
         let Some(link) = self.links.swap_remove(&number) else {
             return Ok(());
         };
         let mut link = link;
-        let mut said = Vec::new(alloc);
-        let heard = self.hear_all(alloc, &mut link, moment, octets, &mut said);
-        self.put_back(link, heard)?;
-        replies.append(&mut said)?;
-        Ok(())
+        let heard = self.hear_all(alloc, &mut link, moment, octets, replies);
+        self.put_back(link, heard)
     }
 
     /// A link that was taken out of the others is put back where it goes on.
@@ -159,8 +156,11 @@ impl<D: Disk> Keeping<D> {
         ensures fewer { length self.new.links.entries ≤ length self.old.links.entries }
         ensures apart { link_of link.old.number self.old.links.entries ≡ None → link_of link.old.number self.new.links.entries ≡ None }
     {
-        let told = link.hear(alloc, octets, replies)?;
-        if !self.tell_all(alloc, link, moment, told, replies)? {
+        let mut indications = Vec::new(alloc);
+        let mut answers = Vec::new(alloc);
+        link.stack.feed(octets, &mut indications, &mut answers)?;
+        speak(link.number, answers, false, replies)?;
+        if !self.tell_all(alloc, link, moment, indications, replies)? {
             return Ok(false);
         }
         if link.stack.ended() {

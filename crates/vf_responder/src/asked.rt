@@ -8,9 +8,9 @@ ghost use Rattle.vf_filestore.specs.Transfers.{last_check as last_check_meant, u
 ghost use Rattle.vf_party.specs.Quiets.{IsQuiet};
 ghost use Rattle.vf_party.specs.Turns.{IsParty};
 
+use vf_party::{Party, Quiet};
 use vf_base::Name;
 use vf_elements::Stage;
-use vf_party::{Party, Quiet};
 
 /// The identity of an association in which no transfer is under way.
 fn identity_in(quiet: &Quiet) -> &Name

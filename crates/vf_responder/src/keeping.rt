@@ -50,7 +50,6 @@ impl<D: Disk> Keeping<D> {
         ensures answers { OnOk result (Does (trail (script.Arrived number)) (kept_of self.old) replies.old.items (kept_of self.new) replies.new.items) }
         ensures store { self.new.store ≡ self.old.store }
         ensures bound { length self.old.links.entries ≤ 64 → length self.new.links.entries ≤ 64 }
-        ensures err { OnErr result (replies.new.items ≡ replies.old.items) }
     {
         if self.links.contains_key(&number) {
             return Ok(());

@@ -17,7 +17,7 @@ mod serving;
 
 pub use error::ServeError;
 pub use event::{Event, Reply};
-pub use laws::{examples_compute, octets_may_be_cut};
+pub use laws::examples_compute;
 pub use responder::Responder;
 pub use serving::{Served, serve};
 pub use vf_store::StoreError as RespondError;

@@ -4,14 +4,11 @@ ghost use Rattle.vf_filestore.specs.State.{arrived as arrived_meant};
 ghost use Rattle.vf_party.specs.Settings.{setting_of};
 ghost use Rattle.vf_party.specs.Turns.{LeavesParty};
 ghost use Rattle.vf_responder.specs.Answers.{setting_at};
-ghost use Rattle.vf_responder.specs.Hears.{IsHeard};
 ghost use Rattle.vf_responder.specs.Replies.{sending_all};
 ghost use Rattle.vf_responder.specs.Represents.{IsLink};
 ghost use Rattle.vf_responder.specs.Steps.{IsAsked, IsCalled, IsSaid, TakesOn};
-ghost use Rattle.vf_session.specs.declared.units.TokenSide.TheVariants as sides;
 ghost use Rattle.vf_stack.specs.Association.{Association, beginning};
-ghost use Rattle.vf_stack.specs.Receiving.{octets_received};
-ghost use Rattle.vf_stack.specs.declared.indication.Indication.{Indication as IndicationMeant};
+ghost use Rattle.vf_stack.specs.declared.indication.Indication.{Indication};
 ghost use Rattle.vf_stack.specs.declared.indication.Indication.TheVariants as indications;
 
 use crate::event::Reply;
@@ -23,7 +20,7 @@ use vf_base::{Moment, NoMemory};
 use vf_elements::Said;
 use vf_locks::Locks;
 use vf_party::{Message, Outcome, Party, Setting};
-use vf_stack::{Indication, Stack};
+use vf_stack::Stack;
 use vf_tables::Tables;
 
 /// What its lower layers have received and sent, and the party on it.
@@ -48,28 +45,9 @@ impl Link {
         })
     }
 
-    /// Hears octets, and speaks what transport answers to them. Says what they tell.
-    pub(crate) fn hear(
-        &mut self,
-        alloc: Global,
-        octets: &[u8],
-        replies: &mut Vec<Reply>,
-    ) -> Result<Vec<Indication>, NoMemory>
-        ensures heard { IfOk result (λ told. (association : Association) → IsCalled self.old.stack association
-            → IsHeard self.old.number (octets_received sides.Responder association octets.now) replies.old.items self.new.stack told.items replies.new.items) }
-        ensures party { self.new.party ≡ self.old.party }
-        ensures number { self.new.number ≡ self.old.number }
-    {
-        let mut told = Vec::new(alloc);
-        let mut answers = Vec::new(alloc);
-        self.stack.feed(octets, &mut told, &mut answers)?;
-        speak(self.number, answers, false, replies)?;
-        Ok(told)
-    }
-
     /// What the session says of the moment.
     fn setting(&self, moment: Moment, asked: Asked) -> Setting
-        ensures { (association : Association) (indication : IndicationMeant) → IsCalled self.now.stack association → IsAsked asked indication
+        ensures { (association : Association) (indication : Indication) → IsCalled self.now.stack association → IsAsked asked indication
             → setting_of result ≡ setting_at moment association indication }
     {
         Setting {
@@ -114,7 +92,7 @@ impl Link {
         shut: bool,
         replies: &mut Vec<Reply>,
     ) -> Result<(), NoMemory>
-        ensures said { OnOk result ((association : Association) (indication : IndicationMeant) → IsCalled self.old.stack association → IsAsked asked indication
+        ensures said { OnOk result ((association : Association) (indication : Indication) → IsCalled self.old.stack association → IsAsked asked indication
             → IsSaid self.old.number (sending_all indication association said.items) shut replies.old.items self.new.stack replies.new.items) }
         ensures party { self.new.party ≡ self.old.party }
         ensures number { self.new.number ≡ self.old.number }
@@ -146,7 +124,7 @@ impl Link {
         next: Option<Party>,
         replies: &mut Vec<Reply>,
     ) -> Result<bool, NoMemory>
-        ensures said { OnOk result ((association : Association) (indication : IndicationMeant) → IsCalled self.old.stack association → IsAsked asked indication
+        ensures said { OnOk result ((association : Association) (indication : Indication) → IsCalled self.old.stack association → IsAsked asked indication
             → IsSaid self.old.number (sending_all indication association said.items) (not (is_some next)) replies.old.items self.new.stack replies.new.items) }
         ensures goes { IfOk result (λ goes. goes ≡ is_some next) }
         ensures party { OnOk result (IfSome next (λ next. self.new.party ≡ next)) }
@@ -170,7 +148,6 @@ impl Link {
         ensures said { OnOk result ((association : Association) → IsCalled self.old.stack association
             → IsSaid self.old.number (sending_all (indications.Abort None) association said.items) true replies.old.items self.new.stack replies.new.items) }
         ensures leaves { LeavesParty self.old.party locks.old locks.new }
-        ensures number { self.new.number ≡ self.old.number }
     {
         let party = mem::replace(&mut self.party, Party::arrived(self.number));
         party.leave(locks);

@@ -1,23 +1,16 @@
 //! What a responder begins with.
-ghost use Rattle.std.specs.Prelude.{◌≡◌, IfOk, None, OnOk};
+ghost use Rattle.std.specs.Prelude.{IfOk};
 ghost use Rattle.vf_filestore.specs.HoldersAfter.{Keeps};
-ghost use Rattle.vf_filestore.specs.HoldersOfRows.{holder_of};
 ghost use Rattle.vf_filestore.specs.Sound.{Begins};
 ghost use Rattle.vf_filestore.specs.State.{State};
-ghost use Rattle.vf_locks.specs.Clash.{conflict};
-ghost use Rattle.vf_locks.specs.Holders.{granted};
-ghost use Rattle.vf_locks.specs.Table.{IsWith, held};
 
 use std::alloc::Global;
 use vf_base::{Controls, NoMemory};
 use vf_locks::{GrantError, Holder, Locks};
 use vf_tables::{Docket, Tables};
 
-/// The docket holds its file, where nothing stands against it.
-fn hold(alloc: Global, docket: &Docket, locks: &mut Locks) -> Result<(), NoMemory>
-    ensures { OnOk result (conflict (holder_of docket.now) docket.now.regime.controls (held docket.now.regime.file locks.old) ≡ None
-        → IsWith docket.now.regime.file (granted (holder_of docket.now) docket.now.regime.controls (held docket.now.regime.file locks.old)) locks.old locks.new) }
-{
+/// The docket holds its file.
+fn hold(alloc: Global, docket: &Docket, locks: &mut Locks) -> Result<(), NoMemory> {
     let regime = &docket.regime;
     let identity = regime.identity.copy(alloc)?;
     let holder = Holder::Docket {

@@ -1,5 +1,5 @@
 //! How what a party says is carried by the lower layers (ISO 8571-4; ISO 8327, checkpoints).
-ghost use Rattle.std.specs.Prelude.{◌≡◌, ◌++◌, IfOk, OnErr, OnOk};
+ghost use Rattle.std.specs.Prelude.{◌≡◌, ◌++◌, IfOk, OnOk};
 ghost use Rattle.vf_responder.specs.Answers.{speaking};
 ghost use Rattle.vf_responder.specs.Replies.{abort_request as abort_meant, pdu_request, request_of as request_meant, sending, sending_all};
 ghost use Rattle.vf_responder.specs.Steps.{IsAsked, IsCalled, Sends};
@@ -120,8 +120,7 @@ pub(crate) fn speak(
     shut: bool,
     replies: &mut Vec<Reply>,
 ) -> Result<(), NoMemory>
-    ensures said { OnOk result (replies.new.items ≡ replies.old.items ++ speaking link octets.items shut) }
-    ensures err { OnErr result (replies.new.items ≡ replies.old.items) }
+    ensures { OnOk result (replies.new.items ≡ replies.old.items ++ speaking link octets.items shut) }
 {
     if octets.is_empty() && !shut {
         return Ok(());

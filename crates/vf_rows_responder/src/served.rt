@@ -25,7 +25,7 @@ struct Sessions {
 }
 
 /// The recorded session, and beside it one that has nothing to do with it.
-fn two_sessions(alloc: Global) -> Result<Sessions, Fail> {
+fn sessions(alloc: Global) -> Result<Sessions, Fail> {
     let (first, _) = recorded(alloc, SESSION)?;
     let (second, _) = recorded(alloc, OTHER)?;
     Ok(Sessions { first, second })
@@ -98,7 +98,7 @@ fn has_taken(alloc: Global, links: &ScriptLinks, link: u32, octets: &[u8]) -> Re
 #[test]
 fn two_links_are_served(rt: HostRuntime) -> Result<(), Fail> {
     let alloc = rt.alloc();
-    let both = two_sessions(alloc)?;
+    let both = sessions(alloc)?;
     let (_, first) = recorded(alloc, SESSION)?;
     let (_, second) = recorded(alloc, OTHER)?;
     let disk = created(alloc)?;
@@ -147,7 +147,7 @@ fn breaks_one(
 #[test]
 fn a_send_that_fails_breaks_its_link_alone(rt: HostRuntime) -> Result<(), Fail> {
     let alloc = rt.alloc();
-    let both = two_sessions(alloc)?;
+    let both = sessions(alloc)?;
     let disk = created(alloc)?;
     let (whole, _disk, _answer) = served(alloc, disk, &both, 40, 0, 0)?;
     let mut send = 1;
@@ -161,7 +161,7 @@ fn a_send_that_fails_breaks_its_link_alone(rt: HostRuntime) -> Result<(), Fail> 
 #[test]
 fn a_wait_that_fails_ends_serving(rt: HostRuntime) -> Result<(), Fail> {
     let alloc = rt.alloc();
-    let both = two_sessions(alloc)?;
+    let both = sessions(alloc)?;
     for next in 1..=4 {
         let disk = created(alloc)?;
         let (_links, _disk, answer) = served(alloc, disk, &both, 10_000, next, 0)?;
@@ -184,7 +184,7 @@ fn fails_at(alloc: Global, octets: &[u8], both: &Sessions, call: u64) -> Result<
 #[test]
 fn a_call_of_the_disk_that_fails_ends_serving(rt: HostRuntime) -> Result<(), Fail> {
     let alloc = rt.alloc();
-    let both = two_sessions(alloc)?;
+    let both = sessions(alloc)?;
     let made = created(alloc)?;
     let mut call = 1;
     while fails_at(alloc, made.octets(), &both, call)? {
@@ -198,7 +198,7 @@ fn a_call_of_the_disk_that_fails_ends_serving(rt: HostRuntime) -> Result<(), Fai
 fn a_disk_that_is_no_store_is_refused(rt: HostRuntime) -> Result<(), Fail> {
     let alloc = rt.alloc();
     let disk = MemoryDisk::of(alloc, &[], Vec::new(alloc))?;
-    let both = two_sessions(alloc)?;
+    let both = sessions(alloc)?;
     let (_links, _disk, answer) = served(alloc, disk, &both, 100, 0, 0)?;
     let expected = RespondError::NotAStore {
         at: 0,

@@ -1,7 +1,6 @@
 //! Octets as records of changes.
 use std::alloc::Global;
 use std::test::Fail;
-use vf_base::Octets;
 use vf_store_record::{read, write};
 use vf_tables::{Change, Changes};
 
@@ -23,8 +22,7 @@ const TABLE: [(&[u8], Option<usize>); 12] = [
 
 /// The changes of octets that are to be a record.
 pub fn changes_of(alloc: Global, octets: &[u8]) -> Result<Changes, Fail> {
-    let octets = Octets::of(alloc, octets)?;
-    let found = read(alloc, &octets)?;
+    let found = read(alloc, octets)?;
     match found {
         Some(changes) => Ok(changes),
         None => Err(Fail::from("no record")),
@@ -41,8 +39,7 @@ fn count_of(found: &Option<Changes>) -> Option<usize> {
 #[test]
 fn octets_are_read_as_changes(rt: HostRuntime) -> Result<(), Fail> {
     for (octets, wanted) in TABLE {
-        let octets = Octets::of(rt.alloc(), octets)?;
-        let found = read(rt.alloc(), &octets)?;
+        let found = read(rt.alloc(), octets)?;
         assert!(rt; count_of(&found) == wanted);
     }
     Ok(())
@@ -62,30 +59,6 @@ fn what_is_read_is_written_as_the_same_octets(rt: HostRuntime) -> Result<(), Fai
         if wanted.is_some() {
             assert!(rt; is_written_again(rt.alloc(), octets)?);
         }
-    }
-    Ok(())
-}
-
-/// The record that stages two strings of so many octets for a task: the first one is of `a`, the second of `b`.
-fn staged(alloc: Global, count: u32) -> Result<Vec<u8>, Fail> {
-    let mut octets = Vec::new(alloc);
-    octets.extend_from_slice(b"\0\0\0\x01\x0a\0\0\0\x07\0\0\0\0\0\0\0\x02")?;
-    for letter in *b"ab" {
-        octets.push(4)?;
-        octets.extend_from_slice(&count.to_be_bytes())?;
-        for _ in 0..count {
-            octets.push(letter)?;
-        }
-    }
-    Ok(octets)
-}
-
-/// Strings are copied up to 4,095 octets, and shared with the record from 4,096 on.
-#[test]
-fn strings_of_any_length_are_written_again(rt: HostRuntime) -> Result<(), Fail> {
-    for count in [0, 1, 22, 23, 4_095, 4_096, 4_097, 65_536] {
-        let octets = staged(rt.alloc(), count)?;
-        assert!(rt; is_written_again(rt.alloc(), octets.as_slice())?);
     }
     Ok(())
 }

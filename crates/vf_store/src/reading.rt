@@ -21,7 +21,7 @@ use vf_tables::Doubled;
 
 /// Brings the tables on by a record; `false` exactly where it isn't of the grammar, and then they stay.
 #[tactic(auto, unfolding(crate::specs::Represented::after_record))]
-fn take_record(alloc: Global, tables: &mut Doubled, octets: &Octets) -> Result<bool, NoMemory>
+fn take_record(alloc: Global, tables: &mut Doubled, octets: &[u8]) -> Result<bool, NoMemory>
     ensures { IfOk result (λ is_made. IsMade (after_record tables.old octets.now) tables.old tables.new is_made) }
 {
     let Some(changes) = vf_store_record::read(alloc, octets)? else {
@@ -37,7 +37,7 @@ fn tables_of(alloc: Global, records: &[Octets]) -> Result<Doubled, NoMemory>
 {
     let mut tables = Doubled::new(alloc);
     for record in records {
-        if !take_record(alloc, &mut tables, record)? {
+        if !take_record(alloc, &mut tables, record.as_slice())? {
             return Ok(tables);
         }
     }

@@ -67,8 +67,7 @@ impl<D: Disk> Store<D> {
 
     /// Opens the store on a disk, whose records are to end within `limit` octets. The disk is synced, and otherwise only
     /// looked at: while it is opened a crash leaves what one before might have left. Of records that aren't of the grammar
-    /// none counts, nor any after it. Strings of 4,096 octets and more are parts of the records, which stay in memory with
-    /// them.
+    /// none counts, nor any after it.
     ///
     /// `NotAStore` comes where the first 16 octets differ from the header, at the first such place; where they agree and
     /// the disk has fewer than 34 octets, at its length; and where the selected anchor is misplaced, at its place, 17 or

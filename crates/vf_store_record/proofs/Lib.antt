@@ -1,7 +1,6 @@
 pub mod Exact
 pub mod Numbers
 pub mod Loop
-pub mod Rests
 pub mod Again
 pub mod Codes
 pub mod Ranges

@@ -4,15 +4,15 @@ ghost use Rattle.vf_store_record.specs.Formats.{repeated_read};
 ghost use Rattle.vf_store_record.specs.Reading.{Gives};
 ghost use Rattle.vf_store_record.specs.Records.{change, change_after, changes_of, docketed, piece};
 
+use crate::ReadError;
 use crate::contents::file_at;
 use crate::elements::{elements_at, user_at};
 use crate::fields::{name_at, octet_at, u32_at};
 use crate::files::attributes_at;
 use crate::plans::plan_at;
 use crate::regimes::regime_at;
-use crate::{ReadError, Rest};
 use std::alloc::Global;
-use vf_base::{Elements, Name, NoMemory, Octets, Sequence};
+use vf_base::{Elements, Name, NoMemory, Sequence};
 use vf_tables::{Change, Changes};
 
 /// Which docket is meant.
@@ -31,8 +31,8 @@ pub(crate) struct Piece {
 }
 
 #[tactic(auto, unfolding(crate::specs::Records::docketed))]
-fn docketed_at(alloc: Global, octets: Rest<'_>) -> Result<(Docketed, Rest<'_>), ReadError>
-    ensures { Gives (λ found. found) result (docketed.read octets.entry) }
+fn docketed_at(alloc: Global, octets: &[u8]) -> Result<(Docketed, &[u8]), ReadError>
+    ensures { Gives (λ found. (found.0, found.1.now)) result (docketed.read octets.now) }
 {
     let (identity, rest) = name_at(alloc, octets)?;
     let (activity, rest) = u32_at(rest)?;
@@ -40,8 +40,8 @@ fn docketed_at(alloc: Global, octets: Rest<'_>) -> Result<(Docketed, Rest<'_>), 
 }
 
 #[tactic(auto, unfolding(crate::specs::Records::piece))]
-fn piece_at(alloc: Global, octets: Rest<'_>) -> Result<(Piece, Rest<'_>), ReadError>
-    ensures { Gives (λ found. found) result (piece.read octets.entry) }
+fn piece_at(alloc: Global, octets: &[u8]) -> Result<(Piece, &[u8]), ReadError>
+    ensures { Gives (λ found. (found.0, found.1.now)) result (piece.read octets.now) }
 {
     let (first, rest) = u32_at(octets)?;
     let (last, rest) = u32_at(rest)?;
@@ -56,23 +56,23 @@ fn piece_at(alloc: Global, octets: Rest<'_>) -> Result<(Piece, Rest<'_>), ReadEr
     ))
 }
 
-fn put_user_at(alloc: Global, octets: Rest<'_>) -> Result<(Change, Rest<'_>), ReadError>
-    ensures { Gives (λ found. found) result (change_after 1 octets.entry) }
+fn put_user_at(alloc: Global, octets: &[u8]) -> Result<(Change, &[u8]), ReadError>
+    ensures { Gives (λ found. (found.0, found.1.now)) result (change_after 1 octets.now) }
 {
     let (user, rest) = user_at(alloc, octets)?;
     Ok((Change::PutUser { user }, rest))
 }
 
-fn put_file_at(alloc: Global, octets: Rest<'_>) -> Result<(Change, Rest<'_>), ReadError>
-    ensures { Gives (λ found. found) result (change_after 2 octets.entry) }
+fn put_file_at(alloc: Global, octets: &[u8]) -> Result<(Change, &[u8]), ReadError>
+    ensures { Gives (λ found. (found.0, found.1.now)) result (change_after 2 octets.now) }
 {
     let (file, rest) = file_at(alloc, octets)?;
     Ok((Change::PutFile { file }, rest))
 }
 
 #[tactic(auto, unfolding(crate::specs::Records::renaming))]
-fn put_attributes_at(alloc: Global, octets: Rest<'_>) -> Result<(Change, Rest<'_>), ReadError>
-    ensures { Gives (λ found. found) result (change_after 3 octets.entry) }
+fn put_attributes_at(alloc: Global, octets: &[u8]) -> Result<(Change, &[u8]), ReadError>
+    ensures { Gives (λ found. (found.0, found.1.now)) result (change_after 3 octets.now) }
 {
     let (old, rest) = name_at(alloc, octets)?;
     let (name, rest) = name_at(alloc, rest)?;
@@ -87,23 +87,23 @@ fn put_attributes_at(alloc: Global, octets: Rest<'_>) -> Result<(Change, Rest<'_
     ))
 }
 
-fn drop_file_at(alloc: Global, octets: Rest<'_>) -> Result<(Change, Rest<'_>), ReadError>
-    ensures { Gives (λ found. found) result (change_after 4 octets.entry) }
+fn drop_file_at(alloc: Global, octets: &[u8]) -> Result<(Change, &[u8]), ReadError>
+    ensures { Gives (λ found. (found.0, found.1.now)) result (change_after 4 octets.now) }
 {
     let (name, rest) = name_at(alloc, octets)?;
     Ok((Change::DropFile { name }, rest))
 }
 
-fn put_docket_at(alloc: Global, octets: Rest<'_>) -> Result<(Change, Rest<'_>), ReadError>
-    ensures { Gives (λ found. found) result (change_after 5 octets.entry) }
+fn put_docket_at(alloc: Global, octets: &[u8]) -> Result<(Change, &[u8]), ReadError>
+    ensures { Gives (λ found. (found.0, found.1.now)) result (change_after 5 octets.now) }
 {
     let (regime, rest) = regime_at(alloc, octets)?;
     Ok((Change::PutDocket { regime }, rest))
 }
 
 #[tactic(auto, unfolding(crate::specs::Records::staging))]
-fn stage_at(alloc: Global, octets: Rest<'_>) -> Result<(Change, Rest<'_>), ReadError>
-    ensures { Gives (λ found. found) result (change_after 6 octets.entry) }
+fn stage_at(alloc: Global, octets: &[u8]) -> Result<(Change, &[u8]), ReadError>
+    ensures { Gives (λ found. (found.0, found.1.now)) result (change_after 6 octets.now) }
 {
     let (docket, rest) = docketed_at(alloc, octets)?;
     let (piece, rest) = piece_at(alloc, rest)?;
@@ -118,8 +118,8 @@ fn stage_at(alloc: Global, octets: Rest<'_>) -> Result<(Change, Rest<'_>), ReadE
 }
 
 #[tactic(auto, unfolding(crate::specs::Records::cutting))]
-fn cut_stage_at(alloc: Global, octets: Rest<'_>) -> Result<(Change, Rest<'_>), ReadError>
-    ensures { Gives (λ found. found) result (change_after 7 octets.entry) }
+fn cut_stage_at(alloc: Global, octets: &[u8]) -> Result<(Change, &[u8]), ReadError>
+    ensures { Gives (λ found. (found.0, found.1.now)) result (change_after 7 octets.now) }
 {
     let (docket, rest) = docketed_at(alloc, octets)?;
     let (point, rest) = u32_at(rest)?;
@@ -131,8 +131,8 @@ fn cut_stage_at(alloc: Global, octets: Rest<'_>) -> Result<(Change, Rest<'_>), R
     Ok((change, rest))
 }
 
-fn drop_docket_at(alloc: Global, octets: Rest<'_>) -> Result<(Change, Rest<'_>), ReadError>
-    ensures { Gives (λ found. found) result (change_after 8 octets.entry) }
+fn drop_docket_at(alloc: Global, octets: &[u8]) -> Result<(Change, &[u8]), ReadError>
+    ensures { Gives (λ found. (found.0, found.1.now)) result (change_after 8 octets.now) }
 {
     let (docket, rest) = docketed_at(alloc, octets)?;
     let change = Change::DropDocket {
@@ -142,16 +142,16 @@ fn drop_docket_at(alloc: Global, octets: Rest<'_>) -> Result<(Change, Rest<'_>),
     Ok((change, rest))
 }
 
-fn put_task_at(alloc: Global, octets: Rest<'_>) -> Result<(Change, Rest<'_>), ReadError>
-    ensures { Gives (λ found. found) result (change_after 9 octets.entry) }
+fn put_task_at(alloc: Global, octets: &[u8]) -> Result<(Change, &[u8]), ReadError>
+    ensures { Gives (λ found. (found.0, found.1.now)) result (change_after 9 octets.now) }
 {
     let (plan, rest) = plan_at(alloc, octets)?;
     Ok((Change::PutTask { plan }, rest))
 }
 
 #[tactic(auto, unfolding(crate::specs::Records::task_staging))]
-fn stage_task_at(alloc: Global, octets: Rest<'_>) -> Result<(Change, Rest<'_>), ReadError>
-    ensures { Gives (λ found. found) result (change_after 10 octets.entry) }
+fn stage_task_at(alloc: Global, octets: &[u8]) -> Result<(Change, &[u8]), ReadError>
+    ensures { Gives (λ found. (found.0, found.1.now)) result (change_after 10 octets.now) }
 {
     let (activity, rest) = u32_at(octets)?;
     let (point, rest) = u32_at(rest)?;
@@ -167,24 +167,24 @@ fn stage_task_at(alloc: Global, octets: Rest<'_>) -> Result<(Change, Rest<'_>), 
 }
 
 #[tactic(auto, unfolding(crate::specs::Records::task_cutting))]
-fn cut_task_at(octets: Rest<'_>) -> Result<(Change, Rest<'_>), ReadError>
-    ensures { Gives (λ found. found) result (change_after 11 octets.entry) }
+fn cut_task_at(octets: &[u8]) -> Result<(Change, &[u8]), ReadError>
+    ensures { Gives (λ found. (found.0, found.1.now)) result (change_after 11 octets.now) }
 {
     let (activity, rest) = u32_at(octets)?;
     let (point, rest) = u32_at(rest)?;
     Ok((Change::CutTask { activity, point }, rest))
 }
 
-fn drop_task_at(octets: Rest<'_>) -> Result<(Change, Rest<'_>), ReadError>
-    ensures { Gives (λ found. found) result (change_after 12 octets.entry) }
+fn drop_task_at(octets: &[u8]) -> Result<(Change, &[u8]), ReadError>
+    ensures { Gives (λ found. (found.0, found.1.now)) result (change_after 12 octets.now) }
 {
     let (activity, rest) = u32_at(octets)?;
     Ok((Change::DropTask { activity }, rest))
 }
 
 /// A change whose kind was read.
-fn change_of(alloc: Global, kind: u8, octets: Rest<'_>) -> Result<(Change, Rest<'_>), ReadError>
-    ensures { Gives (λ found. found) result (change_after kind octets.entry) }
+fn change_of(alloc: Global, kind: u8, octets: &[u8]) -> Result<(Change, &[u8]), ReadError>
+    ensures { Gives (λ found. (found.0, found.1.now)) result (change_after kind octets.now) }
 {
     match kind {
         1 => put_user_at(alloc, octets),
@@ -204,15 +204,15 @@ fn change_of(alloc: Global, kind: u8, octets: Rest<'_>) -> Result<(Change, Rest<
 }
 
 #[tactic(auto, unfolding(crate::specs::Records::change))]
-fn change_at(alloc: Global, octets: Rest<'_>) -> Result<(Change, Rest<'_>), ReadError>
-    ensures { Gives (λ found. found) result (change.read octets.entry) }
+fn change_at(alloc: Global, octets: &[u8]) -> Result<(Change, &[u8]), ReadError>
+    ensures { Gives (λ found. (found.0, found.1.now)) result (change.read octets.now) }
 {
     let (kind, rest) = octet_at(octets)?;
     change_of(alloc, kind, rest)
 }
 
-fn changes_in(alloc: Global, count: u32, octets: Rest<'_>) -> Result<(Changes, Rest<'_>), ReadError>
-    ensures { Gives (λ found. found) result (repeated_read change count octets.entry) }
+fn changes_in(alloc: Global, count: u32, octets: &[u8]) -> Result<(Changes, &[u8]), ReadError>
+    ensures { Gives (λ found. (found.0, found.1.now)) result (repeated_read change count octets.now) }
 {
     let mut changes = Sequence::new(alloc);
     let mut rest = octets;
@@ -225,10 +225,10 @@ fn changes_in(alloc: Global, count: u32, octets: Rest<'_>) -> Result<(Changes, R
 }
 
 #[tactic(auto, unfolding(crate::specs::Records::changes, crate::specs::Fields::number32))]
-fn whole(alloc: Global, octets: &Octets) -> Result<Changes, ReadError>
+fn whole(alloc: Global, octets: &[u8]) -> Result<Changes, ReadError>
     ensures { Gives (λ found. found) result (changes_of octets.now) }
 {
-    let (count, rest) = u32_at(Rest::of(octets))?;
+    let (count, rest) = u32_at(octets)?;
     let (changes, rest) = changes_in(alloc, count, rest)?;
     if !rest.is_empty() {
         return Err(ReadError::Foreign);
@@ -236,9 +236,8 @@ fn whole(alloc: Global, octets: &Octets) -> Result<Changes, ReadError>
     Ok(changes)
 }
 
-/// The changes of a record; `None` exactly where the octets are no record of changes. Strings of 4,096 octets and more in
-/// contents and elements are parts of the record: each keeps all of it.
-pub fn read(alloc: Global, octets: &Octets) -> Result<Option<Changes>, NoMemory>
+/// The changes of a record; `None` exactly where the octets are no record of changes.
+pub fn read(alloc: Global, octets: &[u8]) -> Result<Option<Changes>, NoMemory>
     ensures { IfOk result (λ found. found ≡ changes_of octets.now) }
 {
     match whole(alloc, octets) {

@@ -6,9 +6,9 @@ ghost use Rattle.vf_store_record.specs.Reading.{Gives};
 ghost use Rattle.vf_store_record.specs.Records.{constraint_for as constraint_meant, file, file_from, has_shape as shape_meant, is_tree as tree_meant};
 ghost use Rattle.vf_tree.specs.FileTree.{IsWithinFile, octets_in, octets_of_unit, parts_in};
 
+use crate::ReadError;
 use crate::fields::{name_at, string_at, u32_at};
 use crate::files::attributes_at;
-use crate::{ReadError, Rest};
 use std::alloc::Global;
 use vf_attr::{Attributes, File};
 use vf_base::{Constraint, Contents, DataUnit, Element, FaduId, Name, NoMemory, Octets, Sequence};
@@ -55,9 +55,9 @@ fn constraint_for(contents: &Contents) -> Constraint
 fn element_in<'a>(
     alloc: Global,
     contents: &Contents,
-    octets: Rest<'a>,
-) -> Result<(Element, Rest<'a>), ReadError>
-    ensures { Gives (λ found. found) result ((string_in contents.now).read octets.entry) }
+    octets: &'a [u8],
+) -> Result<(Element, &'a [u8]), ReadError>
+    ensures { Gives (λ found. (found.0, found.1.now)) result ((string_in contents.now).read octets.now) }
 {
     let (string, rest) = string_at(alloc, octets)?;
     Ok((string_of(contents, string), rest))
@@ -67,9 +67,9 @@ fn strings_in<'a>(
     alloc: Global,
     contents: &Contents,
     count: u32,
-    octets: Rest<'a>,
-) -> Result<(DataUnit, Rest<'a>), ReadError>
-    ensures { Gives (λ found. found) result (repeated_read (string_in contents.now) count octets.entry) }
+    octets: &'a [u8],
+) -> Result<(DataUnit, &'a [u8]), ReadError>
+    ensures { Gives (λ found. (found.0, found.1.now)) result (repeated_read (string_in contents.now) count octets.now) }
 {
     let mut unit = Sequence::new(alloc);
     let mut rest = octets;
@@ -85,9 +85,9 @@ fn strings_in<'a>(
 fn unit_at<'a>(
     alloc: Global,
     contents: &Contents,
-    octets: Rest<'a>,
-) -> Result<(DataUnit, Rest<'a>), ReadError>
-    ensures { Gives (λ found. found) result ((unit_in contents.now).read octets.entry) }
+    octets: &'a [u8],
+) -> Result<(DataUnit, &'a [u8]), ReadError>
+    ensures { Gives (λ found. (found.0, found.1.now)) result ((unit_in contents.now).read octets.now) }
 {
     let (count, rest) = u32_at(octets)?;
     strings_in(alloc, contents, count, rest)
@@ -97,9 +97,9 @@ fn units_of<'a>(
     alloc: Global,
     contents: &Contents,
     count: u32,
-    octets: Rest<'a>,
-) -> Result<(Vec<DataUnit>, Rest<'a>), ReadError>
-    ensures { Gives (λ found. (found.0.items, found.1)) result (repeated_read (unit_in contents.now) count octets.entry) }
+    octets: &'a [u8],
+) -> Result<(Vec<DataUnit>, &'a [u8]), ReadError>
+    ensures { Gives (λ found. (found.0.items, found.1.now)) result (repeated_read (unit_in contents.now) count octets.now) }
 {
     let mut units = Vec::new(alloc);
     let mut rest = octets;
@@ -115,9 +115,9 @@ fn units_of<'a>(
 fn units_at<'a>(
     alloc: Global,
     contents: &Contents,
-    octets: Rest<'a>,
-) -> Result<(Vec<DataUnit>, Rest<'a>), ReadError>
-    ensures { Gives (λ found. (found.0.items, found.1)) result ((units_in contents.now).read octets.entry) }
+    octets: &'a [u8],
+) -> Result<(Vec<DataUnit>, &'a [u8]), ReadError>
+    ensures { Gives (λ found. (found.0.items, found.1.now)) result ((units_in contents.now).read octets.now) }
 {
     let (count, rest) = u32_at(octets)?;
     units_of(alloc, contents, count, rest)
@@ -232,8 +232,8 @@ fn joined(name: Name, attributes: Attributes, tree: Tree) -> File
 }
 
 #[tactic(auto, unfolding(crate::specs::Records::file))]
-pub(crate) fn file_at(alloc: Global, octets: Rest<'_>) -> Result<(File, Rest<'_>), ReadError>
-    ensures { Gives (λ found. found) result (file.read octets.entry) }
+pub(crate) fn file_at(alloc: Global, octets: &[u8]) -> Result<(File, &[u8]), ReadError>
+    ensures { Gives (λ found. (found.0, found.1.now)) result (file.read octets.now) }
 {
     let (name, rest) = name_at(alloc, octets)?;
     let (attributes, rest) = attributes_at(alloc, rest)?;

@@ -5,17 +5,17 @@ ghost use Rattle.vf_store_record.specs.Entries.{element, element_after, elements
 ghost use Rattle.vf_store_record.specs.Formats.{repeated_read};
 ghost use Rattle.vf_store_record.specs.Reading.{Gives};
 
+use crate::ReadError;
 use crate::fields::{
     name_at, octet_at, optional_name_at, optional_text_at, string_at, truth_at, u32_at,
 };
-use crate::{ReadError, Rest};
 use std::alloc::Global;
 use vf_base::{Element, Elements, Sequence};
 use vf_tables::User;
 
 #[tactic(auto, unfolding(crate::specs::Entries::user))]
-pub(crate) fn user_at(alloc: Global, octets: Rest<'_>) -> Result<(User, Rest<'_>), ReadError>
-    ensures { Gives (λ found. found) result (user.read octets.entry) }
+pub(crate) fn user_at(alloc: Global, octets: &[u8]) -> Result<(User, &[u8]), ReadError>
+    ensures { Gives (λ found. (found.0, found.1.now)) result (user.read octets.now) }
 {
     let (identity, rest) = name_at(alloc, octets)?;
     let (password, rest) = optional_text_at(alloc, rest)?;
@@ -29,8 +29,8 @@ fn is_class(kind: u8) -> bool
 }
 
 #[tactic(auto, unfolding(crate::specs::Entries::descriptor))]
-fn descriptor_at(alloc: Global, octets: Rest<'_>) -> Result<(Element, Rest<'_>), ReadError>
-    ensures { Gives (λ found. found) result (element_after 0 octets.entry) }
+fn descriptor_at(alloc: Global, octets: &[u8]) -> Result<(Element, &[u8]), ReadError>
+    ensures { Gives (λ found. (found.0, found.1.now)) result (element_after 0 octets.now) }
 {
     let (name, rest) = optional_name_at(alloc, octets)?;
     let (filled, rest) = truth_at(rest)?;
@@ -38,8 +38,8 @@ fn descriptor_at(alloc: Global, octets: Rest<'_>) -> Result<(Element, Rest<'_>),
 }
 
 /// An element whose kind was read.
-fn element_of(alloc: Global, kind: u8, octets: Rest<'_>) -> Result<(Element, Rest<'_>), ReadError>
-    ensures { Gives (λ found. found) result (element_after kind octets.entry) }
+fn element_of(alloc: Global, kind: u8, octets: &[u8]) -> Result<(Element, &[u8]), ReadError>
+    ensures { Gives (λ found. (found.0, found.1.now)) result (element_after kind octets.now) }
 {
     match kind {
         0 => descriptor_at(alloc, octets),
@@ -58,19 +58,15 @@ fn element_of(alloc: Global, kind: u8, octets: Rest<'_>) -> Result<(Element, Res
 }
 
 #[tactic(auto, unfolding(crate::specs::Entries::element))]
-fn element_at(alloc: Global, octets: Rest<'_>) -> Result<(Element, Rest<'_>), ReadError>
-    ensures { Gives (λ found. found) result (element.read octets.entry) }
+fn element_at(alloc: Global, octets: &[u8]) -> Result<(Element, &[u8]), ReadError>
+    ensures { Gives (λ found. (found.0, found.1.now)) result (element.read octets.now) }
 {
     let (kind, rest) = octet_at(octets)?;
     element_of(alloc, kind, rest)
 }
 
-fn elements_of(
-    alloc: Global,
-    count: u32,
-    octets: Rest<'_>,
-) -> Result<(Elements, Rest<'_>), ReadError>
-    ensures { Gives (λ found. found) result (repeated_read element count octets.entry) }
+fn elements_of(alloc: Global, count: u32, octets: &[u8]) -> Result<(Elements, &[u8]), ReadError>
+    ensures { Gives (λ found. (found.0, found.1.now)) result (repeated_read element count octets.now) }
 {
     let mut elements = Sequence::new(alloc);
     let mut rest = octets;
@@ -83,11 +79,8 @@ fn elements_of(
 }
 
 #[tactic(auto, unfolding(crate::specs::Entries::elements, crate::specs::Fields::number32))]
-pub(crate) fn elements_at(
-    alloc: Global,
-    octets: Rest<'_>,
-) -> Result<(Elements, Rest<'_>), ReadError>
-    ensures { Gives (λ found. found) result (elements.read octets.entry) }
+pub(crate) fn elements_at(alloc: Global, octets: &[u8]) -> Result<(Elements, &[u8]), ReadError>
+    ensures { Gives (λ found. (found.0, found.1.now)) result (elements.read octets.now) }
 {
     let (count, rest) = u32_at(octets)?;
     elements_of(alloc, count, rest)

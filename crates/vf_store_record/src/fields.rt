@@ -1,27 +1,26 @@
-//! The fields of changes, read from the first octets of what is left of a record; what follows them is left then.
+//! The fields of changes, read from the first octets of a slice; what follows them is left.
 ghost use Rattle.std.specs.Prelude.{◌≡◌};
 ghost use Rattle.vf_store_record.specs.Fields.{actions, control, name, number16, number32, number64, optional_name, optional_stamp, optional_text, stamp, string, term, text, truth};
 ghost use Rattle.vf_store_record.specs.Formats.{first, these};
 ghost use Rattle.vf_store_record.specs.Reading.{Gives};
 
-use crate::{ReadError, Rest};
+use crate::ReadError;
 use std::alloc::Global;
 use vf_attr::Stamp;
 use vf_base::{Actions, BaseError, Control, Moment, Name, Octets, Term};
 
-pub(crate) fn octet_at(octets: Rest<'_>) -> Result<(u8, Rest<'_>), ReadError>
-    ensures { Gives (λ found. found) result (first octets.entry) }
+pub(crate) fn octet_at(octets: &[u8]) -> Result<(u8, &[u8]), ReadError>
+    ensures { Gives (λ found. (found.0, found.1.now)) result (first octets.now) }
 {
-    if octets.is_empty() {
-        return Err(ReadError::Foreign);
+    match octets {
+        [] => Err(ReadError::Foreign),
+        [octet, rest @ ..] => Ok((*octet, rest)),
     }
-    let (octet, rest) = octets.split_at(1);
-    Ok((octet[0], rest))
 }
 
 #[tactic(auto, unfolding(crate::specs::Fields::number16))]
-pub(crate) fn u16_at(octets: Rest<'_>) -> Result<(u16, Rest<'_>), ReadError>
-    ensures { Gives (λ found. found) result (number16.read octets.entry) }
+pub(crate) fn u16_at(octets: &[u8]) -> Result<(u16, &[u8]), ReadError>
+    ensures { Gives (λ found. (found.0, found.1.now)) result (number16.read octets.now) }
 {
     if octets.len() < 2 {
         return Err(ReadError::Foreign);
@@ -32,8 +31,8 @@ pub(crate) fn u16_at(octets: Rest<'_>) -> Result<(u16, Rest<'_>), ReadError>
 }
 
 #[tactic(auto, unfolding(crate::specs::Fields::number32))]
-pub(crate) fn u32_at(octets: Rest<'_>) -> Result<(u32, Rest<'_>), ReadError>
-    ensures { Gives (λ found. found) result (number32.read octets.entry) }
+pub(crate) fn u32_at(octets: &[u8]) -> Result<(u32, &[u8]), ReadError>
+    ensures { Gives (λ found. (found.0, found.1.now)) result (number32.read octets.now) }
 {
     if octets.len() < 4 {
         return Err(ReadError::Foreign);
@@ -44,8 +43,8 @@ pub(crate) fn u32_at(octets: Rest<'_>) -> Result<(u32, Rest<'_>), ReadError>
 }
 
 #[tactic(auto, unfolding(crate::specs::Fields::number64))]
-pub(crate) fn u64_at(octets: Rest<'_>) -> Result<(u64, Rest<'_>), ReadError>
-    ensures { Gives (λ found. found) result (number64.read octets.entry) }
+pub(crate) fn u64_at(octets: &[u8]) -> Result<(u64, &[u8]), ReadError>
+    ensures { Gives (λ found. (found.0, found.1.now)) result (number64.read octets.now) }
 {
     if octets.len() < 8 {
         return Err(ReadError::Foreign);
@@ -58,8 +57,8 @@ pub(crate) fn u64_at(octets: Rest<'_>) -> Result<(u64, Rest<'_>), ReadError>
 }
 
 /// So many octets.
-fn these_at(octets: Rest<'_>, count: usize) -> Result<(&[u8], Rest<'_>), ReadError>
-    ensures { Gives (λ found. (found.0.now, found.1)) result (these count octets.entry) }
+fn these_at(octets: &[u8], count: usize) -> Result<(&[u8], &[u8]), ReadError>
+    ensures { Gives (λ found. (found.0.now, found.1.now)) result (these count octets.now) }
 {
     if octets.len() < count {
         return Err(ReadError::Foreign);
@@ -69,8 +68,8 @@ fn these_at(octets: Rest<'_>, count: usize) -> Result<(&[u8], Rest<'_>), ReadErr
 }
 
 #[tactic(auto, unfolding(crate::specs::Fields::text, crate::specs::Fields::number16))]
-pub(crate) fn text_at(alloc: Global, octets: Rest<'_>) -> Result<(Octets, Rest<'_>), ReadError>
-    ensures { Gives (λ found. found) result (text.read octets.entry) }
+pub(crate) fn text_at(alloc: Global, octets: &[u8]) -> Result<(Octets, &[u8]), ReadError>
+    ensures { Gives (λ found. (found.0, found.1.now)) result (text.read octets.now) }
 {
     let (count, rest) = u16_at(octets)?;
     let (text, rest) = these_at(rest, count as usize)?;
@@ -79,22 +78,18 @@ pub(crate) fn text_at(alloc: Global, octets: Rest<'_>) -> Result<(Octets, Rest<'
 }
 
 #[tactic(auto, unfolding(crate::specs::Fields::string, crate::specs::Fields::number32))]
-pub(crate) fn string_at(alloc: Global, octets: Rest<'_>) -> Result<(Octets, Rest<'_>), ReadError>
-    ensures { Gives (λ found. found) result (string.read octets.entry) }
+pub(crate) fn string_at(alloc: Global, octets: &[u8]) -> Result<(Octets, &[u8]), ReadError>
+    ensures { Gives (λ found. (found.0, found.1.now)) result (string.read octets.now) }
 {
     let (count, rest) = u32_at(octets)?;
-    let count = count as usize;
-    if rest.len() < count {
-        return Err(ReadError::Foreign);
-    }
-    let string = rest.string(alloc, count)?;
-    let (_, rest) = rest.split_at(count);
+    let (string, rest) = these_at(rest, count as usize)?;
+    let string = Octets::of(alloc, string)?;
     Ok((string, rest))
 }
 
 #[tactic(auto, unfolding(crate::specs::Fields::name, crate::specs::Fields::text, crate::specs::Fields::number16))]
-pub(crate) fn name_at(alloc: Global, octets: Rest<'_>) -> Result<(Name, Rest<'_>), ReadError>
-    ensures { Gives (λ found. found) result (name.read octets.entry) }
+pub(crate) fn name_at(alloc: Global, octets: &[u8]) -> Result<(Name, &[u8]), ReadError>
+    ensures { Gives (λ found. (found.0, found.1.now)) result (name.read octets.now) }
 {
     let (count, rest) = u16_at(octets)?;
     let (text, rest) = these_at(rest, count as usize)?;
@@ -106,8 +101,8 @@ pub(crate) fn name_at(alloc: Global, octets: Rest<'_>) -> Result<(Name, Rest<'_>
 }
 
 #[tactic(auto, unfolding(crate::specs::Fields::truth))]
-pub(crate) fn truth_at(octets: Rest<'_>) -> Result<(bool, Rest<'_>), ReadError>
-    ensures { Gives (λ found. found) result (truth.read octets.entry) }
+pub(crate) fn truth_at(octets: &[u8]) -> Result<(bool, &[u8]), ReadError>
+    ensures { Gives (λ found. (found.0, found.1.now)) result (truth.read octets.now) }
 {
     let (octet, rest) = octet_at(octets)?;
     match octet {
@@ -118,16 +113,16 @@ pub(crate) fn truth_at(octets: Rest<'_>) -> Result<(bool, Rest<'_>), ReadError>
 }
 
 #[tactic(auto, unfolding(crate::specs::Fields::actions))]
-pub(crate) fn actions_at(octets: Rest<'_>) -> Result<(Actions, Rest<'_>), ReadError>
-    ensures { Gives (λ found. found) result (actions.read octets.entry) }
+pub(crate) fn actions_at(octets: &[u8]) -> Result<(Actions, &[u8]), ReadError>
+    ensures { Gives (λ found. (found.0, found.1.now)) result (actions.read octets.now) }
 {
     let (value, rest) = octet_at(octets)?;
     Ok((Actions { value }, rest))
 }
 
 #[tactic(auto, unfolding(crate::specs::Fields::control))]
-pub(crate) fn control_at(octets: Rest<'_>) -> Result<(Control, Rest<'_>), ReadError>
-    ensures { Gives (λ found. found) result (control.read octets.entry) }
+pub(crate) fn control_at(octets: &[u8]) -> Result<(Control, &[u8]), ReadError>
+    ensures { Gives (λ found. (found.0, found.1.now)) result (control.read octets.now) }
 {
     let (octet, rest) = octet_at(octets)?;
     match octet {
@@ -140,8 +135,8 @@ pub(crate) fn control_at(octets: Rest<'_>) -> Result<(Control, Rest<'_>), ReadEr
 }
 
 #[tactic(auto, unfolding(crate::specs::Fields::stamp, crate::specs::Fields::moment))]
-pub(crate) fn stamp_at(alloc: Global, octets: Rest<'_>) -> Result<(Stamp, Rest<'_>), ReadError>
-    ensures { Gives (λ found. found) result (stamp.read octets.entry) }
+pub(crate) fn stamp_at(alloc: Global, octets: &[u8]) -> Result<(Stamp, &[u8]), ReadError>
+    ensures { Gives (λ found. (found.0, found.1.now)) result (stamp.read octets.now) }
 {
     let (seconds, rest) = u64_at(octets)?;
     let Ok(moment) = Moment::of(seconds) else {
@@ -154,14 +149,13 @@ pub(crate) fn stamp_at(alloc: Global, octets: Rest<'_>) -> Result<(Stamp, Rest<'
 #[tactic(auto, unfolding(crate::specs::Fields::optional_stamp))]
 pub(crate) fn optional_stamp_at(
     alloc: Global,
-    octets: Rest<'_>,
-) -> Result<(Option<Stamp>, Rest<'_>), ReadError>
-    ensures { Gives (λ found. found) result (optional_stamp.read octets.entry) }
+    octets: &[u8],
+) -> Result<(Option<Stamp>, &[u8]), ReadError>
+    ensures { Gives (λ found. (found.0, found.1.now)) result (optional_stamp.read octets.now) }
 {
-    let (octet, rest) = octet_at(octets)?;
-    match octet {
-        0 => Ok((None, rest)),
-        1 => {
+    match octets {
+        [0, rest @ ..] => Ok((None, rest)),
+        [1, rest @ ..] => {
             let (stamp, rest) = stamp_at(alloc, rest)?;
             Ok((Some(stamp), rest))
         }
@@ -172,14 +166,13 @@ pub(crate) fn optional_stamp_at(
 #[tactic(auto, unfolding(crate::specs::Fields::optional_name))]
 pub(crate) fn optional_name_at(
     alloc: Global,
-    octets: Rest<'_>,
-) -> Result<(Option<Name>, Rest<'_>), ReadError>
-    ensures { Gives (λ found. found) result (optional_name.read octets.entry) }
+    octets: &[u8],
+) -> Result<(Option<Name>, &[u8]), ReadError>
+    ensures { Gives (λ found. (found.0, found.1.now)) result (optional_name.read octets.now) }
 {
-    let (octet, rest) = octet_at(octets)?;
-    match octet {
-        0 => Ok((None, rest)),
-        1 => {
+    match octets {
+        [0, rest @ ..] => Ok((None, rest)),
+        [1, rest @ ..] => {
             let (name, rest) = name_at(alloc, rest)?;
             Ok((Some(name), rest))
         }
@@ -190,14 +183,13 @@ pub(crate) fn optional_name_at(
 #[tactic(auto, unfolding(crate::specs::Fields::optional_text))]
 pub(crate) fn optional_text_at(
     alloc: Global,
-    octets: Rest<'_>,
-) -> Result<(Option<Octets>, Rest<'_>), ReadError>
-    ensures { Gives (λ found. found) result (optional_text.read octets.entry) }
+    octets: &[u8],
+) -> Result<(Option<Octets>, &[u8]), ReadError>
+    ensures { Gives (λ found. (found.0, found.1.now)) result (optional_text.read octets.now) }
 {
-    let (octet, rest) = octet_at(octets)?;
-    match octet {
-        0 => Ok((None, rest)),
-        1 => {
+    match octets {
+        [0, rest @ ..] => Ok((None, rest)),
+        [1, rest @ ..] => {
             let (text, rest) = text_at(alloc, rest)?;
             Ok((Some(text), rest))
         }
@@ -206,8 +198,8 @@ pub(crate) fn optional_text_at(
 }
 
 #[tactic(auto, unfolding(crate::specs::Fields::term))]
-pub(crate) fn term_at(alloc: Global, octets: Rest<'_>) -> Result<(Term, Rest<'_>), ReadError>
-    ensures { Gives (λ found. found) result (term.read octets.entry) }
+pub(crate) fn term_at(alloc: Global, octets: &[u8]) -> Result<(Term, &[u8]), ReadError>
+    ensures { Gives (λ found. (found.0, found.1.now)) result (term.read octets.now) }
 {
     let (identity, rest) = optional_name_at(alloc, octets)?;
     let (actions, rest) = actions_at(rest)?;

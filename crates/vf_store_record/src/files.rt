@@ -6,8 +6,8 @@ ghost use Rattle.vf_store_record.specs.Fields.{term, terms};
 ghost use Rattle.vf_store_record.specs.Formats.{repeated_read};
 ghost use Rattle.vf_store_record.specs.Reading.{Gives};
 
+use crate::ReadError;
 use crate::fields::{actions_at, octet_at, optional_stamp_at, stamp_at, term_at, u32_at};
-use crate::{ReadError, Rest};
 use std::alloc::Global;
 use vf_attr::{Attributes, Stamp};
 use vf_base::{Actions, Contents, NoMemory, Oid, Sequence, Terms};
@@ -51,8 +51,8 @@ fn kind_named(alloc: Global, number: u8) -> Result<Oid, ReadError>
 }
 
 #[tactic(auto, unfolding(crate::specs::Entries::kind))]
-fn kind_at(alloc: Global, octets: Rest<'_>) -> Result<(Oid, Rest<'_>), ReadError>
-    ensures { Gives (λ found. found) result (kind.read octets.entry) }
+fn kind_at(alloc: Global, octets: &[u8]) -> Result<(Oid, &[u8]), ReadError>
+    ensures { Gives (λ found. (found.0, found.1.now)) result (kind.read octets.now) }
 {
     let (number, rest) = octet_at(octets)?;
     let kind = kind_named(alloc, number)?;
@@ -60,8 +60,8 @@ fn kind_at(alloc: Global, octets: Rest<'_>) -> Result<(Oid, Rest<'_>), ReadError
 }
 
 #[tactic(auto, unfolding(crate::specs::Entries::contents))]
-fn contents_at(alloc: Global, octets: Rest<'_>) -> Result<(Contents, Rest<'_>), ReadError>
-    ensures { Gives (λ found. found) result (contents.read octets.entry) }
+fn contents_at(alloc: Global, octets: &[u8]) -> Result<(Contents, &[u8]), ReadError>
+    ensures { Gives (λ found. (found.0, found.1.now)) result (contents.read octets.now) }
 {
     let (kind, rest) = kind_at(alloc, octets)?;
     let (class, rest) = octet_at(rest)?;
@@ -78,8 +78,8 @@ fn contents_at(alloc: Global, octets: Rest<'_>) -> Result<(Contents, Rest<'_>), 
     ))
 }
 
-fn terms_of(alloc: Global, count: u32, octets: Rest<'_>) -> Result<(Terms, Rest<'_>), ReadError>
-    ensures { Gives (λ found. found) result (repeated_read term count octets.entry) }
+fn terms_of(alloc: Global, count: u32, octets: &[u8]) -> Result<(Terms, &[u8]), ReadError>
+    ensures { Gives (λ found. (found.0, found.1.now)) result (repeated_read term count octets.now) }
 {
     let mut terms = Sequence::new(alloc);
     let mut rest = octets;
@@ -92,16 +92,16 @@ fn terms_of(alloc: Global, count: u32, octets: Rest<'_>) -> Result<(Terms, Rest<
 }
 
 #[tactic(auto, unfolding(crate::specs::Fields::terms, crate::specs::Fields::number32))]
-fn terms_at(alloc: Global, octets: Rest<'_>) -> Result<(Terms, Rest<'_>), ReadError>
-    ensures { Gives (λ found. found) result (terms.read octets.entry) }
+fn terms_at(alloc: Global, octets: &[u8]) -> Result<(Terms, &[u8]), ReadError>
+    ensures { Gives (λ found. (found.0, found.1.now)) result (terms.read octets.now) }
 {
     let (count, rest) = u32_at(octets)?;
     terms_of(alloc, count, rest)
 }
 
 #[tactic(auto, unfolding(crate::specs::Entries::settings))]
-fn settings_at(alloc: Global, octets: Rest<'_>) -> Result<(Settings, Rest<'_>), ReadError>
-    ensures { Gives (λ found. found) result (settings.read octets.entry) }
+fn settings_at(alloc: Global, octets: &[u8]) -> Result<(Settings, &[u8]), ReadError>
+    ensures { Gives (λ found. (found.0, found.1.now)) result (settings.read octets.now) }
 {
     let (permitted, rest) = actions_at(octets)?;
     let (contents, rest) = contents_at(alloc, rest)?;
@@ -117,8 +117,8 @@ fn settings_at(alloc: Global, octets: Rest<'_>) -> Result<(Settings, Rest<'_>), 
 }
 
 #[tactic(auto, unfolding(crate::specs::Entries::stamps))]
-fn stamps_at(alloc: Global, octets: Rest<'_>) -> Result<(Stamps, Rest<'_>), ReadError>
-    ensures { Gives (λ found. found) result (stamps.read octets.entry) }
+fn stamps_at(alloc: Global, octets: &[u8]) -> Result<(Stamps, &[u8]), ReadError>
+    ensures { Gives (λ found. (found.0, found.1.now)) result (stamps.read octets.now) }
 {
     let (created, rest) = stamp_at(alloc, octets)?;
     let (modified, rest) = optional_stamp_at(alloc, rest)?;
@@ -136,11 +136,8 @@ fn stamps_at(alloc: Global, octets: Rest<'_>) -> Result<(Stamps, Rest<'_>), Read
 }
 
 #[tactic(auto, unfolding(crate::specs::Entries::attributes))]
-pub(crate) fn attributes_at(
-    alloc: Global,
-    octets: Rest<'_>,
-) -> Result<(Attributes, Rest<'_>), ReadError>
-    ensures { Gives (λ found. found) result (attributes.read octets.entry) }
+pub(crate) fn attributes_at(alloc: Global, octets: &[u8]) -> Result<(Attributes, &[u8]), ReadError>
+    ensures { Gives (λ found. (found.0, found.1.now)) result (attributes.read octets.now) }
 {
     let (settings, rest) = settings_at(alloc, octets)?;
     let (stamps, rest) = stamps_at(alloc, rest)?;

@@ -9,10 +9,8 @@ mod fields;
 mod files;
 mod plans;
 mod regimes;
-mod rest;
 mod writing;
 
 pub use changes::read;
 pub(crate) use error::ReadError;
-pub(crate) use rest::Rest;
 pub use writing::write;

@@ -3,8 +3,8 @@ ghost use Rattle.std.specs.Prelude.{◌≡◌};
 ghost use Rattle.vf_store_record.specs.Entries.{course, phase, plan, plan_from, purpose, way};
 ghost use Rattle.vf_store_record.specs.Reading.{Gives};
 
+use crate::ReadError;
 use crate::fields::{name_at, octet_at, u16_at, u32_at};
-use crate::{ReadError, Rest};
 use std::alloc::Global;
 use vf_tables::{Phase, Plan, Way};
 
@@ -27,8 +27,8 @@ pub(crate) struct Course {
 }
 
 #[tactic(auto, unfolding(crate::specs::Entries::way))]
-fn way_at(octets: Rest<'_>) -> Result<(Way, Rest<'_>), ReadError>
-    ensures { Gives (λ found. found) result (way.read octets.entry) }
+fn way_at(octets: &[u8]) -> Result<(Way, &[u8]), ReadError>
+    ensures { Gives (λ found. (found.0, found.1.now)) result (way.read octets.now) }
 {
     let (octet, rest) = octet_at(octets)?;
     match octet {
@@ -39,8 +39,8 @@ fn way_at(octets: Rest<'_>) -> Result<(Way, Rest<'_>), ReadError>
 }
 
 #[tactic(auto, unfolding(crate::specs::Entries::phase))]
-fn phase_at(octets: Rest<'_>) -> Result<(Phase, Rest<'_>), ReadError>
-    ensures { Gives (λ found. found) result (phase.read octets.entry) }
+fn phase_at(octets: &[u8]) -> Result<(Phase, &[u8]), ReadError>
+    ensures { Gives (λ found. (found.0, found.1.now)) result (phase.read octets.now) }
 {
     let (octet, rest) = octet_at(octets)?;
     match octet {
@@ -53,8 +53,8 @@ fn phase_at(octets: Rest<'_>) -> Result<(Phase, Rest<'_>), ReadError>
 }
 
 #[tactic(auto, unfolding(crate::specs::Entries::purpose))]
-fn purpose_at(octets: Rest<'_>) -> Result<(Purpose, Rest<'_>), ReadError>
-    ensures { Gives (λ found. found) result (purpose.read octets.entry) }
+fn purpose_at(octets: &[u8]) -> Result<(Purpose, &[u8]), ReadError>
+    ensures { Gives (λ found. (found.0, found.1.now)) result (purpose.read octets.now) }
 {
     let (activity, rest) = u32_at(octets)?;
     let (way, rest) = way_at(rest)?;
@@ -72,8 +72,8 @@ fn purpose_at(octets: Rest<'_>) -> Result<(Purpose, Rest<'_>), ReadError>
 }
 
 #[tactic(auto, unfolding(crate::specs::Entries::course))]
-fn course_at(octets: Rest<'_>) -> Result<(Course, Rest<'_>), ReadError>
-    ensures { Gives (λ found. found) result (course.read octets.entry) }
+fn course_at(octets: &[u8]) -> Result<(Course, &[u8]), ReadError>
+    ensures { Gives (λ found. (found.0, found.1.now)) result (course.read octets.now) }
 {
     let (number, rest) = u32_at(octets)?;
     let (point, rest) = u32_at(rest)?;
@@ -91,8 +91,8 @@ fn course_at(octets: Rest<'_>) -> Result<(Course, Rest<'_>), ReadError>
 }
 
 #[tactic(auto, unfolding(crate::specs::Entries::plan))]
-pub(crate) fn plan_at(alloc: Global, octets: Rest<'_>) -> Result<(Plan, Rest<'_>), ReadError>
-    ensures { Gives (λ found. found) result (plan.read octets.entry) }
+pub(crate) fn plan_at(alloc: Global, octets: &[u8]) -> Result<(Plan, &[u8]), ReadError>
+    ensures { Gives (λ found. (found.0, found.1.now)) result (plan.read octets.now) }
 {
     let (purpose, rest) = purpose_at(octets)?;
     let (file, rest) = name_at(alloc, rest)?;

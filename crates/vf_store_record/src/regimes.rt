@@ -4,10 +4,10 @@ ghost use Rattle.vf_store_record.specs.Entries.{direction_of as direction_meant,
 ghost use Rattle.vf_store_record.specs.Fields.{controls, fadu, fadu_of as fadu_meant};
 ghost use Rattle.vf_store_record.specs.Reading.{Gives};
 
+use crate::ReadError;
 use crate::fields::{
     actions_at, control_at, name_at, octet_at, optional_text_at, truth_at, u16_at, u32_at, u64_at,
 };
-use crate::{ReadError, Rest};
 use std::alloc::Global;
 use vf_base::{Actions, Context, Control, Controls, FaduId, Name, Octets};
 use vf_tables::{Direction, Operation, Regime};
@@ -55,8 +55,8 @@ pub(crate) struct Standing {
 }
 
 #[tactic(auto, unfolding(crate::specs::Entries::ownership))]
-fn ownership_at(alloc: Global, octets: Rest<'_>) -> Result<(Ownership, Rest<'_>), ReadError>
-    ensures { Gives (λ found. found) result (ownership.read octets.entry) }
+fn ownership_at(alloc: Global, octets: &[u8]) -> Result<(Ownership, &[u8]), ReadError>
+    ensures { Gives (λ found. (found.0, found.1.now)) result (ownership.read octets.now) }
 {
     let (identity, rest) = name_at(alloc, octets)?;
     let (activity, rest) = u32_at(rest)?;
@@ -72,8 +72,8 @@ fn ownership_at(alloc: Global, octets: Rest<'_>) -> Result<(Ownership, Rest<'_>)
 }
 
 #[tactic(auto, unfolding(crate::specs::Fields::controls))]
-fn controls_at(octets: Rest<'_>) -> Result<(Controls, Rest<'_>), ReadError>
-    ensures { Gives (λ found. found) result (controls.read octets.entry) }
+fn controls_at(octets: &[u8]) -> Result<(Controls, &[u8]), ReadError>
+    ensures { Gives (λ found. (found.0, found.1.now)) result (controls.read octets.now) }
 {
     let (read, rest) = control_at(octets)?;
     let (insert, rest) = control_at(rest)?;
@@ -97,8 +97,8 @@ fn controls_at(octets: Rest<'_>) -> Result<(Controls, Rest<'_>), ReadError>
 }
 
 #[tactic(auto, unfolding(crate::specs::Entries::permission))]
-fn permission_at(alloc: Global, octets: Rest<'_>) -> Result<(Permission, Rest<'_>), ReadError>
-    ensures { Gives (λ found. found) result (permission.read octets.entry) }
+fn permission_at(alloc: Global, octets: &[u8]) -> Result<(Permission, &[u8]), ReadError>
+    ensures { Gives (λ found. (found.0, found.1.now)) result (permission.read octets.now) }
 {
     let (requested, rest) = actions_at(octets)?;
     let (controls, rest) = controls_at(rest)?;
@@ -116,8 +116,8 @@ fn permission_at(alloc: Global, octets: Rest<'_>) -> Result<(Permission, Rest<'_
 }
 
 #[tactic(auto, unfolding(crate::specs::Entries::progress))]
-fn progress_at(octets: Rest<'_>) -> Result<(Progress, Rest<'_>), ReadError>
-    ensures { Gives (λ found. found) result (progress.read octets.entry) }
+fn progress_at(octets: &[u8]) -> Result<(Progress, &[u8]), ReadError>
+    ensures { Gives (λ found. (found.0, found.1.now)) result (progress.read octets.now) }
 {
     let (position, rest) = u32_at(octets)?;
     let (number, rest) = u32_at(rest)?;
@@ -135,8 +135,8 @@ fn progress_at(octets: Rest<'_>) -> Result<(Progress, Rest<'_>), ReadError>
 }
 
 #[tactic(auto, unfolding(crate::specs::Entries::standing))]
-fn standing_at(octets: Rest<'_>) -> Result<(Standing, Rest<'_>), ReadError>
-    ensures { Gives (λ found. found) result (standing.read octets.entry) }
+fn standing_at(octets: &[u8]) -> Result<(Standing, &[u8]), ReadError>
+    ensures { Gives (λ found. (found.0, found.1.now)) result (standing.read octets.now) }
 {
     let (refused, rest) = u16_at(octets)?;
     let (point, rest) = u32_at(rest)?;
@@ -207,8 +207,8 @@ fn fadu_of(number: u64) -> Option<FaduId>
 }
 
 #[tactic(auto, unfolding(crate::specs::Fields::fadu))]
-fn fadu_at(octets: Rest<'_>) -> Result<(FaduId, Rest<'_>), ReadError>
-    ensures { Gives (λ found. found) result (fadu.read octets.entry) }
+fn fadu_at(octets: &[u8]) -> Result<(FaduId, &[u8]), ReadError>
+    ensures { Gives (λ found. (found.0, found.1.now)) result (fadu.read octets.now) }
 {
     let (number, rest) = u64_at(octets)?;
     match fadu_of(number) {
@@ -218,8 +218,8 @@ fn fadu_at(octets: Rest<'_>) -> Result<(FaduId, Rest<'_>), ReadError>
 }
 
 #[tactic(auto, unfolding(crate::specs::Entries::transfer))]
-fn transfer_at(octets: Rest<'_>) -> Result<(Transfer, Rest<'_>), ReadError>
-    ensures { Gives (λ found. found) result (transfer.read octets.entry) }
+fn transfer_at(octets: &[u8]) -> Result<(Transfer, &[u8]), ReadError>
+    ensures { Gives (λ found. (found.0, found.1.now)) result (transfer.read octets.now) }
 {
     let (direction, rest) = octet_at(octets)?;
     let (fadu, rest) = fadu_at(rest)?;
@@ -261,8 +261,8 @@ fn joined(
 }
 
 #[tactic(auto, unfolding(crate::specs::Entries::regime))]
-pub(crate) fn regime_at(alloc: Global, octets: Rest<'_>) -> Result<(Regime, Rest<'_>), ReadError>
-    ensures { Gives (λ found. found) result (regime.read octets.entry) }
+pub(crate) fn regime_at(alloc: Global, octets: &[u8]) -> Result<(Regime, &[u8]), ReadError>
+    ensures { Gives (λ found. (found.0, found.1.now)) result (regime.read octets.now) }
 {
     let (ownership, rest) = ownership_at(alloc, octets)?;
     let (permission, rest) = permission_at(alloc, rest)?;

@@ -1,6 +1,6 @@
-use Rattle.std.proofs.Common.{◌≡◌, ◌≤◌, true, take}
+use Rattle.std.proofs.Common.{◌≡◌, ◌≤◌, false, true, take}
 use Rattle.std.specs.List.{list_all}
-use Rattle.vf_cli.specs.Words.{is_digit, number_of}
+use Rattle.vf_cli.specs.Words.{begins_with_zero, is_digit, number_of}
 use Rattle.vf_cli.proofs.words.number_in.Given as goal
 
 abbrev pub invariant-loop-digit : goal.invariant-loop-digit

@@ -1,4 +1,4 @@
-use Rattle.std.proofs.Common.{◌∙◌, ◌-◌, ◌∷◌, ℕ, List, drop, length, map, string_bytes, take, ap, refl, sym}
+use Rattle.std.proofs.Common.{◌≡◌, ◌∙◌, ◌-◌, ◌∷◌, ℕ, List, drop, length, map, string_bytes, take, ap, refl, sym}
 use Rattle.vf_cli.proofs.Options.{option_more, option_none, rest_is}
 use Rattle.vf_cli.specs.Given.{Parts, given_of}
 use Rattle.vf_cli.specs.Words.{given_after}

@@ -1,4 +1,5 @@
-use Rattle.std.proofs.Common.{◌≡◌, ◌∙◌, ◌+◌, ℕ, List, [], ◌∷◌, ◌++◌, get_or, refl, sym, subst, take}
+use Rattle.std.proofs.Common.{◌≡◌, ◌∙◌, ◌+◌, ℕ, List, [], ◌∷◌, ◌++◌, ap, get_or, refl, sym, subst, take}
+use Rattle.std.proofs.lemmas.List.{take_all}
 use Rattle.vf_base.specs.declared.events.ScriptEvent.{ScriptEvent}
 use Rattle.vf_base.specs.declared.events.ScriptEvent.TheVariants.{Ended}
 use Rattle.vf_disk.specs.Disk.{LeavesOnly}
@@ -6,7 +7,7 @@ use Rattle.vf_responder.proofs.Rounds.{breaks_take, end_one, leaves_joined, leav
 use Rattle.vf_responder.specs.Along.{RepresentsAlong}
 use Rattle.vf_responder.specs.Answers.{at_end}
 use Rattle.vf_responder.specs.Represents.{Represents}
-use Rattle.vf_responder.specs.Run.{run}
+use Rattle.vf_responder.specs.Run.{run, trail}
 use Rattle.vf_responder.specs.Sends.{breaks}
 use Rattle.vf_responder.specs.Serving.{Serving}
 use Rattle.vf_responder.proofs.serving.end_all.Goals as goal

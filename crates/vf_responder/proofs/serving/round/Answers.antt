@@ -1,8 +1,10 @@
-use Rattle.std.proofs.Common.{ℕ, List, [], sym, subst}
+use Rattle.std.proofs.Common.{◌≡◌, ◌∙◌, ℕ, List, [], Option, Some, refl, sym, subst, ap}
 use Rattle.vf_responder.proofs.Rounds.{goes_round, stops_with}
-use Rattle.vf_responder.specs.Represents.{Answers}
+use Rattle.vf_responder.specs.Answers.{at_end}
+use Rattle.vf_responder.specs.Represents.{Answers, Represents}
 use Rattle.vf_responder.specs.Run.{trail}
 use Rattle.vf_responder.specs.Sends.{SendsAll}
+use Rattle.vf_responder.specs.Serving.{Serving}
 use Rattle.vf_responder.specs.declared.event.Reply.{Reply}
 use Rattle.vf_responder.proofs.serving.round.Goals as goal
 

@@ -1,4 +1,4 @@
-use Rattle.std.proofs.Common.{◌≡◌, ◌≤◌, Some, length, take, vec_capacity}
+use Rattle.std.proofs.Common.{◌≡◌, ℕ, ◌+◌, ◌≤◌, Some, length, take, vec_capacity}
 use Rattle.std.specs.List.{AllByRecursion}
 use Rattle.vf_base.specs.Links.{Traffic}
 use Rattle.vf_responder.proofs.Sent.{SentSoFar}

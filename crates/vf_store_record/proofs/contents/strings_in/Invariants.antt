@@ -5,4 +5,4 @@ use Rattle.vf_store_record.proofs.Loop.{after_these}
 use Rattle.vf_store_record.proofs.contents.strings_in.Given as goal
 
 abbrev pub invariant-loop : goal.invariant-loop
-invariant-loop l = after_these l.unit (repeated_read (string_in l.contents) (l.count - l.counter) l.rest) ≡ repeated_read (string_in l.contents) l.count l.initial.rest
+invariant-loop l = after_these l.unit (repeated_read (string_in l.contents) (l.count - l.counter) l.rest) ≡ repeated_read (string_in l.contents) l.count l.octets

@@ -5,4 +5,4 @@ use Rattle.vf_store_record.proofs.Loop.{after_these}
 use Rattle.vf_store_record.proofs.contents.units_of.Given as goal
 
 abbrev pub invariant-loop : goal.invariant-loop
-invariant-loop l = after_these l.units.items (repeated_read (unit_in l.contents) (l.count - l.counter) l.rest) ≡ repeated_read (unit_in l.contents) l.count l.initial.rest
+invariant-loop l = after_these l.units.items (repeated_read (unit_in l.contents) (l.count - l.counter) l.rest) ≡ repeated_read (unit_in l.contents) l.count l.octets

@@ -1,4 +1,4 @@
-use Rattle.std.proofs.Common.{◌≡◌, ◌≤◌, None, length}
+use Rattle.std.proofs.Common.{◌≡◌, ◌≤◌, ℕ, None, length}
 use Rattle.vf_disk.specs.Disk.{LeavesOnly}
 use Rattle.vf_store.specs.StoreState.{IsRepresented}
 use Rattle.vf_responder.proofs.ChainLemmas.{IsOnward}

@@ -9,6 +9,6 @@ returns-clause-said c = λ association indication called asked.
     let octets : c.send_all.new.out.items ≡ (sending_all indication association c.args.said.items).octets =
     sent.octets ∙ ap (λ (l : List ℕ). l ++ (sending_all indication association c.args.said.items).octets) c.new-out.ensures.items in
     record {
-      spoken = c.in_ok-speak.ensures.said ∙ ap (λ (o : List ℕ). c.args.replies.now.items ++ speaking c.args.self.now.number o c.args.shut) octets;
+      spoken = c.in_ok-speak.ensures ∙ ap (λ (o : List ℕ). c.args.replies.now.items ++ speaking c.args.self.now.number o c.args.shut) octets;
       called = sent.called;
     }

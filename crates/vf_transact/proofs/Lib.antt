@@ -1,0 +1,11 @@
+pub mod Causes
+pub mod Faults
+pub mod Found
+pub mod Kept
+pub mod Lines
+pub mod Losses
+pub mod Passing
+pub mod Prefixes
+pub mod Records
+pub mod Stores
+pub mod Strings
