@@ -4,11 +4,10 @@ ghost use Rattle.vf_tree.specs.FileTree.{octets_of_unit};
 ghost use Rattle.vf_initiator.specs.Gathering.{AreMarks, IsBack, IsOther, after_marks, all_of, by_marks, common, cut_to, end_of, has_room as room_meant, kept_by, kept_whole, marked, started};
 
 use crate::given::append;
-use crate::same::is_same_piece;
 use std::alloc::Global;
 use std::marker::Model;
 use vf_base::{Element, Elements, MOST_STRING_OCTETS, NoMemory, Sequence};
-use vf_tree::{MOST_FILE_OCTETS, MOST_FILE_PARTS, octets_of};
+use vf_tree::{MOST_FILE_OCTETS, MOST_FILE_PARTS, is_same_unit, octets_of};
 
 /// So many pieces can be kept, which is more than there are checkpoints.
 const MOST_PIECES: usize = 4_294_967_294;
@@ -244,7 +243,7 @@ fn is_back(elements: &[Element], marks: &[usize], standing: usize, aside: &[Elem
         return false;
     };
     let (_, fresh) = elements.split_at(before(marks, marks.len()));
-    is_same_piece(piece.as_slice(), fresh)
+    is_same_unit(piece.as_slice(), fresh)
 }
 
 /// Copies of the pieces at the last mark: of those that were put aside, or else of so many with these marks.

@@ -20,7 +20,6 @@ mod progress;
 mod receiving;
 mod recovery;
 mod requests;
-mod same;
 mod selection;
 mod sending;
 mod stage;

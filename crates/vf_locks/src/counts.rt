@@ -10,67 +10,59 @@ pub struct HeldCounts {
     pub numbers: [[u64; 4]; 8],
 }
 
-/// The numbers with one holder more that has the controls.
-#[tactic(auto, unfolding(crate::specs::Place::raised))]
-pub fn with_one_more(numbers: [[u64; 4]; 8], controls: &Controls) -> [[u64; 4]; 8]
-    requires { All (All (λ number. number < 2 ^ 64 - 1)) numbers }
-    ensures { result ≡ raised controls.now.each numbers }
-{
-    let [a, b, c, d, e, f, g, h] = numbers;
-    let [on_a, on_b, on_c, on_d, on_e, on_f, on_g, on_h] = controls.each;
-    [
-        row_with_one_more(a, on_a),
-        row_with_one_more(b, on_b),
-        row_with_one_more(c, on_c),
-        row_with_one_more(d, on_d),
-        row_with_one_more(e, on_e),
-        row_with_one_more(f, on_f),
-        row_with_one_more(g, on_g),
-        row_with_one_more(h, on_h),
-    ]
-}
+impl HeldCounts {
+    /// One holder more has the controls.
+    #[tactic(auto, unfolding(crate::specs::Place::raised))]
+    pub fn add(&mut self, controls: &Controls)
+        requires { All (All (λ number. number < 2 ^ 64 - 1)) self.old.numbers }
+        ensures { self.new.numbers ≡ raised controls.now.each self.old.numbers }
+    {
+        raise(&mut self.numbers[0], controls.each[0]);
+        raise(&mut self.numbers[1], controls.each[1]);
+        raise(&mut self.numbers[2], controls.each[2]);
+        raise(&mut self.numbers[3], controls.each[3]);
+        raise(&mut self.numbers[4], controls.each[4]);
+        raise(&mut self.numbers[5], controls.each[5]);
+        raise(&mut self.numbers[6], controls.each[6]);
+        raise(&mut self.numbers[7], controls.each[7]);
+    }
 
-fn row_with_one_more(row: [u64; 4], control: Control) -> [u64; 4]
-    requires { All (λ number. number < 2 ^ 64 - 1) row }
-    ensures { result ≡ raised_row control row }
-{
-    let [a, b, c, d] = row;
-    match control {
-        Control::NotRequired => [a + 1, b, c, d],
-        Control::Shared => [a, b + 1, c, d],
-        Control::Exclusive => [a, b, c + 1, d],
-        Control::NoAccess => [a, b, c, d + 1],
+    /// One holder less has the controls.
+    #[tactic(auto, unfolding(crate::specs::Place::lowered))]
+    pub fn take(&mut self, controls: &Controls)
+        ensures { self.new.numbers ≡ lowered controls.now.each self.old.numbers }
+    {
+        lower(&mut self.numbers[0], controls.each[0]);
+        lower(&mut self.numbers[1], controls.each[1]);
+        lower(&mut self.numbers[2], controls.each[2]);
+        lower(&mut self.numbers[3], controls.each[3]);
+        lower(&mut self.numbers[4], controls.each[4]);
+        lower(&mut self.numbers[5], controls.each[5]);
+        lower(&mut self.numbers[6], controls.each[6]);
+        lower(&mut self.numbers[7], controls.each[7]);
     }
 }
 
-/// The numbers with one holder less that has the controls.
-#[tactic(auto, unfolding(crate::specs::Place::lowered))]
-pub fn with_one_less(numbers: [[u64; 4]; 8], controls: &Controls) -> [[u64; 4]; 8]
-    ensures { result ≡ lowered controls.now.each numbers }
+fn raise(row: &mut [u64; 4], control: Control)
+    requires { All (λ number. number < 2 ^ 64 - 1) row.old }
+    ensures { row.new ≡ raised_row control row.old }
 {
-    let [a, b, c, d, e, f, g, h] = numbers;
-    let [on_a, on_b, on_c, on_d, on_e, on_f, on_g, on_h] = controls.each;
-    [
-        row_with_one_less(a, on_a),
-        row_with_one_less(b, on_b),
-        row_with_one_less(c, on_c),
-        row_with_one_less(d, on_d),
-        row_with_one_less(e, on_e),
-        row_with_one_less(f, on_f),
-        row_with_one_less(g, on_g),
-        row_with_one_less(h, on_h),
-    ]
+    match control {
+        Control::NotRequired => row[0] += 1,
+        Control::Shared => row[1] += 1,
+        Control::Exclusive => row[2] += 1,
+        Control::NoAccess => row[3] += 1,
+    }
 }
 
-fn row_with_one_less(row: [u64; 4], control: Control) -> [u64; 4]
-    ensures { result ≡ lowered_row control row }
+fn lower(row: &mut [u64; 4], control: Control)
+    ensures { row.new ≡ lowered_row control row.old }
 {
-    let [a, b, c, d] = row;
     match control {
-        Control::NotRequired => [a.saturating_sub(1), b, c, d],
-        Control::Shared => [a, b.saturating_sub(1), c, d],
-        Control::Exclusive => [a, b, c.saturating_sub(1), d],
-        Control::NoAccess => [a, b, c, d.saturating_sub(1)],
+        Control::NotRequired => row[0] = row[0].saturating_sub(1),
+        Control::Shared => row[1] = row[1].saturating_sub(1),
+        Control::Exclusive => row[2] = row[2].saturating_sub(1),
+        Control::NoAccess => row[3] = row[3].saturating_sub(1),
     }
 }
 

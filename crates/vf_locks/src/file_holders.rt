@@ -5,7 +5,7 @@ ghost use Rattle.vf_locks.specs.Counts.{numbers_of};
 ghost use Rattle.vf_locks.specs.Holders.{IsOrdered, controls_of, granted, in_order, others, passed};
 ghost use Rattle.vf_locks.specs.Place.{place_of};
 
-use crate::counts::{show_clash, with_one_less, with_one_more};
+use crate::counts::show_clash;
 use crate::search::{first_against, search};
 use crate::{Held, HeldCounts, Holder};
 use std::alloc::Global;
@@ -149,11 +149,9 @@ impl FileHolders {
         ensures { self.new ≡ granted holder.now wanted.now self.old }
     {
         let held = self.standing[place].controls;
-        let numbers = with_one_less(self.counts.numbers, &held);
         self.standing[place].controls = *wanted;
-        self.counts = HeldCounts {
-            numbers: with_one_more(numbers, wanted),
-        };
+        self.counts.take(&held);
+        self.counts.add(wanted);
     }
 
     fn insert(
@@ -175,9 +173,7 @@ impl FileHolders {
                 controls: *wanted,
             },
         )?;
-        self.counts = HeldCounts {
-            numbers: with_one_more(self.counts.numbers, wanted),
-        };
+        self.counts.add(wanted);
         Ok(())
     }
 
@@ -186,9 +182,7 @@ impl FileHolders {
         ensures { self.new ≡ others holder.now self.old }
     {
         let held = self.standing.remove(place);
-        self.counts = HeldCounts {
-            numbers: with_one_less(self.counts.numbers, &held.controls),
-        };
+        self.counts.take(&held.controls);
     }
 }
 

@@ -4,13 +4,13 @@ ghost use Rattle.std.specs.Cmp.Lexicographic.{pointwise};
 ghost use Rattle.std.specs.List.{list_all};
 ghost use Rattle.vf_filestore.specs.Changes.{is_same_file as file_meant};
 ghost use Rattle.vf_party_steps.specs.Sameness.{are_same_pieces as pieces_meant, are_same_tables, is_same_docket as docket_meant, keeps_pieces as keeps_meant};
-ghost use Rattle.vf_tree.specs.Same.{is_same_element as element_meant, is_same_unit as unit_meant};
 
 use crate::dockets::is_same;
-use crate::files::{have_same_attributes, is_same_name};
+use crate::files::have_same_attributes;
 use vf_attr::File;
-use vf_base::{Element, Elements};
+use vf_base::Elements;
 use vf_tables::{Docket, Tables};
+use vf_tree::is_same_unit;
 
 /// Whether no change leads from the tables before to those after: whether they are equal in files and dockets. Contents are
 /// looked at only where all else is equal.
@@ -90,48 +90,9 @@ fn are_same_pieces(pieces: &[Elements], others: &[Elements]) -> bool
         return false;
     }
     for (place, piece) in pieces.iter().enumerate() {
-        if !is_same_piece(piece.as_slice(), others[place].as_slice()) {
+        if !is_same_unit(piece.as_slice(), others[place].as_slice()) {
             return false;
         }
     }
     true
-}
-
-#[tactic(auto, using(vf_tree::proofs::EqualUnits::same))]
-fn is_same_piece(piece: &[Element], other: &[Element]) -> bool
-    ensures { result ≡ unit_meant piece.now other.now }
-{
-    if piece.len() != other.len() {
-        return false;
-    }
-    for (place, element) in piece.iter().enumerate() {
-        if !is_same_element(element, &other[place]) {
-            return false;
-        }
-    }
-    true
-}
-
-fn is_same_element(element: &Element, other: &Element) -> bool
-    ensures { result ≡ element_meant element.now other.now }
-{
-    match (element, other) {
-        (
-            Element::Text { class, octets },
-            Element::Text {
-                class: second,
-                octets: others,
-            },
-        ) => class == second && octets == others,
-        (Element::Binary { octets }, Element::Binary { octets: others }) => octets == others,
-        (
-            Element::Descriptor { name, filled },
-            Element::Descriptor {
-                name: second,
-                filled: full,
-            },
-        ) => (if *filled { *full } else { !*full }) && is_same_name(name, second),
-        (Element::Enter, Element::Enter) | (Element::Exit, Element::Exit) => true,
-        _ => false,
-    }
 }

@@ -9,5 +9,6 @@ mod units;
 
 pub use errors::TreeError;
 pub use limits::{MOST_FILE_OCTETS, MOST_FILE_PARTS};
+pub use same::is_same_unit;
 pub use tree::Tree;
 pub use units::octets_of;

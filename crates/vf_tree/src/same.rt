@@ -1,4 +1,4 @@
-//! Whether two files have equal units.
+//! Whether two files have equal units, and whether two data units have equal elements.
 ghost use Rattle.std.specs.Prelude.{◌≡◌};
 ghost use Rattle.std.specs.Cmp.Lexicographic.{pointwise};
 ghost use Rattle.vf_tree.specs.Same.{are_same_units, is_same_element as element_meant, is_same_name as name_meant, is_same_unit as unit_meant};
@@ -31,8 +31,9 @@ fn are_same(units: &[DataUnit], others: &[DataUnit]) -> bool
     true
 }
 
+/// Whether two data units have equal elements in the same order.
 #[tactic(auto, using(crate::proofs::EqualUnits::same))]
-fn is_same_unit(unit: &[Element], other: &[Element]) -> bool
+pub fn is_same_unit(unit: &[Element], other: &[Element]) -> bool
     ensures { result ≡ unit_meant unit.now other.now }
 {
     if unit.len() != other.len() {

@@ -14,8 +14,8 @@ insert-requires c =
 pub invariant_of-self : goal.invariant_of-self
 invariant_of-self c = subst (IsWhole c.self.inside.counts.numbers) (sym c.in_err-insert.ensures.items) c.self.invariant
 
-pub with_one_more-requires : goal.with_one_more-requires
-with_one_more-requires c =
+pub add-requires : goal.add-requires
+add-requires c =
     let small = c.self.inside.standing.small in
     let ok = c.self.inside.standing.ok in
     bounded c.args.holder.now c.self.inside.standing.items c.args.place _ c.self.invariant (omega arith)
@@ -25,7 +25,7 @@ invariant_of-self-2 c =
     let hs = c.self.inside.standing.items in
     let is : place_of c.args.holder.now hs ≡ Err c.args.place = ap (place_of c.args.holder.now) c.self.view_is ∙ c.requires in
     let new : Held = record { holder = c.in_ok-holder.holder; controls = c.args.wanted.now } in
-    rw (c.in_ok-insert.ensures.items, c.with_one_more.ensures) (whole_inserted c.args.holder.now hs c.args.place _ c.self.invariant is new c.in_ok-holder.ensures)
+    rw (c.in_ok-insert.ensures.items, c.add.ensures) (whole_inserted c.args.holder.now hs c.args.place _ c.self.invariant is new c.in_ok-holder.ensures)
 
 pub returns-clause-ok : goal.returns-clause-ok
 returns-clause-ok c =

@@ -14,7 +14,7 @@ pub invariant_of-self : goal.invariant_of-self
 invariant_of-self c =
     let hs = c.self.inside.standing.items in
     let is : place_of c.args.holder.now hs ≡ Ok c.args.place = ap (place_of c.args.holder.now) c.self.view_is ∙ c.requires in
-    rw (c.remove-held.ensures.items, c.with_one_less.ensures) (whole_removed c.args.holder.now hs c.args.place _ c.self.invariant is c.remove-held.result c.remove-held.ensures.value)
+    rw (c.remove-held.ensures.items, c.take.ensures) (whole_removed c.args.holder.now hs c.args.place _ c.self.invariant is c.remove-held.result c.remove-held.ensures.value)
 
 pub returns : goal.returns
 returns c =

@@ -16,19 +16,19 @@ index_mut-requires c =
     let is : place_of c.args.holder.now hs ≡ Ok c.args.place = ap (place_of c.args.holder.now) c.self.view_is ∙ c.requires in
     rw c.self.inside.standing.ok.0 (within_removed c.args.holder.now hs c.args.place _ c.self.invariant is)
 
-pub with_one_more-requires : goal.with_one_more-requires
-with_one_more-requires c =
+pub add-requires : goal.add-requires
+add-requires c =
     let hs = c.self.inside.standing.items in
     let is : place_of c.args.holder.now hs ≡ Ok c.args.place = ap (place_of c.args.holder.now) c.self.view_is ∙ c.requires in
     let small = c.self.inside.standing.small in
     let ok = c.self.inside.standing.ok in
-    rw c.with_one_less-numbers.ensures (bounded_removed c.args.holder.now hs c.args.place _ c.self.invariant is c.index.result.now c.index.ensures (omega arith))
+    rw c.take.ensures (bounded_removed c.args.holder.now hs c.args.place _ c.self.invariant is c.index.result.now c.index.ensures (omega arith))
 
 pub invariant_of-self : goal.invariant_of-self
 invariant_of-self c =
     let hs = c.self.inside.standing.items in
     let is : place_of c.args.holder.now hs ≡ Ok c.args.place = ap (place_of c.args.holder.now) c.self.view_is ∙ c.requires in
-    rw (c.with_one_more.ensures, c.with_one_less-numbers.ensures) (whole_replaced c.args.holder.now hs c.args.place _ c.self.invariant is c.index.result.now c.index_mut.result.now c.args.wanted.now c.index.ensures c.index_mut.ensures.value)
+    rw (c.add.ensures, c.take.ensures) (whole_replaced c.args.holder.now hs c.args.place _ c.self.invariant is c.index.result.now c.index_mut.result.now c.args.wanted.now c.index.ensures c.index_mut.ensures.value)
 
 pub returns : goal.returns
 returns c =
