@@ -25,7 +25,7 @@ returns-clause-back c = λ yes.
     let pieces = by_marks 0 marks c.args.elements.now in
     let count = pieces_are_marks 0 marks c.args.elements.now in
     back_there c.args.aside.now c.args.standing pieces (after_marks 0 marks c.args.elements.now) c.in-Some.piece.now (grind (arith, nat_tests, count, c.if-standing-marks.false))
-    (there_by c.args.standing c.args.aside.now c.in-Some.piece.now c.in-Some.ensures.lookup.0 c.in-Some.ensures.lookup.1) c.requires.same (grind (arith, yes, c.is_same_piece.ensures, c.as_slice.ensures, c.split_at.ensures.back, c.before-2.ensures, after_there marks c.args.elements.now c.requires.marks))
+    (there_by c.args.standing c.args.aside.now c.in-Some.piece.now c.in-Some.ensures.lookup.0 c.in-Some.ensures.lookup.1) c.requires.same (grind (arith, yes, c.is_same_unit.ensures, c.as_slice.ensures, c.split_at.ensures.back, c.before-2.ensures, after_there marks c.args.elements.now c.requires.marks))
 
 pub returns-clause-other : goal.returns-clause-other
 returns-clause-other c = λ no.
@@ -33,4 +33,4 @@ returns-clause-other c = λ no.
     let pieces = by_marks 0 marks c.args.elements.now in
     let count = pieces_are_marks 0 marks c.args.elements.now in
     other_there c.args.aside.now c.args.standing pieces (after_marks 0 marks c.args.elements.now) c.in-Some.piece.now (grind (arith, nat_tests, count, c.if-standing-marks.false))
-    (there_by c.args.standing c.args.aside.now c.in-Some.piece.now c.in-Some.ensures.lookup.0 c.in-Some.ensures.lookup.1) c.requires.same (grind (arith, no, c.is_same_piece.ensures, c.as_slice.ensures, c.split_at.ensures.back, c.before-2.ensures, after_there marks c.args.elements.now c.requires.marks))
+    (there_by c.args.standing c.args.aside.now c.in-Some.piece.now c.in-Some.ensures.lookup.0 c.in-Some.ensures.lookup.1) c.requires.same (grind (arith, no, c.is_same_unit.ensures, c.as_slice.ensures, c.split_at.ensures.back, c.before-2.ensures, after_there marks c.args.elements.now c.requires.marks))
