@@ -6,7 +6,7 @@ use std::io::ErrorKind;
 use std::process::ExitCode;
 use vf_base::{ReadSource, WriteSink};
 use vf_cli::{Wanted, WordsError, ftam, wanted};
-use vf_cli_sockets::SocketLinks;
+use vf_cli_sockets::{SocketDial, SocketLinks};
 use vf_disk::FileDisk;
 
 /// The status where memory is wanting.
@@ -36,7 +36,16 @@ fn main(rt: HostRuntime) -> ExitCode {
     let mut input = ReadSource::new(rt.stdin());
     let mut out = WriteSink::new(rt.stdout());
     let mut links = links_of(&rt, &wanted);
-    let (_disk, status) = ftam(rt.alloc(), &words, &mut links, disk, &mut input, &mut out);
+    let mut dial = dial_of(&rt, &wanted);
+    let (_disk, status) = ftam(
+        rt.alloc(),
+        &words,
+        &mut links,
+        disk,
+        &mut dial,
+        &mut input,
+        &mut out,
+    );
     ExitCode::from(status)
 }
 
@@ -72,4 +81,23 @@ fn links_of(rt: &HostRuntime, wanted: &Option<Wanted>) -> SocketLinks {
         return SocketLinks::none(rt);
     };
     SocketLinks::open(rt, *port, *idle)
+}
+
+/// The dial to the host and the port that the words want, or one to no host.
+fn dial_of<'a>(rt: &HostRuntime, wanted: &'a Option<Wanted>) -> SocketDial<'a> {
+    let Some(
+        Wanted {
+            host: Some(host),
+            port: Some(port),
+            ..
+        },
+    ) = wanted
+    else {
+        return SocketDial::none(rt);
+    };
+    match str::from_utf8(host.as_slice()) {
+        Ok(host) => SocketDial::new(rt, host, *port),
+        // No words want such a host.
+        Err(_) => SocketDial::none(rt),
+    }
 }

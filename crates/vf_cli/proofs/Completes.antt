@@ -1,11 +1,19 @@
 -- A command that no fault of the outside keeps from its end has its own status, or that of want of memory.
-use Rattle.std.proofs.Common.{◌≡◌, inl, inr, ⊎_elim, ℕ, List, [], ◌∷◌, Option, Some, None, Result, Ok, Err, arith, subst, sym, ◌∙◌}
+use Rattle.std.proofs.Common.{◌≡◌, inl, inr, ⊎_elim, ℕ, Bool, true, false, not, ◌&&◌, List, [], ◌∷◌, nat_eq, Option, Some, None, Result, Ok, Err, arith, refl, subst, sym, ◌∙◌}
+use Rattle.std.proofs.lemmas.Bool.Decides.{nat_tests}
 use Rattle.vf_attr.specs.declared.file.File.{File}
-use Rattle.vf_cli.specs.Ftam.{list_status, serve_statuses}
+use Rattle.vf_cli.specs.Ftam.{generate_statuses, list_status, serve_statuses, task_statuses}
 use Rattle.vf_cli_dialogue.specs.Dialogue.{MeetsDialogue, dialogue}
+use Rattle.vf_cli_generate.specs.Generating.{EndsGenerate, PrintsMade, RefusesGenerate}
 use Rattle.vf_cli_printing.specs.Printed.{IsOneOf, Printed, Prints}
 use Rattle.vf_cli_serve.specs.Served.{EndsServe, PrintsServed}
+use Rattle.vf_cli_transact.specs.Lines.{PrintsAnswer, PrintsReport, failure_status, in_use}
+use Rattle.vf_cli_transact.specs.Tasks.{EndsTask}
+use Rattle.vf_initiator.specs.declared.doing.TaskError.{TaskError}
+use Rattle.vf_initiator.specs.declared.doing.TaskError.TheVariants.{Refused, PeerFault, PeerAbort, OutOfPlace, Budget}
+use Rattle.vf_initiator.specs.declared.plan.Report.{Report}
 use Rattle.vf_journal.specs.Image.{Refusal, refusal}
+use Rattle.vf_journal.specs.declared.error.JournalError.{JournalError}
 use Rattle.vf_journal.specs.declared.error.JournalError.TheVariants as errors
 use Rattle.vf_responder.specs.Served.{Refuses}
 use Rattle.vf_responder.specs.declared.error.ServeError.{ServeError}
@@ -14,50 +22,52 @@ use Rattle.vf_responder.specs.declared.serving.Served.{Served}
 use Rattle.vf_store_commands.specs.ErrorLines.{no_store_line}
 use Rattle.vf_store_commands.specs.Listing.{EndsList, PrintsOpened, file_lines}
 use Rattle.vf_store_commands.specs.Making.{EndsInit}
+use Rattle.vf_tables.specs.declared.tables.Tables.{Tables}
+use Rattle.vf_transact.specs.Transaction.{Answer, DiskByCause, IsRefused, RefusesBy}
+use Rattle.vf_transact.specs.declared.error.TransactError.TheVariants as tasks
+use Rattle.vf_transact.specs.declared.error.TransactError.TheVariants.{Task, Broken, InUse, InputFault, OutputFault, Store}
 
 -- STATUSES that a command never has
-abbrev AreOthers : List ℕ → ℕ → Type 0
-AreOthers [] number = Unit {0}
-AreOthers (other ∷ others) number = (other ≡ number → ⊥) × AreOthers others number
+abbrev pub is_apart : List ℕ → ℕ → Bool
+is_apart [] number = true
+is_apart (other ∷ others) number = not (nat_eq other number) && is_apart others number
 
-never : (others : List ℕ) (number status : ℕ) → AreOthers others number → IsOneOf others status → status ≡ number → ⊥
+left_is : (one other : Bool) → (one && other) ≡ true → one ≡ true
+left_is true other both = refl
+left_is false other both = both
+
+right_is : (one other : Bool) → (one && other) ≡ true → other ≡ true
+right_is true other both = both
+right_is false other both = absurd cc
+
+differs : (other number : ℕ) → not (nat_eq other number) ≡ true → other ≡ number → ⊥
+differs other number apart same = grind (arith, nat_tests)
+
+never : (others : List ℕ) (number status : ℕ) → is_apart others number ≡ true → IsOneOf others status → status ≡ number → ⊥
 never [] number status apart is e = is
-never (other ∷ others) number status apart is e = ⊎_elim (λ here. apart.0 (sym here ∙ e)) (λ later. never others number status apart.1 later e) is
+never (other ∷ others) number status apart is e =
+    ⊎_elim (λ here. differs other number (left_is _ _ apart) (sym here ∙ e)) (λ later. never others number status (right_is _ _ apart) later e) is
 
-pub dialogue_never_five : (status : ℕ) → IsOneOf (0 ∷ 7 ∷ 11 ∷ 3 ∷ 4 ∷ 9 ∷ []) status → status ≡ 5 → ⊥
-dialogue_never_five status =
-    never (0 ∷ 7 ∷ 11 ∷ 3 ∷ 4 ∷ 9 ∷ []) 5 status ((λ e. omega arith), ((λ e. omega arith), ((λ e. omega arith), ((λ e. omega arith), ((λ e. omega arith), ((λ e. omega arith), tt))))))
+pub dialogue_never : (number status : ℕ) → is_apart (0 ∷ 7 ∷ 11 ∷ 3 ∷ 4 ∷ 9 ∷ []) number ≡ true → IsOneOf (0 ∷ 7 ∷ 11 ∷ 3 ∷ 4 ∷ 9 ∷ []) status → status ≡ number → ⊥
+dialogue_never = never (0 ∷ 7 ∷ 11 ∷ 3 ∷ 4 ∷ 9 ∷ [])
 
-pub dialogue_never_ten : (status : ℕ) → IsOneOf (0 ∷ 7 ∷ 11 ∷ 3 ∷ 4 ∷ 9 ∷ []) status → status ≡ 10 → ⊥
-dialogue_never_ten status =
-    never (0 ∷ 7 ∷ 11 ∷ 3 ∷ 4 ∷ 9 ∷ []) 10 status ((λ e. omega arith), ((λ e. omega arith), ((λ e. omega arith), ((λ e. omega arith), ((λ e. omega arith), ((λ e. omega arith), tt))))))
+pub init_never : (number status : ℕ) → is_apart (0 ∷ 3 ∷ 4 ∷ 5 ∷ 8 ∷ 9 ∷ 11 ∷ 12 ∷ []) number ≡ true → EndsInit status → status ≡ number → ⊥
+init_never = never (0 ∷ 3 ∷ 4 ∷ 5 ∷ 8 ∷ 9 ∷ 11 ∷ 12 ∷ [])
 
-pub init_never_ten : (status : ℕ) → EndsInit status → status ≡ 10 → ⊥
-init_never_ten status =
-    never (0 ∷ 3 ∷ 4 ∷ 5 ∷ 8 ∷ 9 ∷ 11 ∷ 12 ∷ []) 10 status
-    ((λ e. omega arith), ((λ e. omega arith), ((λ e. omega arith), ((λ e. omega arith), ((λ e. omega arith), ((λ e. omega arith), ((λ e. omega arith), ((λ e. omega arith), tt))))))))
+pub list_never : (number status : ℕ) → is_apart (0 ∷ 4 ∷ 5 ∷ 8 ∷ 9 ∷ 12 ∷ []) number ≡ true → EndsList status → status ≡ number → ⊥
+list_never = never (0 ∷ 4 ∷ 5 ∷ 8 ∷ 9 ∷ 12 ∷ [])
 
-pub list_never_ten : (status : ℕ) → EndsList status → status ≡ 10 → ⊥
-list_never_ten status =
-    never (0 ∷ 4 ∷ 5 ∷ 8 ∷ 9 ∷ 12 ∷ []) 10 status ((λ e. omega arith), ((λ e. omega arith), ((λ e. omega arith), ((λ e. omega arith), ((λ e. omega arith), ((λ e. omega arith), tt))))))
+pub serve_never : (number status : ℕ) → is_apart (0 ∷ 4 ∷ 5 ∷ 8 ∷ 9 ∷ 10 ∷ 12 ∷ []) number ≡ true → EndsServe status → status ≡ number → ⊥
+serve_never = never (0 ∷ 4 ∷ 5 ∷ 8 ∷ 9 ∷ 10 ∷ 12 ∷ [])
 
-pub serve_never_three : (status : ℕ) → EndsServe status → status ≡ 3 → ⊥
-serve_never_three status =
-    never (0 ∷ 4 ∷ 5 ∷ 8 ∷ 9 ∷ 10 ∷ 12 ∷ []) 3 status
-    ((λ e. omega arith), ((λ e. omega arith), ((λ e. omega arith), ((λ e. omega arith), ((λ e. omega arith), ((λ e. omega arith), ((λ e. omega arith), tt)))))))
+pub task_never : (number status : ℕ) → is_apart (0 ∷ 1 ∷ 3 ∷ 4 ∷ 5 ∷ 6 ∷ 7 ∷ 8 ∷ 9 ∷ 12 ∷ 13 ∷ []) number ≡ true → EndsTask status → status ≡ number → ⊥
+task_never = never (0 ∷ 1 ∷ 3 ∷ 4 ∷ 5 ∷ 6 ∷ 7 ∷ 8 ∷ 9 ∷ 12 ∷ 13 ∷ [])
 
-pub list_never_three : (status : ℕ) → EndsList status → status ≡ 3 → ⊥
-list_never_three status =
-    never (0 ∷ 4 ∷ 5 ∷ 8 ∷ 9 ∷ 12 ∷ []) 3 status ((λ e. omega arith), ((λ e. omega arith), ((λ e. omega arith), ((λ e. omega arith), ((λ e. omega arith), ((λ e. omega arith), tt))))))
+pub generate_never : (number status : ℕ) → is_apart (0 ∷ 4 ∷ 5 ∷ 8 ∷ 9 ∷ 12 ∷ []) number ≡ true → EndsGenerate status → status ≡ number → ⊥
+generate_never = never (0 ∷ 4 ∷ 5 ∷ 8 ∷ 9 ∷ 12 ∷ [])
 
-pub usage_never_three : (status : ℕ) → IsOneOf (2 ∷ 4 ∷ []) status → status ≡ 3 → ⊥
-usage_never_three status = never (2 ∷ 4 ∷ []) 3 status ((λ e. omega arith), ((λ e. omega arith), tt))
-
-pub usage_never_ten : (status : ℕ) → IsOneOf (2 ∷ 4 ∷ []) status → status ≡ 10 → ⊥
-usage_never_ten status = never (2 ∷ 4 ∷ []) 10 status ((λ e. omega arith), ((λ e. omega arith), tt))
-
-pub usage_never_five : (status : ℕ) → IsOneOf (2 ∷ 4 ∷ []) status → status ≡ 5 → ⊥
-usage_never_five status = never (2 ∷ 4 ∷ []) 5 status ((λ e. omega arith), ((λ e. omega arith), tt))
+pub usage_never : (number status : ℕ) → is_apart (2 ∷ 4 ∷ []) number ≡ true → IsOneOf (2 ∷ 4 ∷ []) status → status ≡ number → ⊥
+usage_never = never (2 ∷ 4 ∷ [])
 
 -- STATUSES where nothing of the outside failed
 module _ (status : ℕ) (three : status ≡ 3 → ⊥) (four : status ≡ 4 → ⊥) (five : status ≡ 5 → ⊥) where
@@ -116,3 +126,78 @@ module _ (status : ℕ) (four : status ≡ 4 → ⊥) (five : status ≡ 5 → �
       none_refused image is (⊎_elim (λ e. inr (inr (inr (inl e)))) at_nine (or_nine _ old new prints))
   serve_ends image (Err (Respond (errors.NotAStore place found expected))) old new prints is =
       subst (λ (refused : Option Refusal). IsOneOf (serve_statuses refused) status) is (or_nine _ old new prints)
+
+-- the statuses of `generate`
+module _ (status : ℕ) (four : status ≡ 4 → ⊥) (five : status ≡ 5 → ⊥) where
+  then_nine : IsOneOf (9 ∷ []) status → IsOneOf (generate_statuses None) status
+  then_nine nine = ⊎_elim (λ e. inr (inl e)) (λ none. absurd none) nine
+
+  pub generate_ends : (image : List ℕ) (tables : Tables) (answer : Result (Unit {0}) JournalError) (old new : Option (List ℕ)) → PrintsMade tables answer status old new → RefusesGenerate image answer
+      → IsOneOf (generate_statuses (refusal image)) status
+  generate_ends image tables (Ok done) old new prints is =
+      subst (λ (refused : Option Refusal). IsOneOf (generate_statuses refused) status) is (⊎_elim (λ e. inl e) then_nine (or_nine status four five _ old new prints))
+  generate_ends image tables (Err errors.DiskFault) old new prints is = absurd (five prints.0)
+  generate_ends image tables (Err errors.NoMemory) old new prints is = subst (λ (refused : Option Refusal). IsOneOf (generate_statuses refused) status) is (inr (inl prints.0))
+  generate_ends image tables (Err (errors.Full length bound)) old new prints is =
+      subst (λ (refused : Option Refusal). IsOneOf (generate_statuses refused) status) is (⊎_elim (λ e. inr (inr (inl e))) then_nine (or_nine status four five _ old new prints))
+  generate_ends image tables (Err (errors.NotAStore place found expected)) old new prints is =
+      subst (λ (refused : Option Refusal). IsOneOf (generate_statuses refused) status) is (or_nine status four five _ old new prints)
+
+-- the statuses of a task
+module _ (status : ℕ) (three : status ≡ 3 → ⊥) (four : status ≡ 4 → ⊥) (five : status ≡ 5 → ⊥) where
+  or_nine_at : (wanted : ℕ) → (status ≡ wanted → IsOneOf (task_statuses None) status) → IsOneOf (wanted ∷ 9 ∷ []) status → IsOneOf (task_statuses None) status
+  or_nine_at wanted at is = ⊎_elim at (λ nine. ⊎_elim (λ e. inr (inr (inr (inr (inl e))))) (λ none. absurd none) nine) is
+
+  failed_at : (error : TaskError) → IsOneOf (failure_status error ∷ 9 ∷ []) status → IsOneOf (task_statuses None) status
+  failed_at (Refused diagnostic) = or_nine_at 1 (λ e. inr (inl e))
+  failed_at (PeerFault layer name at) = or_nine_at 7 (λ e. inr (inr (inr (inl e))))
+  failed_at (PeerAbort number) = or_nine_at 7 (λ e. inr (inr (inr (inl e))))
+  failed_at (OutOfPlace after) = or_nine_at 7 (λ e. inr (inr (inr (inl e))))
+  failed_at Budget = or_nine_at 7 (λ e. inr (inr (inr (inl e))))
+
+  reported_at : (put : Bool) (report : Report) (old new : Option (List ℕ)) → PrintsReport put report status old new → IsOneOf (task_statuses None) status
+  reported_at true report old new prints = or_nine_at 0 (λ e. inl e) (or_nine status four five _ old new prints)
+  reported_at false report old new prints = inl prints.0
+
+  only_thirteen : (old new : Option (List ℕ)) → Prints (4 ∷ []) in_use status old new → IsOneOf (task_statuses None) status
+  only_thirteen old new prints =
+      ⊎_elim (λ all. inr (inr (inr (inr (inr (inr (inl all.0))))))) (λ some. ⊎_elim (λ e. absurd (four e)) (λ none. absurd none) some.0) prints
+
+  -- of a disk that has a store
+  stored_at : (put : Bool) (shown : Option (List ℕ)) (image : List ℕ) (limit before after : ℕ) (answer : Answer) (old new : Option (List ℕ)) → shown ≡ Some image → refusal image ≡ None
+      → PrintsAnswer put answer status old new → DiskByCause shown limit before after answer → IsOneOf (task_statuses None) status
+  stored_at put shown image limit before after (Ok report) old new shows good prints cause = reported_at put report old new prints
+  stored_at put shown image limit before after (Err (Task error)) old new shows good prints cause = failed_at error (or_nine status four five _ old new prints)
+  stored_at put shown image limit before after (Err (Broken connections)) old new shows good prints cause = or_nine_at 6 (λ e. inr (inr (inl e))) (or_nine status four five _ old new prints)
+  stored_at put shown image limit before after (Err InUse) old new shows good prints cause = only_thirteen old new prints
+  stored_at put shown image limit before after (Err InputFault) old new shows good prints cause = absurd (three prints.0)
+  stored_at put shown image limit before after (Err OutputFault) old new shows good prints cause = absurd (four prints.0)
+  stored_at put shown image limit before after (Err tasks.NoMemory) old new shows good prints cause = inr (inr (inr (inr (inl prints.0))))
+  stored_at put shown image limit before after (Err (Store errors.DiskFault)) old new shows good prints cause = absurd (five prints.0)
+  stored_at put shown image limit before after (Err (Store errors.NoMemory)) old new shows good prints cause = inr (inr (inr (inr (inl prints.0))))
+  stored_at put shown image limit before after (Err (Store (errors.Full length bound))) old new shows good prints cause =
+      or_nine_at 12 (λ e. inr (inr (inr (inr (inr (inl e)))))) (or_nine status four five _ old new prints)
+  stored_at put shown image limit before after (Err (Store (errors.NotAStore place found expected))) old new shows good prints cause =
+      absurd (let wrong : None ≡ Some (let refused : Refusal = record { place = place; found = found; expected = expected } in refused) = sym good ∙ cause.0 image shows in cc)
+
+  by_refusal : (put : Bool) (shown : Option (List ℕ)) (image : List ℕ) (limit before after : ℕ) (answer : Answer) (old new : Option (List ℕ)) (refused : Option Refusal) → shown ≡ Some image
+      → refusal image ≡ refused → PrintsAnswer put answer status old new → DiskByCause shown limit before after answer → RefusesBy refused answer → IsOneOf (task_statuses refused) status
+  by_refusal put shown image limit before after answer old new None shows good prints cause refuses = stored_at put shown image limit before after answer old new shows good prints cause
+  by_refusal put shown image limit before after answer old new (Some refused) shows good prints cause refuses =
+      ⊎_elim (λ none. or_nine status four five _ old new (subst (λ (a : Answer). PrintsAnswer put a status old new) none prints))
+      (λ fault. let failed : PrintsAnswer put (let answer : Answer = Err (Store errors.DiskFault) in answer) status old new = subst (λ (a : Answer). PrintsAnswer put a status old new) fault prints in absurd (five failed.0))
+      refuses
+
+  pub task_ends : (put : Bool) (shown : Option (List ℕ)) (image : List ℕ) (limit before after : ℕ) (answer : Answer) (old new : Option (List ℕ)) → shown ≡ Some image
+      → PrintsAnswer put answer status old new → DiskByCause shown limit before after answer → IsRefused image answer → IsOneOf (task_statuses (refusal image)) status
+  task_ends put shown image limit before after answer old new shows prints cause refuses =
+      by_refusal put shown image limit before after answer old new (refusal image) shows refl prints cause refuses
+
+-- want of memory is a status of each command
+pub task_nine : (refused : Option Refusal) (status : ℕ) → status ≡ 9 → IsOneOf (task_statuses refused) status
+task_nine None status is = inr (inr (inr (inr (inl is))))
+task_nine (Some refused) status is = inr (inl is)
+
+pub generate_nine : (refused : Option Refusal) (status : ℕ) → status ≡ 9 → IsOneOf (generate_statuses refused) status
+generate_nine None status is = inr (inl is)
+generate_nine (Some refused) status is = inr (inl is)

@@ -1,3 +1,2 @@
 mod Completes
-mod Numbers
-mod Options
+mod InRange

@@ -1,13 +1,17 @@
 -- What the program prints, by its words (profile), and what its call owes of it.
-use Rattle.std.specs.Prelude.{◌≡◌, ℕ, Bool, true, false, List, [], ◌∷◌, ◌++◌, Option, None, Some, codes}
+use Rattle.std.specs.Prelude.{◌≡◌, ◌⊎◌, ℕ, Bool, true, false, List, [], ◌∷◌, ◌++◌, Option, None, Some, codes}
 use Rattle.vf_cli_dialogue.specs.Dialogue.{MeetsDialogue, dialogue}
 use Rattle.vf_cli_printing.specs.Printed.{Printed, Prints, line_feed}
+use Rattle.vf_cli_generate.specs.Generating.{DoesGenerate, EndsGenerate}
 use Rattle.vf_cli_serve.specs.Served.{EndsServe}
+use Rattle.vf_cli_transact.specs.Tasks.{DoesTask, Ends, EndsTask}
 use Rattle.vf_journal.specs.Image.{Refusal, refusal}
 use Rattle.vf_store_commands.specs.Listing.{EndsList, PrintsList}
 use Rattle.vf_store_commands.specs.Making.{EndsInit, printed_by_init}
-use Rattle.vf_cli.specs.declared.command.Command.{Command}
-use Rattle.vf_cli.specs.declared.command.Command.TheVariants.{Dialogue, InitStore, ListFiles, Serve}
+use Rattle.vf_cli_words.specs.declared.command.Command.{Command}
+use Rattle.vf_cli_words.specs.declared.command.Command.TheVariants.{Dialogue, InitStore, ListFiles, Serve, Put, Get, Generate}
+use Rattle.vf_cli_words.specs.declared.words.Drawn.{Drawn}
+use Rattle.vf_transact.specs.declared.words.PlanWords.{PlanWords}
 
 -- words outside the grammar, and they alone
 abbrev pub usage_line : List ℕ
@@ -18,7 +22,8 @@ usage = record { octets = usage_line; status = 2 }
 
 -- WHAT IS PRINTED. Of each command: by the octets of the disk and what the source had left before the call, and by what the
 -- sink had taken before and after it. Where the disk or the source don't tell what they have, only the statuses of the
--- command are owed. What `serve` prints goes by its links too, and stands in a definition of its own.
+-- command are owed. What `serve` prints goes by its links too, what `put` and `get` print by their dial, and what `generate`
+-- prints by the files that it makes: each of these stands in a definition of its own.
 abbrev pub MeetsInit : ℕ → (disk left old new : Option (List ℕ)) → Type 0
 MeetsInit status disk left old new =
     EndsInit status
@@ -34,6 +39,22 @@ MeetsCommand (Some Dialogue) status disk left old new = MeetsDialogue status lef
 MeetsCommand (Some InitStore) status disk left old new = MeetsInit status disk left old new
 MeetsCommand (Some ListFiles) status disk left old new = MeetsList status disk old new
 MeetsCommand (Some Serve) status disk left old new = EndsServe status
+MeetsCommand (Some Put) status disk left old new = EndsTask status
+MeetsCommand (Some Get) status disk left old new = EndsTask status
+MeetsCommand (Some Generate) status disk left old new = EndsGenerate status
+
+-- A task of these words was done, or memory was wanting for the words, and nothing was done.
+abbrev pub DoesNothing : {D : Type 0} → (before after : D) → Ends → ℕ → Type 0
+DoesNothing before after ends status = (status ≡ 9) × (after ≡ before) × (ends.output' ≡ ends.output) × (ends.dial' ≡ ends.dial)
+
+abbrev pub DoesWords : {D : Type 0} → (D → Option (List ℕ)) → (D → List ℕ → Type 0) → (D → ℕ) → (D → ℕ → List ℕ → Type 0) → PlanWords → (before after : D) → (disk_faults disk_faults' : ℕ) → Ends → ℕ → Type 0
+DoesWords shown may_leave moment left_since words before after disk_faults disk_faults' ends status =
+    DoesNothing before after ends status ⊎ DoesTask shown may_leave moment left_since words before after disk_faults disk_faults' ends status
+
+-- The files that words ask for were made, or it is told why not.
+abbrev pub MakesDrawn : {D : Type 0} → (D → Option (List ℕ)) → (D → List ℕ → Type 0) → (D → ℕ) → (D → ℕ → List ℕ → Type 0) → Drawn → (before after : D) → (disk_faults disk_faults' : ℕ) → ℕ → (taken taken' : Option (List ℕ)) → Type 0
+MakesDrawn shown may_leave moment left_since drawn before after disk_faults disk_faults' status taken taken' =
+    DoesGenerate shown may_leave moment left_since drawn.number drawn.count before after disk_faults disk_faults' status taken taken'
 
 -- STATUSES. The statuses of a command where neither the disk nor the input or the output fails, for a disk of these octets and
 -- for its input: the one that it comes to, and 9 where memory is wanting. Of `serve` the links may fail, and the store may come
@@ -46,12 +67,23 @@ abbrev pub serve_statuses : Option Refusal → List ℕ
 serve_statuses None = 0 ∷ 9 ∷ 10 ∷ 12 ∷ []
 serve_statuses (Some refused) = 8 ∷ 9 ∷ []
 
+abbrev pub task_statuses : Option Refusal → List ℕ
+task_statuses None = 0 ∷ 1 ∷ 6 ∷ 7 ∷ 9 ∷ 12 ∷ 13 ∷ []
+task_statuses (Some refused) = 8 ∷ 9 ∷ []
+
+abbrev pub generate_statuses : Option Refusal → List ℕ
+generate_statuses None = 0 ∷ 9 ∷ 12 ∷ []
+generate_statuses (Some refused) = 8 ∷ 9 ∷ []
+
 abbrev pub statuses_of : Option Command → (disk input : List ℕ) → List ℕ
 statuses_of None disk input = 2 ∷ 9 ∷ []
 statuses_of (Some Dialogue) disk input = (dialogue input).status ∷ 9 ∷ []
 statuses_of (Some InitStore) disk input = (printed_by_init disk input).status ∷ 9 ∷ []
 statuses_of (Some ListFiles) disk input = list_status (refusal disk) ∷ 9 ∷ []
 statuses_of (Some Serve) disk input = serve_statuses (refusal disk)
+statuses_of (Some Put) disk input = task_statuses (refusal disk)
+statuses_of (Some Get) disk input = task_statuses (refusal disk)
+statuses_of (Some Generate) disk input = generate_statuses (refusal disk)
 
 -- whether a command uses its disk
 abbrev pub uses_disk : Option Command → Bool
@@ -60,6 +92,9 @@ uses_disk (Some Dialogue) = false
 uses_disk (Some InitStore) = true
 uses_disk (Some ListFiles) = true
 uses_disk (Some Serve) = true
+uses_disk (Some Put) = true
+uses_disk (Some Get) = true
+uses_disk (Some Generate) = true
 
 -- whether it uses its links
 abbrev pub uses_links : Option Command → Bool
@@ -68,3 +103,17 @@ uses_links (Some Dialogue) = false
 uses_links (Some InitStore) = false
 uses_links (Some ListFiles) = false
 uses_links (Some Serve) = true
+uses_links (Some Put) = false
+uses_links (Some Get) = false
+uses_links (Some Generate) = false
+
+-- whether it uses its dial
+abbrev pub uses_dial : Option Command → Bool
+uses_dial None = false
+uses_dial (Some Dialogue) = false
+uses_dial (Some InitStore) = false
+uses_dial (Some ListFiles) = false
+uses_dial (Some Serve) = false
+uses_dial (Some Put) = true
+uses_dial (Some Get) = true
+uses_dial (Some Generate) = false

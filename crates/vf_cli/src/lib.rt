@@ -1,10 +1,10 @@
-//! The command line: its words, and the top call, which runs the command that they ask for.
+//! The top call of the program, which runs the command that its words ask for.
 #![tactic(auto)]
 
-mod command;
+mod laws;
+mod task;
 mod top;
-mod words;
 
-pub use command::{Command, Wanted};
+pub use laws::tasks_are_in_range;
 pub use top::ftam;
-pub use words::{WordsError, parse, wanted};
+pub use vf_cli_words::{Command, Wanted, WordsError, parse, wanted};

@@ -89,17 +89,19 @@ fn send_some(rt: &HostRuntime, stream: &mut TcpStream, octets: &[u8]) -> Result<
     Err(Failed)
 }
 
-/// Ends a stream. What the peer has sent already is read before, since a stream that is closed over octets that weren't read
-/// may take what was sent last away from the peer.
-pub(crate) fn end(stream: TcpStream, into: &mut [u8]) {
-    let mut stream = stream;
+/// Tells the peer of a stream that nothing more is sent.
+pub(crate) fn end(stream: &TcpStream) {
     let _ = stream.shutdown(Shutdown::Write);
-    let _ = stream.read(into);
 }
 
 /// Sleeps for a millisecond.
 pub(crate) fn sleep(clock: &impl Clock) {
     thread::sleep(clock, Duration::from_millis(1));
+}
+
+/// Sleeps for a tenth of a second.
+pub(crate) fn pause(clock: &impl Clock) {
+    thread::sleep(clock, Duration::from_millis(100));
 }
 
 /// The moment by the system's clock. Where the clock tells none it is the first one, and the last one past the year 9999.

@@ -1,8 +1,8 @@
-use crate::SocketLinks;
 use crate::streams::listen;
+use crate::{SocketDial, SocketLinks};
 use std::io::{Read, Write};
 use std::net::TcpStream;
-use vf_base::{LinkEvent, Links};
+use vf_base::{Dial, LinkEvent, Links};
 
 #[test]
 fn streams_are_links(rt: HostRuntime) -> anyhow::Result<()> {
@@ -31,23 +31,87 @@ fn streams_are_links(rt: HostRuntime) -> anyhow::Result<()> {
     peer.read_to_end(&mut heard)?;
     assert_eq!(rt; heard.as_slice(), b"cd".as_slice());
 
-    // A second stream has the next number; its end is told; then nothing comes, and the links are through.
-    drop(TcpStream::connect(&rt, ("127.0.0.1", port))?);
+    // A link that is shut over octets that weren't read still takes what was sent on it.
+    let mut peer = TcpStream::connect(&rt, ("127.0.0.1", port))?;
+    peer.write_all(vec![in alloc; 7_u8; 300_000]?.as_slice())?;
     assert_eq!(rt;
         links.next(alloc, &mut piece),
         Ok(LinkEvent::Arrived { link: 2 })
     );
+    let came = links.next(alloc, &mut piece);
+    assert!(rt; matches!(came, Ok(LinkEvent::Octets { link: 2, .. })));
+    assert_eq!(rt; links.send(2, b"cd"), Ok(()));
+    links.shut(2);
+
+    // Another stream has the next number; its end is told; then nothing comes, and the links are through.
+    drop(TcpStream::connect(&rt, ("127.0.0.1", port))?);
     assert_eq!(rt;
         links.next(alloc, &mut piece),
-        Ok(LinkEvent::Ended { link: 2 })
+        Ok(LinkEvent::Arrived { link: 3 })
+    );
+    assert_eq!(rt;
+        links.next(alloc, &mut piece),
+        Ok(LinkEvent::Ended { link: 3 })
     );
     assert_eq!(rt; links.next(alloc, &mut piece), Ok(LinkEvent::Done));
     assert_eq!(rt; piece.len(), 0);
     assert_eq!(rt; links.faults(), 0);
+    drop(links);
+    let mut heard = Vec::new(alloc);
+    peer.read_to_end(&mut heard)?;
+    assert_eq!(rt; heard.as_slice(), b"cd".as_slice());
 
     // Over no port each call fails.
     let mut none = SocketLinks::none(&rt);
     assert!(rt; none.next(alloc, &mut piece).is_err());
+    assert_eq!(rt; none.faults(), 1);
+    Ok(())
+}
+
+#[test]
+fn a_stream_is_dialled(rt: HostRuntime) -> anyhow::Result<()> {
+    let alloc = rt.alloc();
+    let listener = listen(&rt, 0)?;
+    let port = listener.local_addr()?.port();
+    let mut links = SocketLinks::over(&rt, Some(listener), 50);
+    let mut piece = Vec::new(alloc);
+    let mut heard = [0; 8];
+
+    let mut dial = SocketDial::new(&rt, "127.0.0.1", port);
+    assert_eq!(rt; dial.connect(), Ok(()));
+    assert_eq!(rt; dial.send(b"ab"), Ok(()));
+    let came = links.next(alloc, &mut piece);
+    assert_eq!(rt; came, Ok(LinkEvent::Arrived { link: 1 }));
+    let came = links.next(alloc, &mut piece);
+    assert!(rt; matches!(came, Ok(LinkEvent::Octets { link: 1, .. })));
+    assert_eq!(rt; piece.as_slice(), b"ab".as_slice());
+    assert_eq!(rt; links.send(1, b"cde"), Ok(()));
+    assert_eq!(rt; dial.read(&mut heard), Ok(3));
+    assert_eq!(rt; heard, *b"cde\0\0\0\0\0");
+    assert_eq!(rt; dial.lost(), 0);
+
+    // The end of the stream is no fault, and the connection is lost.
+    links.shut(1);
+    assert_eq!(rt; dial.read(&mut heard), Ok(0));
+    assert_eq!(rt; dial.lost(), 1);
+    assert_eq!(rt; dial.faults(), 0);
+
+    // A connection that is closed isn't lost, and its peer is told.
+    assert_eq!(rt; dial.connect(), Ok(()));
+    dial.close();
+    assert_eq!(rt; dial.lost(), 1);
+    let came = links.next(alloc, &mut piece);
+    assert_eq!(rt; came, Ok(LinkEvent::Arrived { link: 2 }));
+    let came = links.next(alloc, &mut piece);
+    assert_eq!(rt; came, Ok(LinkEvent::Ended { link: 2 }));
+
+    // Where nobody listens, and over no host, a connect fails.
+    drop(links);
+    assert!(rt; dial.connect().is_err());
+    assert_eq!(rt; dial.lost(), 2);
+    assert_eq!(rt; dial.faults(), 1);
+    let mut none = SocketDial::none(&rt);
+    assert!(rt; none.connect().is_err());
     assert_eq!(rt; none.faults(), 1);
     Ok(())
 }

@@ -1,6 +1,6 @@
 //! One call over objects in memory.
 use std::alloc::Global;
-use vf_base::{NoMemory, ScriptLinks, Source, VecSink};
+use vf_base::{NoMemory, ScriptDial, ScriptLinks, Source, VecSink};
 use vf_cli::ftam;
 use vf_disk::MemoryDisk;
 
@@ -34,7 +34,8 @@ pub(crate) fn call_on<I: Source>(
     let given = words_of(alloc, words)?;
     let mut out = VecSink::new(alloc, failing);
     let mut links = ScriptLinks::new(alloc, Vec::new(alloc), Vec::new(alloc), Vec::new(alloc))?;
-    let (disk, status) = ftam(alloc, &given, &mut links, disk, input, &mut out);
+    let mut dial = ScriptDial::new(alloc, Vec::new(alloc), Vec::new(alloc))?;
+    let (disk, status) = ftam(alloc, &given, &mut links, disk, &mut dial, input, &mut out);
     let mut octets = Vec::new(alloc);
     octets.extend_from_slice(out.octets())?;
     Ok((disk, Printed { octets, status }))

@@ -8,7 +8,7 @@ use vf_base::{NoMemory, SliceSource};
 use vf_disk::MemoryDisk;
 
 /// A store of empty tables.
-const NEW: &[u8] = b"FTAMJNL1\0\0\0\x02\0\0\0\0\0\0\0\0\0\0\0\0!\0\0\0\0\0\0\0!\0";
+pub(crate) const NEW: &[u8] = b"FTAMJNL1\0\0\0\x02\0\0\0\0\0\0\0\0\0\0\0\0!\0\0\0\0\0\0\0!\0";
 
 /// The same with a record that puts the user `ann` with the password `pw`.
 const OF_ANN: &[u8] =

@@ -19,4 +19,6 @@ mod rows;
 #[cfg(test)]
 mod sips;
 #[cfg(test)]
+mod tasks;
+#[cfg(test)]
 mod words;

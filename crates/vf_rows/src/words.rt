@@ -37,6 +37,28 @@ init --store=\u{e9}
 list
 list --
 lists --store=s
+put --name=
+put --store=s --host=h --port=1 --name=a
+put --store=s --host=h --port=0 --name=a --user=u
+put --store=s --host=h --port=65536 --name=a --user=u
+put --store=s --host=h --port=01 --name=a --user=u
+put --store=s --host=h --port=1 --name=a --user=u --kind=4
+put --store=s --host=h --port=1 --name=a --user=u --kind=0
+put --store=s --host=h --port=1 --name=a --user=u --activity=0
+put --store=s --host=h --port=1 --name=a --user=u --activity=2147483648
+put --store=s --host=h --port=1 --name=a --user=u --tries=101
+put --store=s --host=h --port=1 --name=a --user=u --every=10001
+put --store=s --host=h --port=1 --name=a --user=u --every=0
+put --store=s --host=h --port=1 --name=a --user=u --idle=1
+put --store=s --host=h --port=1 --name=a --user=u --name=b
+get --store=s --host=h --port=1 --user=u
+generate --store=s --number=0
+generate --store=s --number=0 --count=0
+generate --store=s --number=0 --count=1001
+generate --store=s --number=00 --count=1
+generate --store=s --number=4294967296 --count=1
+generate --store=s --number=0x --count=1
+serve --store=s --port=1 --idle=0
 ";
 
 #[test]
@@ -47,7 +69,7 @@ fn words_outside_the_grammar(rt: HostRuntime) -> Result<(), Fail> {
         assert!(rt; prints_usage(rt.alloc(), words)?, "{words}");
         count = count.saturating_add(1);
     }
-    assert_eq!(rt; count, 31);
+    assert_eq!(rt; count, 53);
     Ok(())
 }
 
@@ -83,6 +105,45 @@ fn what_commands_over_a_store_want(rt: HostRuntime) -> Result<(), NoMemory> {
         ("list --store a=b", "a=b"),
     ] {
         assert!(rt; wants(rt.alloc(), words, path)?, "{words}");
+    }
+    Ok(())
+}
+
+/// Each with its words: they are within the grammar, and want this host and this port, or none.
+const WITHIN: [(&str, &str, u16); 6] = [
+    ("put --store=s --host=h --port=1 --name=a --user=u", "h", 1),
+    (
+        "get --store=s --host=h.i --port=65535 --name=a --user=u --password=p --kind=1 --tries=0",
+        "h.i",
+        65_535,
+    ),
+    (
+        "get --activity 2147483647 --every 10000 --user u --name a --port 9 --host h --store s",
+        "h",
+        9,
+    ),
+    ("generate --store s --number 4294967295 --count 1000", "", 0),
+    ("generate --store s --number 0 --count 1", "", 0),
+    ("serve --store s --port 80 --idle 1000000000", "", 80),
+];
+
+/// The host and the port that words want.
+fn wants_place(alloc: Global, words: &str, host: &str, port: u16) -> Result<bool, NoMemory> {
+    let given = words_of(alloc, words)?;
+    let Ok(wanted) = wanted(alloc, &given) else {
+        return Ok(false);
+    };
+    let is_host = match &wanted.host {
+        Some(found) => found.as_slice() == host.as_bytes(),
+        None => host.is_empty(),
+    };
+    Ok(is_host && wanted.port.unwrap_or(0) == port)
+}
+
+#[test]
+fn where_others_are_reached(rt: HostRuntime) -> Result<(), NoMemory> {
+    for (words, host, port) in WITHIN {
+        assert!(rt; wants_place(rt.alloc(), words, host, port)?, "{words}");
     }
     Ok(())
 }

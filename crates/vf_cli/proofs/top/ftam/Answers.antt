@@ -1,14 +1,14 @@
-use Rattle.std.proofs.Common.{◌≡◌, [], ◌∷◌, Option, Some, None, map, string_bytes, subst, sym}
+use Rattle.std.proofs.Common.{◌≡◌, [], ◌∷◌, Option, Some, None, map, refl, string_bytes, subst, sym}
 use Rattle.vf_cli.specs.Ftam.{statuses_of, usage}
-use Rattle.vf_cli.specs.Words.{command_of}
-use Rattle.vf_cli.specs.declared.command.Command.{Command}
-use Rattle.vf_cli.specs.declared.command.Command.TheVariants.{Dialogue, InitStore, ListFiles, Serve}
+use Rattle.vf_cli_words.specs.Words.{command_of}
+use Rattle.vf_cli_words.specs.declared.command.Command.{Command}
+use Rattle.vf_cli_words.specs.declared.command.Command.TheVariants.{Dialogue, InitStore, ListFiles, Serve, Put, Get, Generate}
 use Rattle.vf_cli_printing.specs.Printed.{IsOneOf}
 use Rattle.vf_journal.specs.Image.{records_of, refusal}
 use Rattle.vf_store.specs.Represented.{read_from}
 use Rattle.vf_store_commands.specs.Making.{printed_by_init}
 use Rattle.vf_tables.specs.Entries.{no_tables}
-use Rattle.vf_cli.proofs.Completes.{dialogue_ends, dialogue_never_five, dialogue_never_ten, ends, init_never_ten, list_ends, list_never_ten, list_never_three, serve_ends, serve_never_three, usage_ends, usage_never_five, usage_never_ten, usage_never_three}
+use Rattle.vf_cli.proofs.Completes.{dialogue_ends, dialogue_never, ends, generate_never, init_never, list_ends, list_never, serve_ends, serve_never, task_never, usage_ends, usage_never}
 use Rattle.vf_cli.proofs.top.ftam.Goals as goal
 
 pub returns-in-Some-Dialogue-clause-completes : goal.returns-in-Some-Dialogue-clause-completes
@@ -17,10 +17,10 @@ returns-in-Some-Dialogue-clause-completes g c = λ octets lines shows left input
     let asked : command_of (map string_bytes c.args.words.now.items) ≡ Some Dialogue = cc (c.parse.ensures) in
     subst (λ (o : Option Command). IsOneOf (statuses_of o octets lines) status) (sym asked)
     (dialogue_ends status (λ e. input (c.dialogue-status.ensures.causes.input e)) (λ e. out (c.dialogue-status.ensures.causes.output e))
-    (dialogue_never_five status c.dialogue-status.ensures.ends) _ _ _ lines left c.dialogue-status.ensures.prints)
+    (dialogue_never 5 status refl c.dialogue-status.ensures.ends) _ _ _ lines left c.dialogue-status.ensures.prints)
 
 pub returns-in-Some-Dialogue-clause-disk_cause : goal.returns-in-Some-Dialogue-clause-disk_cause
-returns-in-Some-Dialogue-clause-disk_cause g c = λ e. absurd (dialogue_never_five c.dialogue-status.result c.dialogue-status.ensures.ends e)
+returns-in-Some-Dialogue-clause-disk_cause g c = λ e. absurd (dialogue_never 5 c.dialogue-status.result refl c.dialogue-status.ensures.ends e)
 
 pub returns-in-Some-InitStore-clause-completes : goal.returns-in-Some-InitStore-clause-completes
 returns-in-Some-InitStore-clause-completes g c = λ octets lines shows left input out disk.
@@ -35,27 +35,27 @@ returns-in-Some-ListFiles-clause-completes g c = λ octets lines shows left inpu
     let status = c.list.result.1 in
     let asked : command_of (map string_bytes c.args.words.now.items) ≡ Some ListFiles = cc (c.parse.ensures) in
     subst (λ (o : Option Command). IsOneOf (statuses_of o octets lines) status) (sym asked)
-    (list_ends status (list_never_three status c.list.ensures.ends) (λ e. out (c.list.ensures.output_cause e)) (λ e. disk (c.list.ensures.disk_cause e))
+    (list_ends status (list_never 3 status refl c.list.ensures.ends) (λ e. out (c.list.ensures.output_cause e)) (λ e. disk (c.list.ensures.disk_cause e))
     (refusal octets) (read_from (records_of octets) no_tables).files _ _ (c.list.ensures.prints octets shows))
 
 pub returns-in-Some-ListFiles-clause-causes : goal.returns-in-Some-ListFiles-clause-causes
 returns-in-Some-ListFiles-clause-causes g c =
-    record { input = λ e. absurd (list_never_three c.list.result.1 c.list.ensures.ends e); output = c.list.ensures.output_cause }
+    record { input = λ e. absurd (list_never 3 c.list.result.1 refl c.list.ensures.ends e); output = c.list.ensures.output_cause }
 
 pub returns-in-None-clause-completes : goal.returns-in-None-clause-completes
 returns-in-None-clause-completes g c = λ octets lines shows left input out disk.
     let status = c.usage-status.result in
     let asked : command_of (map string_bytes c.args.words.now.items) ≡ None = cc (c.parse.ensures) in
     subst (λ (o : Option Command). IsOneOf (statuses_of o octets lines) status) (sym asked)
-    (usage_ends status (usage_never_three status c.usage-status.ensures.ends) (λ e. out (c.usage-status.ensures.cause e)) (usage_never_five status c.usage-status.ensures.ends)
+    (usage_ends status (usage_never 3 status refl c.usage-status.ensures.ends) (λ e. out (c.usage-status.ensures.cause e)) (usage_never 5 status refl c.usage-status.ensures.ends)
     usage _ _ c.usage-status.ensures.prints)
 
 pub returns-in-None-clause-causes : goal.returns-in-None-clause-causes
 returns-in-None-clause-causes g c =
-    record { input = λ e. absurd (usage_never_three c.usage-status.result c.usage-status.ensures.ends e); output = c.usage-status.ensures.cause }
+    record { input = λ e. absurd (usage_never 3 c.usage-status.result refl c.usage-status.ensures.ends e); output = c.usage-status.ensures.cause }
 
 pub returns-in-None-clause-disk_cause : goal.returns-in-None-clause-disk_cause
-returns-in-None-clause-disk_cause g c = λ e. absurd (usage_never_five c.usage-status.result c.usage-status.ensures.ends e)
+returns-in-None-clause-disk_cause g c = λ e. absurd (usage_never 5 c.usage-status.result refl c.usage-status.ensures.ends e)
 
 pub returns-in-Some-Serve-clause-completes : goal.returns-in-Some-Serve-clause-completes
 returns-in-Some-Serve-clause-completes g c = λ octets lines shows left input out disk.
@@ -67,16 +67,62 @@ returns-in-Some-Serve-clause-completes g c = λ octets lines shows left input ou
 
 pub returns-in-Some-Serve-clause-causes : goal.returns-in-Some-Serve-clause-causes
 returns-in-Some-Serve-clause-causes g c =
-    record { input = λ e. absurd (serve_never_three c.serve.result.1 c.serve.ensures.ends e); output = c.serve.ensures.output_cause }
+    record { input = λ e. absurd (serve_never 3 c.serve.result.1 refl c.serve.ensures.ends e); output = c.serve.ensures.output_cause }
 
 pub returns-in-Some-Dialogue-clause-links_cause : goal.returns-in-Some-Dialogue-clause-links_cause
-returns-in-Some-Dialogue-clause-links_cause g c = λ e. absurd (dialogue_never_ten c.dialogue-status.result c.dialogue-status.ensures.ends e)
+returns-in-Some-Dialogue-clause-links_cause g c = λ e. absurd (dialogue_never 10 c.dialogue-status.result refl c.dialogue-status.ensures.ends e)
 
 pub returns-in-Some-InitStore-clause-links_cause : goal.returns-in-Some-InitStore-clause-links_cause
-returns-in-Some-InitStore-clause-links_cause g c = λ e. absurd (init_never_ten c.init.result.1 c.init.ensures.ends e)
+returns-in-Some-InitStore-clause-links_cause g c = λ e. absurd (init_never 10 c.init.result.1 refl c.init.ensures.ends e)
 
 pub returns-in-Some-ListFiles-clause-links_cause : goal.returns-in-Some-ListFiles-clause-links_cause
-returns-in-Some-ListFiles-clause-links_cause g c = λ e. absurd (list_never_ten c.list.result.1 c.list.ensures.ends e)
+returns-in-Some-ListFiles-clause-links_cause g c = λ e. absurd (list_never 10 c.list.result.1 refl c.list.ensures.ends e)
 
 pub returns-in-None-clause-links_cause : goal.returns-in-None-clause-links_cause
-returns-in-None-clause-links_cause g c = λ e. absurd (usage_never_ten c.usage-status.result c.usage-status.ensures.ends e)
+returns-in-None-clause-links_cause g c = λ e. absurd (usage_never 10 c.usage-status.result refl c.usage-status.ensures.ends e)
+
+pub returns-in-Some-Put-clause-links_cause : goal.returns-in-Some-Put-clause-links_cause
+returns-in-Some-Put-clause-links_cause g c = λ e. absurd (task_never 10 c.task.result.1 refl c.task.ensures.ends e)
+
+pub returns-in-Some-Put-clause-completes : goal.returns-in-Some-Put-clause-completes
+returns-in-Some-Put-clause-completes g c = λ octets lines shows left input out disk.
+    let asked : command_of (map string_bytes c.args.words.now.items) ≡ Some Put = cc (c.parse.ensures) in
+    subst (λ (o : Option Command). IsOneOf (statuses_of o octets lines) c.task.result.1) (sym asked) (c.task.ensures.completes octets shows input out disk)
+
+pub returns-in-Some-Get-clause-links_cause : goal.returns-in-Some-Get-clause-links_cause
+returns-in-Some-Get-clause-links_cause g c = λ e. absurd (task_never 10 c.task-in-Some-Get.result.1 refl c.task-in-Some-Get.ensures.ends e)
+
+pub returns-in-Some-Get-clause-completes : goal.returns-in-Some-Get-clause-completes
+returns-in-Some-Get-clause-completes g c = λ octets lines shows left input out disk.
+    let asked : command_of (map string_bytes c.args.words.now.items) ≡ Some Get = cc (c.parse.ensures) in
+    subst (λ (o : Option Command). IsOneOf (statuses_of o octets lines) c.task-in-Some-Get.result.1) (sym asked) (c.task-in-Some-Get.ensures.completes octets shows input out disk)
+
+pub returns-in-Some-Generate-clause-completes : goal.returns-in-Some-Generate-clause-completes
+returns-in-Some-Generate-clause-completes g c = λ octets lines shows left input out disk.
+    let asked : command_of (map string_bytes c.args.words.now.items) ≡ Some Generate = cc (c.parse.ensures) in
+    subst (λ (o : Option Command). IsOneOf (statuses_of o octets lines) c.draw.result.1) (sym asked) (c.draw.ensures.completes octets shows out disk)
+
+pub returns-in-Some-Generate-clause-links_cause : goal.returns-in-Some-Generate-clause-links_cause
+returns-in-Some-Generate-clause-links_cause g c = λ e. absurd (generate_never 10 c.draw.result.1 refl c.draw.ensures.ends e)
+
+pub returns-in-Some-Generate-clause-causes : goal.returns-in-Some-Generate-clause-causes
+returns-in-Some-Generate-clause-causes g c =
+    record { input = λ e. absurd (generate_never 3 c.draw.result.1 refl c.draw.ensures.ends e); output = c.draw.ensures.output_cause }
+
+pub returns-in-Some-Dialogue-clause-lost_cause : goal.returns-in-Some-Dialogue-clause-lost_cause
+returns-in-Some-Dialogue-clause-lost_cause g c = λ e. absurd (dialogue_never 6 c.dialogue-status.result refl c.dialogue-status.ensures.ends e)
+
+pub returns-in-Some-InitStore-clause-lost_cause : goal.returns-in-Some-InitStore-clause-lost_cause
+returns-in-Some-InitStore-clause-lost_cause g c = λ e. absurd (init_never 6 c.init.result.1 refl c.init.ensures.ends e)
+
+pub returns-in-Some-ListFiles-clause-lost_cause : goal.returns-in-Some-ListFiles-clause-lost_cause
+returns-in-Some-ListFiles-clause-lost_cause g c = λ e. absurd (list_never 6 c.list.result.1 refl c.list.ensures.ends e)
+
+pub returns-in-Some-Serve-clause-lost_cause : goal.returns-in-Some-Serve-clause-lost_cause
+returns-in-Some-Serve-clause-lost_cause g c = λ e. absurd (serve_never 6 c.serve.result.1 refl c.serve.ensures.ends e)
+
+pub returns-in-Some-Generate-clause-lost_cause : goal.returns-in-Some-Generate-clause-lost_cause
+returns-in-Some-Generate-clause-lost_cause g c = λ e. absurd (generate_never 6 c.draw.result.1 refl c.draw.ensures.ends e)
+
+pub returns-in-None-clause-lost_cause : goal.returns-in-None-clause-lost_cause
+returns-in-None-clause-lost_cause g c = λ e. absurd (usage_never 6 c.usage-status.result refl c.usage-status.ensures.ends e)

@@ -1,0 +1,6 @@
+mod Drawn
+mod Going
+mod Hearing
+mod Saying
+mod Making
+mod Ends

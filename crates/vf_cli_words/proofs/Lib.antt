@@ -1,0 +1,3 @@
+mod Numbers
+mod GivenAfter
+pub mod Values
