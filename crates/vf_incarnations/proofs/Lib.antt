@@ -1,0 +1,6 @@
+pub mod Answered
+pub mod Lives
+pub mod Calls
+pub mod Recovered
+pub mod InARow
+pub mod Dropped
