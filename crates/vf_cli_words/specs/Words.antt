@@ -6,7 +6,7 @@ use Rattle.std.specs.List.{list_all, position}
 use Rattle.std.specs.Option.{option_map, unwrap_or}
 use Rattle.vf_base.specs.Name.{is_name}
 use Rattle.vf_cli_words.specs.declared.command.Command.{Command}
-use Rattle.vf_cli_words.specs.declared.command.Command.TheVariants.{Dialogue, InitStore, ListFiles, Serve, Put, Get, Generate}
+use Rattle.vf_cli_words.specs.declared.command.Command.TheVariants.{Dialogue, InitStore, ListFiles, ListDockets, DropKept, Serve, Put, Get, Generate}
 use Rattle.vf_cli_words.specs.declared.command.Wanted.{Wanted}
 use Rattle.vf_cli_words.specs.declared.words.Drawn.{Drawn}
 use Rattle.vf_cli_words.specs.declared.options.Key.{Key}
@@ -117,6 +117,13 @@ abbrev pub a_store : Key → Use
 a_store Store = Required
 a_store key = Unknown
 
+-- what a store keeps, by its activity,
+abbrev pub a_drop : Key → Use
+a_drop Store = Required
+a_drop Activity = Required
+a_drop User = Optional
+a_drop key = Unknown
+
 -- a place to serve at,
 abbrev pub a_place : Key → Use
 a_place Store = Required
@@ -149,6 +156,8 @@ abbrev pub use_of : Command → Key → Use
 use_of Dialogue key = no_options key
 use_of InitStore key = a_store key
 use_of ListFiles key = a_store key
+use_of ListDockets key = a_store key
+use_of DropKept key = a_drop key
 use_of Serve key = a_place key
 use_of Put key = a_task key
 use_of Get key = a_task key
@@ -232,6 +241,8 @@ command_named name =
     if is_word name (codes "dialogue") then Some Dialogue
     else if is_word name (codes "init") then Some InitStore
     else if is_word name (codes "list") then Some ListFiles
+    else if is_word name (codes "dockets") then Some ListDockets
+    else if is_word name (codes "drop") then Some DropKept
     else if is_word name (codes "serve") then Some Serve
     else if is_word name (codes "put") then Some Put
     else if is_word name (codes "get") then Some Get

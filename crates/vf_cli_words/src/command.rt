@@ -10,6 +10,10 @@ pub enum Command {
     InitStore,
     /// `list`: the files of a store.
     ListFiles,
+    /// `dockets`: the dockets and the tasks of a store.
+    ListDockets,
+    /// `drop`: a docket or a task of a store is dropped.
+    DropKept,
     /// `serve`: the associations that come to a port, over a store.
     Serve,
     /// `put`: the input becomes the contents of a file of another filestore.

@@ -173,8 +173,13 @@ fn use_of(command: Command, key: Key) -> Use
 {
     match command {
         Command::Dialogue => Use::Unknown,
-        Command::InitStore | Command::ListFiles => match key {
+        Command::InitStore | Command::ListFiles | Command::ListDockets => match key {
             Key::Store => Use::Required,
+            _ => Use::Unknown,
+        },
+        Command::DropKept => match key {
+            Key::Store | Key::Activity => Use::Required,
+            Key::User => Use::Optional,
             _ => Use::Unknown,
         },
         Command::Serve => match key {

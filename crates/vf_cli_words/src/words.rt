@@ -74,6 +74,12 @@ fn command_named(name: &str) -> Option<Command>
     if name == "list" {
         return Some(Command::ListFiles);
     }
+    if name == "dockets" {
+        return Some(Command::ListDockets);
+    }
+    if name == "drop" {
+        return Some(Command::DropKept);
+    }
     if name == "serve" {
         return Some(Command::Serve);
     }
