@@ -2,7 +2,7 @@
 use Rattle.std.proofs.Common.{◌≡◌, inl, inr, ⊎_elim, ℕ, Bool, true, false, not, ◌&&◌, List, [], ◌∷◌, nat_eq, Option, Some, None, Result, Ok, Err, arith, refl, subst, sym, ◌∙◌}
 use Rattle.std.proofs.lemmas.Bool.Decides.{nat_tests}
 use Rattle.vf_attr.specs.declared.file.File.{File}
-use Rattle.vf_cli.specs.Ftam.{generate_statuses, list_status, serve_statuses, task_statuses}
+use Rattle.vf_cli.specs.Ftam.{drop_statuses, generate_statuses, list_status, serve_statuses, task_statuses}
 use Rattle.vf_cli_dialogue.specs.Dialogue.{MeetsDialogue, dialogue}
 use Rattle.vf_cli_generate.specs.Generating.{EndsGenerate, PrintsMade, RefusesGenerate}
 use Rattle.vf_cli_printing.specs.Printed.{IsOneOf, Printed, Prints}
@@ -20,8 +20,11 @@ use Rattle.vf_responder.specs.declared.error.ServeError.{ServeError}
 use Rattle.vf_responder.specs.declared.error.ServeError.TheVariants.{Respond, LinksFault, NoMemory}
 use Rattle.vf_responder.specs.declared.serving.Served.{Served}
 use Rattle.vf_store_commands.specs.ErrorLines.{no_store_line}
+use Rattle.vf_store_commands.specs.Dropping.{EndsDrop, PrintsDropOf, PrintsDropped, drop_of, dropped_line, unknown_line}
 use Rattle.vf_store_commands.specs.Listing.{EndsList, PrintsOpened, file_lines}
 use Rattle.vf_store_commands.specs.Making.{EndsInit}
+use Rattle.vf_store_commands.specs.declared.dropping.KeptEntry.{KeptEntry}
+use Rattle.vf_tables.specs.Fitting.{stands_in}
 use Rattle.vf_tables.specs.declared.tables.Tables.{Tables}
 use Rattle.vf_transact.specs.Transaction.{Answer, DiskByCause, IsRefused, RefusesBy}
 use Rattle.vf_transact.specs.declared.error.TransactError.TheVariants as tasks
@@ -56,6 +59,9 @@ init_never = never (0 ∷ 3 ∷ 4 ∷ 5 ∷ 8 ∷ 9 ∷ 11 ∷ 12 ∷ [])
 
 pub list_never : (number status : ℕ) → is_apart (0 ∷ 4 ∷ 5 ∷ 8 ∷ 9 ∷ 12 ∷ []) number ≡ true → EndsList status → status ≡ number → ⊥
 list_never = never (0 ∷ 4 ∷ 5 ∷ 8 ∷ 9 ∷ 12 ∷ [])
+
+pub drop_never : (number status : ℕ) → is_apart (0 ∷ 1 ∷ 4 ∷ 5 ∷ 8 ∷ 9 ∷ 12 ∷ []) number ≡ true → EndsDrop status → status ≡ number → ⊥
+drop_never = never (0 ∷ 1 ∷ 4 ∷ 5 ∷ 8 ∷ 9 ∷ 12 ∷ [])
 
 pub serve_never : (number status : ℕ) → is_apart (0 ∷ 4 ∷ 5 ∷ 8 ∷ 9 ∷ 10 ∷ 12 ∷ []) number ≡ true → EndsServe status → status ≡ number → ⊥
 serve_never = never (0 ∷ 4 ∷ 5 ∷ 8 ∷ 9 ∷ 10 ∷ 12 ∷ [])
@@ -127,6 +133,25 @@ module _ (status : ℕ) (four : status ≡ 4 → ⊥) (five : status ≡ 5 → �
   serve_ends image (Err (Respond (errors.NotAStore place found expected))) old new prints is =
       subst (λ (refused : Option Refusal). IsOneOf (serve_statuses refused) status) is (or_nine _ old new prints)
 
+-- the statuses of `drop`
+module _ (status : ℕ) (three : status ≡ 3 → ⊥) (four : status ≡ 4 → ⊥) (five : status ≡ 5 → ⊥) where
+  no_memory : IsOneOf (9 ∷ []) status → IsOneOf (drop_statuses None) status
+  no_memory nine = ⊎_elim (λ e. inr (inr (inl e))) (λ none. absurd none) nine
+
+  dropped_ends : (stands : Bool) (old new : Option (List ℕ)) → PrintsDropped stands status old new → IsOneOf (drop_statuses None) status
+  dropped_ends false old new prints =
+      ⊎_elim (λ e. inr (inl e)) no_memory (ends status three four five (4 ∷ 5 ∷ 9 ∷ []) (record { octets = unknown_line; status = 1 }) old new (λ is. inr is) prints)
+  dropped_ends true old new prints =
+      ⊎_elim
+      (λ dropped. ⊎_elim (λ e. inl e) no_memory (ends status three four five (4 ∷ 5 ∷ 9 ∷ []) (record { octets = dropped_line; status = 0 }) old new (λ is. inr is) dropped))
+      (λ full. ⊎_elim (λ e. inr (inr (inr (inl e)))) no_memory (or_nine status four five _ old new full.2)) prints
+
+  pub drop_ends : (refused : Option Refusal) (kept : KeptEntry) (tables : Tables) (old new : Option (List ℕ)) → PrintsDropOf refused kept tables status old new
+      → IsOneOf (drop_statuses refused) status
+  drop_ends (Some refused) kept tables old new prints =
+      ends status three four five (4 ∷ 5 ∷ 9 ∷ []) (record { octets = no_store_line refused.place; status = 8 }) old new (λ is. inr is) prints
+  drop_ends None kept tables old new prints = dropped_ends (stands_in tables (drop_of kept)) old new prints
+
 -- the statuses of `generate`
 module _ (status : ℕ) (four : status ≡ 4 → ⊥) (five : status ≡ 5 → ⊥) where
   then_nine : IsOneOf (9 ∷ []) status → IsOneOf (generate_statuses None) status
@@ -197,6 +222,10 @@ module _ (status : ℕ) (three : status ≡ 3 → ⊥) (four : status ≡ 4 → 
 pub task_nine : (refused : Option Refusal) (status : ℕ) → status ≡ 9 → IsOneOf (task_statuses refused) status
 task_nine None status is = inr (inr (inr (inr (inl is))))
 task_nine (Some refused) status is = inr (inl is)
+
+pub drop_nine : (refused : Option Refusal) (status : ℕ) → status ≡ 9 → IsOneOf (drop_statuses refused) status
+drop_nine None status is = inr (inr (inl is))
+drop_nine (Some refused) status is = inr (inl is)
 
 pub generate_nine : (refused : Option Refusal) (status : ℕ) → status ≡ 9 → IsOneOf (generate_statuses refused) status
 generate_nine None status is = inr (inl is)

@@ -1,2 +1,3 @@
 mod Completes
 mod InRange
+mod KeptInRange

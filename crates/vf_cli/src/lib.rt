@@ -1,6 +1,7 @@
 //! The top call of the program, which runs the command that its words ask for.
 #![tactic(auto)]
 
+mod kept;
 mod laws;
 mod task;
 mod top;

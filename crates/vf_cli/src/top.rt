@@ -11,10 +11,13 @@ ghost use Rattle.vf_journal.specs.Looking.{IsSyncedAndLookedAt};
 ghost use Rattle.vf_responder.specs.Served.{RepresentsServed, untold};
 ghost use Rattle.vf_responder.specs.Serving.{IsBegun, Serving};
 ghost use Rattle.vf_store.specs.Represented.{Represents};
+ghost use Rattle.vf_store_commands.specs.Dropping.{EndsDrop};
 ghost use Rattle.vf_store_commands.specs.Making.{IsAsBefore, Makes, MayLeave};
+ghost use Rattle.vf_store_commands.specs.declared.dropping.KeptEntry.{KeptEntry as KeptEntryMeant};
 ghost use Rattle.vf_tables.specs.declared.tables.Tables.{Tables as TablesMeant};
 ghost use Rattle.vf_journal.specs.Image.{refusal};
-ghost use Rattle.vf_cli.specs.Ftam.{DoesWords, MakesDrawn, MeetsCommand, generate_statuses, statuses_of, task_statuses, usage as usage_printed, usage_line, uses_dial, uses_disk, uses_links};
+ghost use Rattle.vf_cli.specs.Ftam.{DoesWords, DropsWords, MakesDrawn, MeetsCommand, drop_statuses, generate_statuses, only_looks, statuses_of, task_statuses, usage as usage_printed, usage_line, uses_dial, uses_disk, uses_links};
+ghost use Rattle.vf_cli.specs.KeptWords.{kept_in};
 ghost use Rattle.vf_cli.specs.TaskWords.{task_in};
 ghost use Rattle.vf_cli_generate.specs.Generating.{EndsGenerate};
 ghost use Rattle.vf_cli_transact.specs.Tasks.{EndsTask};
@@ -23,6 +26,7 @@ ghost use Rattle.vf_cli_words.specs.declared.words.Drawn.{Drawn as DrawnMeant};
 ghost use Rattle.vf_transact.specs.Starting.{connections_of};
 ghost use Rattle.vf_transact.specs.declared.words.PlanWords.{PlanWords as PlanWordsMeant};
 
+use crate::kept::kept_words;
 use crate::task::task_words;
 use std::alloc::Global;
 use vf_base::{Dial, Links, Sink, Source};
@@ -33,13 +37,13 @@ use vf_cli_serve::serve;
 use vf_cli_transact::do_task;
 use vf_cli_words::{Command, drawn_by, parse};
 use vf_disk::Disk;
-use vf_store_commands::{init, list};
+use vf_store_commands::{dockets, drop_kept, init, list};
 
 /// Runs the command that the words ask for; answers its disk, and its status.
 ///
 /// `words` is the command line without the program's name. The disk is that of the store, which `dialogue` and words outside the
 /// grammar leave alone; only `serve` uses the links, and only `put` and `get` use the dial. The statuses: 0 the command came to
-/// its end; 1 a diagnostic refused the task; 2 the words are outside the grammar; 3 the input failed; 4 the output failed; 5 the
+/// its end; 1 a diagnostic refused the task, or there is nothing to be dropped; 2 the words are outside the grammar; 3 the input failed; 4 the output failed; 5 the
 /// disk failed; 6 each connection of the task was lost; 7 an abort was said, or the other end of the task is at fault; 8 the disk
 /// has no store, or isn't empty where one is to be made; 9 memory is wanting; 10 the links failed; 11 a line of the input is bad;
 /// 12 the store is full; 13 the activity is in use.
@@ -68,10 +72,12 @@ pub fn ftam<L: Links, D: Disk, C: Dial, I: Source, O: Sink>(
         → IsOneOf (3 ∷ 8 ∷ 11 ∷ []) result.1 → IsAsBefore D.shown D.may_leave disk result.0 }
     ensures init_any_moment { command_of (map string_bytes words.now.items) ≡ Some Command.InitStore → (lines : List ℕ) → D.shown disk ≡ Some [] → LeavesShown (D.shown disk) (D.may_leave disk)
         → I.left input.old ≡ Some lines → LeavesOnly D.moment D.left_since disk result.0 (MayLeave lines) }
-    ensures list_looks { command_of (map string_bytes words.now.items) ≡ Some Command.ListFiles
+    ensures looks { only_looks (command_of (map string_bytes words.now.items)) ≡ true
         → IsSyncedAndLookedAt D.shown D.size D.may_leave D.moment D.left_since D.plan D.state D.lack_count (nat_eq result.1 5) disk result.0 }
-    ensures list_any_moment { command_of (map string_bytes words.now.items) ≡ Some Command.ListFiles → (tables : TablesMeant) → ((image : List ℕ) → D.may_leave disk image → Represents image tables)
+    ensures looks_any_moment { only_looks (command_of (map string_bytes words.now.items)) ≡ true → (tables : TablesMeant) → ((image : List ℕ) → D.may_leave disk image → Represents image tables)
         → LeavesOnly D.moment D.left_since disk result.0 (λ image. Represents image tables) }
+    ensures drops { command_of (map string_bytes words.now.items) ≡ Some Command.DropKept → (kept : KeptEntryMeant) → kept_in (map string_bytes words.now.items) ≡ Some kept
+        → DropsWords D.shown D.may_leave D.moment D.left_since kept disk result.0 result.1 (O.taken out.old) (O.taken out.new) }
     ensures serves { command_of (map string_bytes words.now.items) ≡ Some Command.Serve
         → ServesLinks D.shown D.may_leave disk result.0 (D.fault_count disk) (D.fault_count result.0) (L.told links.old) (L.told links.new) (L.fault_count links.old) (L.fault_count links.new)
         (L.turns links.new) (L.through links.new) result.1 (O.taken out.old) (O.taken out.new) }
@@ -107,6 +113,8 @@ pub fn ftam<L: Links, D: Disk, C: Dial, I: Source, O: Sink>(
         }
         Some(Command::InitStore) => init(alloc, disk, input, out),
         Some(Command::ListFiles) => list(alloc, disk, out),
+        Some(Command::ListDockets) => dockets(alloc, disk, out),
+        Some(Command::DropKept) => drop_named(alloc, words, disk, out),
         Some(Command::Serve) => serve(alloc, links, disk, out),
         Some(Command::Put) => task(alloc, words, disk, dial, input, out),
         Some(Command::Get) => task(alloc, words, disk, dial, input, out),
@@ -154,6 +162,22 @@ fn task<D: Disk, C: Dial, I: Source, O: Sink>(
 {
     match task_words(alloc, words) {
         Ok(plan) => do_task(alloc, &plan, disk, dial, input, out),
+        Err(_) => (disk, NO_MEMORY),
+    }
+}
+
+/// Drops what the words tell. Where memory is wanting for the words nothing is done.
+fn drop_named<D: Disk, O: Sink>(alloc: Global, words: &Vec<String>, disk: D, out: &mut O) -> (D, u8)
+    ensures drops { (kept : KeptEntryMeant) → kept_in (map string_bytes words.now.items) ≡ Some kept
+        → DropsWords D.shown D.may_leave D.moment D.left_since kept disk result.0 result.1 (O.taken out.old) (O.taken out.new) }
+    ensures ends { EndsDrop result.1 }
+    ensures output_cause { result.1 ≡ 4 → HasRisen (O.fault_count out.old) (O.fault_count out.new) }
+    ensures disk_cause { result.1 ≡ 5 → HasRisen (D.fault_count disk) (D.fault_count result.0) }
+    ensures completes { (octets : List ℕ) → D.shown disk ≡ Some octets → (HasRisen (O.fault_count out.old) (O.fault_count out.new) → ⊥)
+        → (HasRisen (D.fault_count disk) (D.fault_count result.0) → ⊥) → IsOneOf (drop_statuses (refusal octets)) result.1 }
+{
+    match kept_words(alloc, words) {
+        Ok(kept) => drop_kept(alloc, kept, disk, out),
         Err(_) => (disk, NO_MEMORY),
     }
 }

@@ -1,4 +1,4 @@
-//! `init` and `list`, through the top call. What they read and print, and what a stop leaves, is tried beside their
+//! `init`, `list`, `dockets` and `drop`, through the top call. What they read and print, and what a stop leaves, is tried beside their
 //! functions.
 use crate::call::{Printed, call_on, only};
 use crate::rows::lines_of;
@@ -24,6 +24,11 @@ list --store s | ann |          |  0 |                | ann
 list --store=s | new |          |  0 |                | new
 list --store s |     |          |  8 | not a store 0/ |
 list --store s | F   |          |  8 | not a store 1/ | F
+dockets --store s | ann |       |  0 |                | ann
+dockets --store s |     |       |  8 | not a store 0/ |
+drop --store s --activity 7 | ann | |  1 | refused 27/ | ann
+drop --store s --activity=7 --user=ann | ann | |  1 | refused 27/ | ann
+drop --store s --activity 7 | F | |  8 | not a store 1/ | F
 dialogue       | x   | A200/    |  7 | A503800166/    | x
 list           | ann |          |  2 | usage/         | ann
 ";
@@ -91,7 +96,7 @@ fn commands_over_a_store(rt: HostRuntime) -> Result<(), Fail> {
             count = count.saturating_add(1);
         }
     }
-    assert_eq!(rt; count, 10);
+    assert_eq!(rt; count, 15);
     Ok(())
 }
 

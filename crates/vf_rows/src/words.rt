@@ -37,6 +37,14 @@ init --store=\u{e9}
 list
 list --
 lists --store=s
+dockets
+dockets --store=s --activity=1
+drop --store=s
+drop --activity=1
+drop --store=s --activity=0
+drop --store=s --activity=2147483648
+drop --store=s --user=u
+drop --store=s --activity=1 --password=p
 put --name=
 put --store=s --host=h --port=1 --name=a
 put --store=s --host=h --port=0 --name=a --user=u
@@ -69,7 +77,7 @@ fn words_outside_the_grammar(rt: HostRuntime) -> Result<(), Fail> {
         assert!(rt; prints_usage(rt.alloc(), words)?, "{words}");
         count = count.saturating_add(1);
     }
-    assert_eq!(rt; count, 53);
+    assert_eq!(rt; count, 61);
     Ok(())
 }
 
@@ -110,7 +118,7 @@ fn what_commands_over_a_store_want(rt: HostRuntime) -> Result<(), NoMemory> {
 }
 
 /// Each with its words: they are within the grammar, and want this host and this port, or none.
-const WITHIN: [(&str, &str, u16); 6] = [
+const WITHIN: [(&str, &str, u16); 8] = [
     ("put --store=s --host=h --port=1 --name=a --user=u", "h", 1),
     (
         "get --store=s --host=h.i --port=65535 --name=a --user=u --password=p --kind=1 --tries=0",
@@ -124,6 +132,8 @@ const WITHIN: [(&str, &str, u16); 6] = [
     ),
     ("generate --store s --number 4294967295 --count 1000", "", 0),
     ("generate --store s --number 0 --count 1", "", 0),
+    ("dockets --store s", "", 0),
+    ("drop --user u --activity 2147483647 --store s", "", 0),
     ("serve --store s --port 80 --idle 1000000000", "", 80),
 ];
 

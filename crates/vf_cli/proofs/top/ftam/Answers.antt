@@ -1,14 +1,15 @@
-use Rattle.std.proofs.Common.{◌≡◌, [], ◌∷◌, Option, Some, None, map, refl, string_bytes, subst, sym}
+use Rattle.std.proofs.Common.{◌≡◌, [], ◌∷◌, inr, Option, Some, None, map, refl, string_bytes, subst, sym}
 use Rattle.vf_cli.specs.Ftam.{statuses_of, usage}
 use Rattle.vf_cli_words.specs.Words.{command_of}
 use Rattle.vf_cli_words.specs.declared.command.Command.{Command}
-use Rattle.vf_cli_words.specs.declared.command.Command.TheVariants.{Dialogue, InitStore, ListFiles, Serve, Put, Get, Generate}
+use Rattle.vf_cli_words.specs.declared.command.Command.TheVariants.{Dialogue, InitStore, ListFiles, ListDockets, DropKept, Serve, Put, Get, Generate}
 use Rattle.vf_cli_printing.specs.Printed.{IsOneOf}
 use Rattle.vf_journal.specs.Image.{records_of, refusal}
 use Rattle.vf_store.specs.Represented.{read_from}
+use Rattle.vf_store_commands.specs.Dockets.{printed_by_dockets}
 use Rattle.vf_store_commands.specs.Making.{printed_by_init}
 use Rattle.vf_tables.specs.Entries.{no_tables}
-use Rattle.vf_cli.proofs.Completes.{dialogue_ends, dialogue_never, ends, generate_never, init_never, list_ends, list_never, serve_ends, serve_never, task_never, usage_ends, usage_never}
+use Rattle.vf_cli.proofs.Completes.{dialogue_ends, dialogue_never, drop_never, ends, generate_never, init_never, list_ends, list_never, serve_ends, serve_never, task_never, usage_ends, usage_never}
 use Rattle.vf_cli.proofs.top.ftam.Goals as goal
 
 pub returns-in-Some-Dialogue-clause-completes : goal.returns-in-Some-Dialogue-clause-completes
@@ -126,3 +127,36 @@ returns-in-Some-Generate-clause-lost_cause g c = λ e. absurd (generate_never 6 
 
 pub returns-in-None-clause-lost_cause : goal.returns-in-None-clause-lost_cause
 returns-in-None-clause-lost_cause g c = λ e. absurd (usage_never 6 c.usage-status.result refl c.usage-status.ensures.ends e)
+
+pub returns-in-Some-ListDockets-clause-completes : goal.returns-in-Some-ListDockets-clause-completes
+returns-in-Some-ListDockets-clause-completes g c = λ octets lines shows left input out disk.
+    let status = c.dockets.result.1 in
+    let asked : command_of (map string_bytes c.args.words.now.items) ≡ Some ListDockets = cc (c.parse.ensures) in
+    subst (λ (o : Option Command). IsOneOf (statuses_of o octets lines) status) (sym asked)
+    (ends status (list_never 3 status refl c.dockets.ensures.ends) (λ e. out (c.dockets.ensures.output_cause e)) (λ e. disk (c.dockets.ensures.disk_cause e))
+    (4 ∷ 5 ∷ 9 ∷ []) (printed_by_dockets octets) _ _ (λ is. inr is) (c.dockets.ensures.prints octets shows))
+
+pub returns-in-Some-ListDockets-clause-causes : goal.returns-in-Some-ListDockets-clause-causes
+returns-in-Some-ListDockets-clause-causes g c =
+    record { input = λ e. absurd (list_never 3 c.dockets.result.1 refl c.dockets.ensures.ends e); output = c.dockets.ensures.output_cause }
+
+pub returns-in-Some-ListDockets-clause-links_cause : goal.returns-in-Some-ListDockets-clause-links_cause
+returns-in-Some-ListDockets-clause-links_cause g c = λ e. absurd (list_never 10 c.dockets.result.1 refl c.dockets.ensures.ends e)
+
+pub returns-in-Some-ListDockets-clause-lost_cause : goal.returns-in-Some-ListDockets-clause-lost_cause
+returns-in-Some-ListDockets-clause-lost_cause g c = λ e. absurd (list_never 6 c.dockets.result.1 refl c.dockets.ensures.ends e)
+
+pub returns-in-Some-DropKept-clause-completes : goal.returns-in-Some-DropKept-clause-completes
+returns-in-Some-DropKept-clause-completes g c = λ octets lines shows left input out disk.
+    let asked : command_of (map string_bytes c.args.words.now.items) ≡ Some DropKept = cc (c.parse.ensures) in
+    subst (λ (o : Option Command). IsOneOf (statuses_of o octets lines) c.drop_named.result.1) (sym asked) (c.drop_named.ensures.completes octets shows out disk)
+
+pub returns-in-Some-DropKept-clause-causes : goal.returns-in-Some-DropKept-clause-causes
+returns-in-Some-DropKept-clause-causes g c =
+    record { input = λ e. absurd (drop_never 3 c.drop_named.result.1 refl c.drop_named.ensures.ends e); output = c.drop_named.ensures.output_cause }
+
+pub returns-in-Some-DropKept-clause-links_cause : goal.returns-in-Some-DropKept-clause-links_cause
+returns-in-Some-DropKept-clause-links_cause g c = λ e. absurd (drop_never 10 c.drop_named.result.1 refl c.drop_named.ensures.ends e)
+
+pub returns-in-Some-DropKept-clause-lost_cause : goal.returns-in-Some-DropKept-clause-lost_cause
+returns-in-Some-DropKept-clause-lost_cause g c = λ e. absurd (drop_never 6 c.drop_named.result.1 refl c.drop_named.ensures.ends e)
