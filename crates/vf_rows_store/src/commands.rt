@@ -1,9 +1,9 @@
 //! The commands over a store, on a disk in memory.
 use std::alloc::Global;
 use std::test::Fail;
-use vf_base::{SliceSource, VecSink};
+use vf_base::{Name, SliceSource, VecSink};
 use vf_disk::{CrashForm, MemoryDisk};
-use vf_store_commands::{init, list};
+use vf_store_commands::{KeptEntry, dockets, drop_kept, init, list};
 
 /// A store of empty tables.
 const NEW: &[u8] = b"FTAMJNL1\0\0\0\x02\0\0\0\0\0\0\0\0\0\0\0\0!\0\0\0\0\0\0\0!\0";
@@ -15,6 +15,15 @@ const OF_ANN: &[u8] =
 /// A store of two files, `b` with the string `hi` and `a` without any, in this order.
 const OF_FILES: &[u8] =
     b"FTAMJNL1\0\0\0\x02\0\0\0\0\0\0\0\0\0\0\0\0!\0\0\0\0\0\0\0!\x01\0\0\0b\0\0\0\x02\x02\0\x01b\xFF\x03\x1B\0\x01\0\0\0\0\0\0\0\0\0\0\08\xBB\x0C\0\0\x03ann\0\0\0\0\0\0\x02\0\0\0\x01\0\0\0\x01\0\0\0\x02hi\x02\0\x01a\xFF\x03\x1B\0\x01\0\0\0\0\0\0\0\0\0\0\0\0\0\0\0\0\x03ann\0\0\0\0\0\0\x01\0\0\0\x01\0\0\0\0\0";
+
+/// A store of the file `a`, a docket of `ann` on it with activity 7, and a task with activity 7 that gets it.
+const OF_DOCKET: &[u8] =
+    b"FTAMJNL1\0\0\0\x02\0\0\0\0\0\0\0\0\0\0\0\0!\0\0\0\0\0\0\0!\x01\0\0\0\x87\0\0\0\x03\x02\0\x01a\xFF\x03\x19\0\0\0\0\0\0\0\0\0\0\0\0\0\0\0\0\0\0\x03ann\0\0\0\0\0\0\x01\0\0\0\x01\0\0\0\0\x05\0\x03ann\0\0\0\x07\0\x01a\x01\x01\0\0\0\0\0\0\0\x01\0\0\0\0\0\0\0\0\x01\0\0\0\0\0\0\0\0\0\0\0\0\0\0\0\0\0\0\0\0\0\0\0\0\0\x09\0\0\0\x07\x01\x03\0\0\0@\0\x01a\0\x03ann\0\0\0\x01\0\0\0\0\0\0\0\0";
+
+/// The lines of that docket and that task.
+const DOCKET_LINE: &[u8] = b"docket\tann\t7\tidle\t1\t0\ta\n";
+
+const TASK_LINE: &[u8] = b"task\t7\tget\t1\t0\ta\n";
 
 /// What a call printed, its status, and its disk.
 #[derive(Drop)]
@@ -267,5 +276,71 @@ fn the_257th_user_is_a_bad_line(rt: HostRuntime) -> Result<(), Fail> {
     assert!(rt; ends_so(alloc, input.as_str(), 0, b"users 256\n")?);
     input.push_str("one more\n")?;
     assert!(rt; ends_so(alloc, input.as_str(), 11, b"bad line 257\n")?);
+    Ok(())
+}
+
+/// `dockets` on a disk, and the disk.
+fn told(alloc: Global, disk: MemoryDisk) -> Done {
+    let mut out = VecSink::new(alloc, Vec::new(alloc));
+    let (disk, status) = dockets(alloc, disk, &mut out);
+    Done { out, status, disk }
+}
+
+/// `drop` on a disk: of the docket of a user with activity 7, or of the task.
+fn dropped(alloc: Global, disk: MemoryDisk, user: Option<&[u8]>) -> Result<Done, Fail> {
+    let kept = match user {
+        Some(user) => KeptEntry::Docket {
+            identity: Name::of(alloc, user)?,
+            activity: 7,
+        },
+        None => KeptEntry::Task { activity: 7 },
+    };
+    let mut out = VecSink::new(alloc, Vec::new(alloc));
+    let (disk, status) = drop_kept(alloc, kept, disk, &mut out);
+    Ok(Done { out, status, disk })
+}
+
+/// Whether it is dropped, and these lines are left; gives the disk.
+fn leaves_lines(
+    alloc: Global,
+    disk: MemoryDisk,
+    user: Option<&[u8]>,
+    left: &[u8],
+) -> Result<(bool, MemoryDisk), Fail> {
+    let drops = dropped(alloc, disk, user)?;
+    let is_dropped = drops.ends(0, b"dropped\n");
+    let Done { disk, .. } = drops;
+    let told = told(alloc, disk);
+    let is_left = told.ends(0, left);
+    let Done { disk, .. } = told;
+    Ok((is_dropped && is_left, disk))
+}
+
+#[test]
+fn dockets_prints_dockets_and_tasks(rt: HostRuntime) -> Result<(), Fail> {
+    let alloc = rt.alloc();
+    let told_all = told(alloc, on(alloc, OF_DOCKET)?);
+    assert!(rt; told_all.ends(0, &[DOCKET_LINE, TASK_LINE].concat(alloc)?));
+    assert!(rt; told_all.leaves(OF_DOCKET));
+    assert!(rt; told(alloc, on(alloc, b"")?).ends(8, b"not a store 0\n"));
+    Ok(())
+}
+
+#[test]
+fn drop_takes_a_docket_or_a_task_away(rt: HostRuntime) -> Result<(), Fail> {
+    let alloc = rt.alloc();
+    let (is_left, disk) = leaves_lines(alloc, on(alloc, OF_DOCKET)?, Some(b"ann"), TASK_LINE)?;
+    assert!(rt; is_left);
+    let (is_left, _disk) = leaves_lines(alloc, disk, None, b"")?;
+    assert!(rt; is_left);
+    Ok(())
+}
+
+#[test]
+fn drop_of_what_is_not_there(rt: HostRuntime) -> Result<(), Fail> {
+    let alloc = rt.alloc();
+    let done = dropped(alloc, on(alloc, OF_DOCKET)?, Some(b"bob"))?;
+    assert!(rt; done.ends(1, b"refused 27\n") && done.leaves(OF_DOCKET));
+    assert!(rt; dropped(alloc, on(alloc, b"FTAM")?, None)?.ends(8, b"not a store 4\n"));
     Ok(())
 }

@@ -7,3 +7,5 @@ mod Kept
 mod NewStores
 mod Faults
 mod Empty
+mod Drops
+mod Opened

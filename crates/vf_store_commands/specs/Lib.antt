@@ -3,3 +3,5 @@ pub mod UserLines
 pub mod Reading
 pub mod Making
 pub mod Listing
+pub mod Dockets
+pub mod Dropping

@@ -13,7 +13,7 @@ use vf_attr::File;
 use vf_base::{NoMemory, Oid};
 
 /// The lines of files, in the order of their names.
-pub(crate) fn text_of(alloc: Global, files: &[File]) -> Result<Vec<u8>, NoMemory>
+pub fn text_of_files(alloc: Global, files: &[File]) -> Result<Vec<u8>, NoMemory>
     ensures { IfOk result (λ text. (sorted : List FileMeant) × IsInOrder files.now sorted × (text.items ≡ file_lines sorted)) }
 {
     let sorted = in_order(alloc, files)?;
@@ -58,7 +58,7 @@ fn append_line(alloc: Global, file: &File, text: &mut Vec<u8>) -> Result<(), NoM
 }
 
 /// The size in octets and the version, between tabs.
-fn numbers(alloc: Global, size: u64, version: u32) -> Result<String, NoMemory>
+pub(crate) fn numbers(alloc: Global, size: u64, version: u32) -> Result<String, NoMemory>
     ensures { IfOk result (λ text. string_bytes text ≡ numbers_between size version) }
 {
     let text = format!(in alloc; "\t{size}\t{version}\t")?;

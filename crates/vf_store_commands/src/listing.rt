@@ -9,7 +9,7 @@ ghost use Rattle.vf_cli_printing.specs.Printed.{IsOneOf};
 ghost use Rattle.vf_tables.specs.declared.tables.Tables.{Tables as TablesMeant};
 
 use crate::error_lines::print_error;
-use crate::file_lines::text_of;
+use crate::file_lines::text_of_files;
 use crate::limits::STORE_LIMIT;
 use std::alloc::Global;
 use vf_attr::File;
@@ -50,7 +50,7 @@ fn print_files<O: Sink>(alloc: Global, files: &[File], out: &mut O) -> u8
     ensures ends { IsOneOf (0 ∷ 4 ∷ 9 ∷ []) result }
     ensures cause { result ≡ 4 → HasRisen (O.fault_count out.old) (O.fault_count out.new) }
 {
-    let Ok(text) = text_of(alloc, files) else {
+    let Ok(text) = text_of_files(alloc, files) else {
         return NO_MEMORY;
     };
     print(out, text.as_slice(), 0)

@@ -3,7 +3,7 @@ use Rattle.std.proofs.lemmas.List.{take_all}
 use Rattle.vf_attr.specs.declared.file.File.{File}
 use Rattle.vf_store_commands.specs.Listing.{IsInOrder, file_line, file_lines}
 use Rattle.vf_store_commands.proofs.Ordered.{behind, lines_more}
-use Rattle.vf_store_commands.proofs.file_lines.text_of.Goals as goal
+use Rattle.vf_store_commands.proofs.file_lines.text_of_files.Goals as goal
 
 pub loop-file-preserved : goal.loop-file-preserved
 loop-file-preserved c =
