@@ -22,7 +22,8 @@ BETWEEN_CHECKS = 8  # elements of a read
 
 def kind(name, fields=""):
     """A class of values that don't change. Each field has its form after a colon, for whoever writes it."""
-    return dataclasses.make_dataclass(name, [each.split(":") for each in fields.split()], frozen=True)
+    same = {"__deepcopy__": lambda value, memo: value}
+    return dataclasses.make_dataclass(name, [each.split(":") for each in fields.split()], frozen=True, namespace=same)
 
 
 # Data elements, and what fields hold
