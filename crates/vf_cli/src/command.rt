@@ -10,6 +10,12 @@ pub enum Command {
     InitStore,
     /// `list`: the files of a store.
     ListFiles,
+    /// `dockets`: the dockets and tasks of a store.
+    ListDockets,
+    /// `drop`: a docket or a task of a store is dropped.
+    DropKept,
+    /// `replay`: a script of incarnations over a disk in memory.
+    Replay,
     /// `serve`: the associations that come to a port, over a store.
     Serve,
 }

@@ -17,14 +17,15 @@ ghost use Rattle.vf_cli.specs.Ftam.{MeetsCommand, statuses_of, usage as usage_pr
 ghost use Rattle.vf_cli.specs.Words.{command_of};
 
 use crate::command::Command;
-use crate::words::parse;
+use crate::words::{kept_in, parse};
 use std::alloc::Global;
 use vf_base::{Links, Sink, Source};
 use vf_cli_dialogue::dialogue;
-use vf_cli_printing::{USAGE, print};
+use vf_cli_printing::{NO_MEMORY, USAGE, print};
+use vf_cli_replay::replay;
 use vf_cli_serve::serve;
 use vf_disk::Disk;
-use vf_store_commands::{init, list};
+use vf_store_commands::{dockets, drop_kept, init, list};
 
 /// Runs the command that the words ask for; answers its disk, and its status.
 ///
@@ -74,11 +75,31 @@ pub fn ftam<L: Links, D: Disk, I: Source, O: Sink>(
         }
         Some(Command::InitStore) => init(alloc, disk, input, out),
         Some(Command::ListFiles) => list(alloc, disk, out),
+        Some(Command::ListDockets) => dockets(alloc, disk, out),
+        Some(Command::DropKept) => drop_named(alloc, words, disk, out),
+        Some(Command::Replay) => {
+            let status = replay(alloc, input, out);
+            (disk, status)
+        }
         Some(Command::Serve) => serve(alloc, links, disk, out),
         None => {
             let status = usage(out);
             (disk, status)
         }
+    }
+}
+
+/// Drops what the words name.
+fn drop_named<D: Disk, O: Sink>(
+    alloc: Global,
+    words: &Vec<String>,
+    disk: D,
+    out: &mut O,
+) -> (D, u8) {
+    match kept_in(alloc, words) {
+        Ok(Some(kept)) => drop_kept(alloc, kept, disk, out),
+        Ok(None) => (disk, USAGE),
+        Err(_) => (disk, NO_MEMORY),
     }
 }
 

@@ -7,7 +7,8 @@ ghost use Rattle.vf_cli.specs.Given.{first_of, given_of};
 
 use crate::command::{Command, Wanted};
 use std::alloc::Global;
-use vf_base::{NoMemory, Octets};
+use vf_base::{Name, NoMemory, Octets};
+use vf_store_commands::KeptEntry;
 
 /// Why words ask for no command.
 #[derive(Clone, Copy, Debug, PartialEq, Eq)]
@@ -27,6 +28,8 @@ struct Options<'a> {
     store: Option<&'a [u8]>,
     port: Option<&'a [u8]>,
     idle: Option<&'a [u8]>,
+    activity: Option<&'a [u8]>,
+    user: Option<&'a [u8]>,
 }
 
 /// The option with which words begin, and the words after it.
@@ -95,6 +98,15 @@ fn command_with(name: &str, options: Options<'_>) -> Option<Command>
     if name == "list" && has_store_alone(options) {
         return Some(Command::ListFiles);
     }
+    if name == "dockets" && has_store_alone(options) {
+        return Some(Command::ListDockets);
+    }
+    if name == "drop" && has_kept(options) {
+        return Some(Command::DropKept);
+    }
+    if name == "replay" && has_none(options) {
+        return Some(Command::Replay);
+    }
     if name == "serve" && has_place_to_serve(options) {
         return Some(Command::Serve);
     }
@@ -105,21 +117,69 @@ fn command_with(name: &str, options: Options<'_>) -> Option<Command>
 fn has_none(options: Options<'_>) -> bool
     ensures { result ≡ none_test (given_of options.entry) }
 {
-    options.store.is_none() && options.port.is_none() && options.idle.is_none()
+    options.store.is_none()
+        && options.port.is_none()
+        && options.idle.is_none()
+        && keeps_none(options)
+}
+
+fn keeps_none(options: Options<'_>) -> bool {
+    options.activity.is_none() && options.user.is_none()
+}
+
+/// The command `drop` has a store and an activity. The user of a docket may be left out.
+fn has_kept(options: Options<'_>) -> bool {
+    options.store.is_some()
+        && options.port.is_none()
+        && options.idle.is_none()
+        && activity_in(options.activity).is_some()
+}
+
+fn activity_in(value: Option<&[u8]>) -> Option<u32> {
+    match number_in(value?, 2_147_483_647) {
+        Some(activity) => Some(activity as u32),
+        None => None,
+    }
+}
+
+/// What the words name to be dropped: a docket of a user, or a task.
+pub(crate) fn kept_in(alloc: Global, words: &Vec<String>) -> Result<Option<KeptEntry>, NoMemory> {
+    let [_, options @ ..] = words.as_slice() else {
+        return Ok(None);
+    };
+    let Some(options) = options_in(options) else {
+        return Ok(None);
+    };
+    let Some(activity) = activity_in(options.activity) else {
+        return Ok(None);
+    };
+    let Some(user) = options.user else {
+        return Ok(Some(KeptEntry::Task { activity }));
+    };
+    let Ok(identity) = Name::of(alloc, user) else {
+        return Err(NoMemory);
+    };
+    Ok(Some(KeptEntry::Docket { identity, activity }))
 }
 
 /// The path of a store is the one option.
 fn has_store_alone(options: Options<'_>) -> bool
     ensures { result ≡ store_test (given_of options.entry) }
 {
-    options.store.is_some() && options.port.is_none() && options.idle.is_none()
+    options.store.is_some()
+        && options.port.is_none()
+        && options.idle.is_none()
+        && keeps_none(options)
 }
 
 /// The command `serve` has a store and a port. How long it waits may be left out.
 fn has_place_to_serve(options: Options<'_>) -> bool
     ensures { result ≡ place_test (given_of options.entry) }
 {
-    options.store.is_some() && port_in(options.port).is_some() && idle_in(options.idle).is_some()
+    options.store.is_some()
+        && port_in(options.port).is_some()
+        && idle_in(options.idle).is_some()
+        && keeps_none(options)
 }
 
 fn port_in(value: Option<&[u8]>) -> Option<u16>
@@ -142,7 +202,7 @@ fn idle_in(value: Option<&[u8]>) -> Option<u64>
 
 /// The number from 1 to this one whose decimal digits, without leading zeros, these are.
 fn number_in(digits: &[u8], most: u64) -> Option<u64>
-    requires { most ≤ 1000000000 }
+    requires { most ≤ 4294967295 }
     ensures value { result ≡ number_meant digits.now most }
     ensures bound { IfSome result (λ number. number ≤ most) }
 {
@@ -187,6 +247,8 @@ fn options_in(words: &[String]) -> Option<Options<'_>>
         store: None,
         port: None,
         idle: None,
+        activity: None,
+        user: None,
     };
     let mut rest = words;
     while let [word, later @ ..] = rest {
@@ -241,6 +303,18 @@ fn with_option<'a>(options: Options<'a>, name: &[u8], value: &'a [u8]) -> Option
     if name == b"--port".as_slice() && options.port.is_none() {
         return Some(Options {
             port: Some(value),
+            ..options
+        });
+    }
+    if name == b"--activity".as_slice() && options.activity.is_none() {
+        return Some(Options {
+            activity: Some(value),
+            ..options
+        });
+    }
+    if name == b"--user".as_slice() && options.user.is_none() {
+        return Some(Options {
+            user: Some(value),
             ..options
         });
     }
