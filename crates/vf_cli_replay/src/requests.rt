@@ -1,4 +1,7 @@
 //! What the calling end of a link sends to say a message.
+ghost use Rattle.std.specs.Prelude.{◌≡◌, IfOk};
+ghost use Rattle.vf_cli_replay.specs.Calling.{Calling, pdu_request, request_of as request_meant, restart_of};
+
 use crate::base::Base;
 use std::alloc::Global;
 use vf_base::NoMemory;
@@ -13,7 +16,9 @@ pub(crate) fn request_of(
     sync: bool,
     base: Base,
     message: &Message,
-) -> Result<Option<Request>, NoMemory> {
+) -> Result<Option<Request>, NoMemory>
+    ensures { IfOk result (λ request. (caller : Calling) → caller.sync ≡ sync → caller.base ≡ base → request ≡ request_meant caller message.now) }
+{
     match message {
         Message::Pdu(pdu) => request_of_pdu(alloc, sync, base, pdu),
         Message::Element(element) => {
@@ -29,7 +34,9 @@ fn request_of_pdu(
     sync: bool,
     base: Base,
     pdu: &Pdu,
-) -> Result<Option<Request>, NoMemory> {
+) -> Result<Option<Request>, NoMemory>
+    ensures { IfOk result (λ request. (caller : Calling) → caller.sync ≡ sync → caller.base ≡ base → request ≡ pdu_request caller pdu.now) }
+{
     let copy = pdu.copy(alloc)?;
     let copy = Boxed::new(alloc, copy)?;
     match pdu {
