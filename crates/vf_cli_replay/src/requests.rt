@@ -1,5 +1,8 @@
 //! What the calling end of a link sends to say a message.
-ghost use Rattle.std.specs.Prelude.{◌≡◌, IfOk};
+ghost use Rattle.std.specs.Option.{option_map};
+ghost use Rattle.std.specs.Prelude.{◌≡◌, IfOk, Some, if◌then◌else◌};
+ghost use Rattle.vf_stack.specs.declared.indication.Item.TheVariants as items;
+ghost use Rattle.vf_stack.specs.declared.request.Request.TheVariants as requests;
 ghost use Rattle.vf_cli_replay.specs.Calling.{Calling, pdu_request, request_of as request_meant, restart_of};
 
 use crate::base::Base;
@@ -51,7 +54,9 @@ fn request_of_pdu(
 }
 
 /// F-RESTART: a resynchronization with sync, data without it.
-fn restart(sync: bool, serial: Option<u32>, pdu: Boxed<Pdu>) -> Option<Request> {
+fn restart(sync: bool, serial: Option<u32>, pdu: Boxed<Pdu>) -> Option<Request>
+    ensures { result ≡ (if sync then option_map (λ serial. requests.Restart serial pdu) serial else Some (requests.Item (items.Pdu pdu))) }
+{
     if !sync {
         return Some(Request::Item(Item::Pdu(pdu)));
     }
