@@ -9,6 +9,12 @@ use vf_base::{Failed, LinkEvent, NoMemory};
 /// So many octets are read from a stream at once.
 const MOST_OCTETS: usize = 65_536;
 
+/// A stream that was ended is closed after so many rounds in which nothing came on it.
+const MOST_QUIET: u32 = 1_000;
+
+/// So many streams that were ended are kept; one more is closed at once.
+const MOST_ENDED: usize = 64;
+
 /// A stream with the number of its link.
 #[derive(Drop)]
 struct Stream {
@@ -16,14 +22,43 @@ struct Stream {
     socket: TcpStream,
 }
 
+/// A stream that was ended, on which nothing more is sent, and in how many rounds in a row nothing came.
+#[derive(Drop)]
+struct Ended {
+    socket: TcpStream,
+    quiet: u32,
+}
+
+impl Ended {
+    /// Reads what has come, which is passed over. False where the stream is to be closed.
+    fn goes_on(&mut self, into: &mut [u8]) -> bool {
+        match hear(&mut self.socket, into) {
+            Heard::Octets(_) => {
+                self.quiet = 0;
+                true
+            }
+            Heard::Nothing => {
+                self.quiet = self.quiet.saturating_add(1);
+                self.quiet < MOST_QUIET
+            }
+            Heard::End => false,
+        }
+    }
+}
+
 /// A port, and the streams that came to it, which are visited in rounds, each once. A round in which nothing came is idle, and
 /// sleeps for a millisecond.
+///
+/// A stream that is shut is closed once its peer has ended it too, or has been quiet for long: one that is closed over octets
+/// that weren't read may take what was sent last away from the peer.
 #[derive(Drop)]
 pub(crate) struct Rounds {
     rt: HostRuntime,
     listener: Option<TcpListener>,
     /// In the order of their numbers.
     streams: Vec<Stream>,
+    /// In the order in which they were ended.
+    ended: Vec<Ended>,
     /// What is read from a stream first comes here.
     buffer: Vec<u8>,
     /// Whether the port was visited in this round.
@@ -45,6 +80,7 @@ impl Rounds {
             rt: *rt,
             listener,
             streams: Vec::new(rt.alloc()),
+            ended: Vec::new(rt.alloc()),
             buffer: Vec::new(rt.alloc()),
             listened: false,
             place: 0,
@@ -135,8 +171,24 @@ impl Rounds {
         Ok(None)
     }
 
+    /// Visits each stream that was ended.
+    fn pass_over(&mut self) {
+        let mut place: usize = 0;
+        for _ in 0..self.ended.len() {
+            let Some(ended) = self.ended.get_mut(place) else {
+                return;
+            };
+            if ended.goes_on(self.buffer.as_mut_slice()) {
+                place = place.saturating_add(1);
+            } else {
+                let _closed = self.ended.remove(place);
+            }
+        }
+    }
+
     /// Ends a round.
     fn end_round(&mut self) {
+        self.pass_over();
         if self.quiet {
             self.idle = self.idle.saturating_add(1);
             sleep(&self.rt);
@@ -189,8 +241,12 @@ impl Rounds {
 
     /// Ends the stream of a link, if it stands.
     pub(crate) fn shut(&mut self, link: u32) {
-        if let Some(stream) = self.take(link) {
-            end(stream.socket, self.buffer.as_mut_slice());
+        let Some(Stream { socket, .. }) = self.take(link) else {
+            return;
+        };
+        end(&socket);
+        if self.ended.len() < MOST_ENDED {
+            let _kept = self.ended.push(Ended { socket, quiet: 0 });
         }
     }
 

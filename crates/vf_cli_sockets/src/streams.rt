@@ -89,12 +89,9 @@ fn send_some(rt: &HostRuntime, stream: &mut TcpStream, octets: &[u8]) -> Result<
     Err(Failed)
 }
 
-/// Ends a stream. What the peer has sent already is read before, since a stream that is closed over octets that weren't read
-/// may take what was sent last away from the peer.
-pub(crate) fn end(stream: TcpStream, into: &mut [u8]) {
-    let mut stream = stream;
+/// Tells the peer of a stream that nothing more is sent.
+pub(crate) fn end(stream: &TcpStream) {
     let _ = stream.shutdown(Shutdown::Write);
-    let _ = stream.read(into);
 }
 
 /// Sleeps for a millisecond.

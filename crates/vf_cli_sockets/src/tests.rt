@@ -31,19 +31,35 @@ fn streams_are_links(rt: HostRuntime) -> anyhow::Result<()> {
     peer.read_to_end(&mut heard)?;
     assert_eq!(rt; heard.as_slice(), b"cd".as_slice());
 
-    // A second stream has the next number; its end is told; then nothing comes, and the links are through.
-    drop(TcpStream::connect(&rt, ("127.0.0.1", port))?);
+    // A link that is shut over octets that weren't read still takes what was sent on it.
+    let mut peer = TcpStream::connect(&rt, ("127.0.0.1", port))?;
+    peer.write_all(vec![in alloc; 7_u8; 300_000]?.as_slice())?;
     assert_eq!(rt;
         links.next(alloc, &mut piece),
         Ok(LinkEvent::Arrived { link: 2 })
     );
+    let came = links.next(alloc, &mut piece);
+    assert!(rt; matches!(came, Ok(LinkEvent::Octets { link: 2, .. })));
+    assert_eq!(rt; links.send(2, b"cd"), Ok(()));
+    links.shut(2);
+
+    // Another stream has the next number; its end is told; then nothing comes, and the links are through.
+    drop(TcpStream::connect(&rt, ("127.0.0.1", port))?);
     assert_eq!(rt;
         links.next(alloc, &mut piece),
-        Ok(LinkEvent::Ended { link: 2 })
+        Ok(LinkEvent::Arrived { link: 3 })
+    );
+    assert_eq!(rt;
+        links.next(alloc, &mut piece),
+        Ok(LinkEvent::Ended { link: 3 })
     );
     assert_eq!(rt; links.next(alloc, &mut piece), Ok(LinkEvent::Done));
     assert_eq!(rt; piece.len(), 0);
     assert_eq!(rt; links.faults(), 0);
+    drop(links);
+    let mut heard = Vec::new(alloc);
+    peer.read_to_end(&mut heard)?;
+    assert_eq!(rt; heard.as_slice(), b"cd".as_slice());
 
     // Over no port each call fails.
     let mut none = SocketLinks::none(&rt);
