@@ -4,6 +4,7 @@ A message has the fields of its PDU in the order of their tags, so that the tabl
 elements (ISO 8571-2) are written and read here. Names are texts, of which each character is an octet.
 """
 
+import datetime
 import importlib.machinery
 import importlib.util
 import os
@@ -45,13 +46,18 @@ WORDS = {
     "operation": {"Insert": 1, "Replace": 2, "Extend": 3},
 }
 DESCRIPTOR = pdus.row((0, pdus.Text(), pdus.OPTIONAL), (1, pdus.Bool(), True))
-MOMENT = b"19700101000000Z"  # every message comes at moment 0
+MOMENT = b"19700101000000Z"  # the first one, 0
 KIND = (1, 0, 8571, 5)  # the document types, after which their number stands
 OF_FIELDS = {id(pdus.D.fields): Diagnostic, id(pdus.K.fields): Contents, id(pdus.T.fields): Term,
              id(pdus.G.fields): Grant, id(pdus.S.fields): Stamp, id(pdus.A.fields): Attributes}
 
 
 # From messages to values
+
+def date_of(moment):
+    """The text of a moment, in seconds since the beginning of 1970."""
+    return f"{datetime.datetime(1970, 1, 1) + datetime.timedelta(seconds=moment):%Y%m%d%H%M%S}Z".encode()
+
 
 def content_of(form, value, name):
     """What bench/pdus holds for a field of a message."""
@@ -62,8 +68,7 @@ def content_of(form, value, name):
     if isinstance(form, pdus.Controls):
         return bytes(value)
     if isinstance(form, pdus.Date):
-        assert value == 0 or isinstance(value, bytes), value
-        return value or MOMENT
+        return value if isinstance(value, bytes) else date_of(value)
     if isinstance(form, pdus.Oid):
         return value if isinstance(value, tuple) else KIND + (value,)
     if isinstance(form, pdus.Seq):

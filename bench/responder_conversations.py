@@ -1,0 +1,631 @@
+"""Worked conversations of peers with a responder, for bench/responders.
+
+One has a line for each thing that happens, and under it, after `=`, what peers are told:
+
+    1 arrive          a link, whose peer connects; `arrive sync` where it proposes sync in its association
+    1 listen          a link whose peer sends nothing by itself
+    1 A603800161      the peer sends a PDU or a data element, in its own carriage
+    1 check           it sends a check; `ack 2` acknowledges a number, `restart 2 BF2700` restarts at one, `pass` passes the token
+    1 raw 0300        it sends octets
+    1 tsdu 0100       it sends a TSDU
+    1 value 3 A000    it sends P-DATA with a value in a context, here 3
+    1 end             the link ends
+    user ann 7077     before all else, a user of the filestore, and the octets of a password
+    stop 5            the fifth write or sync of the disk fails, which count from the opening on, and all later ones
+    life lose         the responder stops, and is opened on what `lose`, `keep` or `fill` leaves of its disk
+    = 1 A10381010F    a peer is told a PDU or an element; `check 1`, `ack 1`; `bare` is an abort without a PDU
+    = 1 shut          the link is shut
+
+What peers are told was written by hand, by the rules of the profile.
+"""
+
+CONVERSATIONS = {
+    "unknown": """
+        1 arrive
+        1 A00380010F
+        = 1 A10381010F
+        1 A603800161
+        = 1 A705A00380010B
+        1 AA0C810161A207800528C27B0503
+        = 1 AB00
+        1 A800
+        = 1 A900
+        1 A603800161
+        = 1 A700
+        1 A800
+        = 1 A900
+        1 A200
+        = 1 A300
+        = 1 shut
+    """,
+    # what the stage doesn't take; a TSDU without anything, before the association is accepted
+    "aborted": """
+        1 arrive
+        1 A00380010F
+        = 1 A10381010F
+        1 B400
+        = 1 A503800166
+        = 1 shut
+        2 arrive
+        2 raw 0300000702F080
+        = 2 bare
+        = 2 shut
+    """,
+    "ended": """
+        1 arrive
+        1 A00380010F
+        = 1 A10381010F
+        1 A403800107
+        = 1 shut
+        2 arrive
+        2 A00380010F
+        = 2 A10381010F
+        2 end
+    """,
+    # a group that creates and opens, with threshold 2; a write of three strings
+    "session": """
+        1 arrive
+        1 A00380012F
+        = 1 A10381012F
+        1 B603800102
+        1 AA0F810161A207800528C27B0503850105
+        1 B203800105
+        1 B800
+        = 1 B700
+        = 1 AB00
+        = 1 B309A107800528C27B0503
+        = 1 B900
+        1 BF2103800102
+        1 04026869
+        1 04026A6B
+        1 04016C
+        1 BF2200
+        1 BF2300
+        = 1 BF2400
+        1 B400
+        = 1 B500
+        1 A800
+        = 1 A900
+        1 A200
+        = 1 A300
+        = 1 shut
+    """,
+    # links 1 and 2 read a file, and link 3, which would exclude them from reading, opens it once they have closed it
+    "shared": """
+        1 arrive
+        1 A00380010F
+        = 1 A10381010F
+        1 AA0F810161A207800528C27B0503850101
+        = 1 AB00
+        1 B203800101
+        = 1 B309A107800528C27B0503
+        2 arrive
+        2 A00380010F
+        = 2 A10381010F
+        2 A606800161810101
+        = 2 A700
+        2 B203800101
+        = 2 B309A107800528C27B0503
+        3 arrive
+        3 A00380010F
+        = 3 A10381010F
+        3 A606800161810104
+        = 3 A700
+        3 B20A80010482050300020000
+        = 3 B308A006800110820101
+        1 B400
+        = 1 B500
+        3 B20A80010482050300020000
+        = 3 B308A006800110820102
+        2 B400
+        = 2 B500
+        3 B20A80010482050300020000
+        = 3 B309A107800528C27B0503
+    """,
+    # the association that stands is told 106 first, also where the recovery is then refused; then a write goes on
+    "recovered": """
+        1 arrive sync
+        1 A007800200CF830104
+        = 1 A107810200CF820104
+        1 AA0F810161A207800528C27B0503850105
+        = 1 AB00
+        1 B206800105830107
+        = 1 B309A107800528C27B0503
+        1 BF2103800102
+        1 04026869
+        1 check
+        = 1 ack 1
+        1 04026A6B
+        2 arrive sync
+        2 A007800200CF830104
+        = 2 A107810200CF820104
+        2 BA09800107810103820100
+        = 1 A50380016A
+        = 1 shut
+        = 2 BB05A00380011D
+        2 BA09800107810101820101
+        = 2 BB098101018201018301FF
+        2 04026A6B
+        2 BF2200
+        2 BF2300
+        = 2 BF2400
+        2 B400
+        = 2 B500
+    """,
+    # a break leaves the controls of a recoverable open with its docket: no other may write; recovered and closed they go
+    "docket": """
+        1 arrive sync
+        1 A007800200CF830104
+        = 1 A107810200CF820104
+        1 AA0F810161A207800528C27B0503850105
+        = 1 AB00
+        1 B20D80010582050100020000830107
+        = 1 B309A107800528C27B0503
+        2 arrive
+        2 A00380010F
+        = 2 A10381010F
+        2 A606800161810104
+        = 2 A700
+        2 B203800104
+        = 2 B30BA009800110810102820101
+        1 end
+        2 B203800104
+        = 2 B30BA0098001108101028201F9
+        1 arrive
+        3 arrive sync
+        3 A007800200CF830104
+        = 3 A107810200CF820104
+        3 BA06800107810101
+        = 3 BB03810101
+        2 B203800104
+        = 2 B30BA009800110810102820103
+        3 B400
+        = 3 B500
+        2 B203800104
+        = 2 B309A107800528C27B0503
+    """,
+    # a break lets the file of an open that can't be recovered go
+    "released": """
+        1 arrive
+        1 A00380010F
+        = 1 A10381010F
+        1 AA0F810161A207800528C27B0503850105
+        = 1 AB00
+        1 B20A80010582050100020000
+        = 1 B309A107800528C27B0503
+        2 arrive
+        2 A00380010F
+        = 2 A10381010F
+        2 A606800161810104
+        = 2 A700
+        2 B203800104
+        = 2 B30BA009800110810102820101
+        1 end
+        2 B203800104
+        = 2 B309A107800528C27B0503
+    """,
+    # users: one with its password, one with another and one that is none are refused in the answer to the association
+    "users": """
+        user ann 7077
+        user bob
+        1 arrive
+        1 A00C80010F8103616E6E82027077
+        = 1 A10381010F
+        2 arrive sync
+        2 A00C80010F8103616E6E82027078
+        = 2 A105A003800124
+        = 2 shut
+        3 arrive
+        3 A00880010F8103626F62
+        = 3 A10381010F
+        4 arrive
+        4 A00380010F
+        = 4 A105A003800124
+        = 4 shut
+        1 A200
+        = 1 A300
+        = 1 shut
+    """,
+    # a read with checks, and a restart of it
+    "read": """
+        1 arrive sync
+        1 A007800200CF830102
+        = 1 A107810200CF820102
+        1 AA0F810161A207800528C27B0503850105
+        = 1 AB00
+        1 B203800105
+        = 1 B309A107800528C27B0503
+        1 BF2103800102
+        1 040100
+        1 040101
+        1 040102
+        1 040103
+        1 040104
+        1 040105
+        1 040106
+        1 040107
+        1 040108
+        1 BF2200
+        1 BF2300
+        = 1 BF2400
+        1 BF2000
+        = 1 040100
+        = 1 040101
+        = 1 040102
+        = 1 040103
+        = 1 040104
+        = 1 040105
+        = 1 040106
+        = 1 040107
+        = 1 check 1
+        = 1 040108
+        = 1 BF2200
+        1 ack 1
+        1 restart 2 BF2703800101
+        = 1 BF2803800101
+        = 1 040108
+        = 1 BF2200
+        1 BF2300
+        = 1 BF2400
+    """,
+    # a read that waits for the acknowledgement of its check, since one may be open, and an abandon of it
+    "window": """
+        1 arrive sync
+        1 A007800200CF830101
+        = 1 A104810200CF
+        1 AA0F810161A207800528C27B0503850105
+        = 1 AB00
+        1 B203800105
+        = 1 B309A107800528C27B0503
+        1 BF2103800102
+        1 040100
+        1 040101
+        1 040102
+        1 040103
+        1 040104
+        1 040105
+        1 040106
+        1 040107
+        1 040108
+        1 BF2200
+        1 BF2300
+        = 1 BF2400
+        1 BF2000
+        = 1 040100
+        = 1 040101
+        = 1 040102
+        = 1 040103
+        = 1 040104
+        = 1 040105
+        = 1 040106
+        = 1 040107
+        = 1 check 1
+        1 ack 1
+        = 1 040108
+        = 1 BF2200
+        1 BF2500
+        = 1 BF2600
+        1 B400
+        = 1 B500
+    """,
+    # a write with two checks, a restart at the first one, and other values behind it
+    "restarted": """
+        1 arrive sync
+        1 A007800200CF830104
+        = 1 A107810200CF820104
+        1 AA0F810161A207800528C27B0503850104
+        = 1 AB00
+        1 B203800104
+        = 1 B309A107800528C27B0503
+        1 BF2103800102
+        1 04027631
+        1 04027632
+        1 check
+        = 1 ack 1
+        1 04027633
+        1 04027634
+        1 check
+        = 1 ack 2
+        1 04027635
+        1 restart 2 BF2703800101
+        = 1 BF2803800101
+        1 04027733
+        1 BF2200
+        1 BF2300
+        = 1 BF2400
+        life lose
+    """,
+    # a write that is cancelled is performed up to its last check, and without one not at all
+    "cancelled": """
+        1 arrive sync
+        1 A007800200CF830104
+        = 1 A107810200CF820104
+        1 AA0F810161A207800528C27B0503850104
+        = 1 AB00
+        1 B203800104
+        = 1 B309A107800528C27B0503
+        1 BF2103800102
+        1 04027631
+        1 check
+        = 1 ack 1
+        1 04027632
+        1 BF2500
+        = 1 BF2600
+        1 BF2103800102
+        1 04027633
+        1 BF2500
+        = 1 BF2600
+        life lose
+    """,
+    # a read whose file another party has changed isn't taken up again: versions 2 and 3
+    "changed": """
+        1 arrive sync
+        1 A007800200CF830104
+        = 1 A107810200CF820104
+        1 AA0F810161A207800528C27B0503850105
+        = 1 AB00
+        1 B206800105830107
+        = 1 B309A107800528C27B0503
+        1 BF2103800102
+        1 04026869
+        1 BF2200
+        1 BF2300
+        = 1 BF2400
+        1 BF2000
+        = 1 04026869
+        = 1 BF2200
+        1 end
+        2 arrive
+        2 A00380010F
+        = 2 A10381010F
+        2 A606800161810104
+        = 2 A700
+        2 B203800104
+        = 2 B309A107800528C27B0503
+        2 BF2103800102
+        2 04027878
+        2 BF2200
+        2 BF2300
+        = 2 BF2400
+        3 arrive sync
+        3 A007800200CF830104
+        = 3 A107810200CF820104
+        3 pass
+        3 BA06800107810102
+        = 3 BB0BA009800122810102820103
+    """,
+}
+
+# A recoverable write, of which a check is acknowledged, up to its end.
+BEFORE = """
+    1 arrive sync
+    1 A007800200CF830104
+    = 1 A107810200CF820104
+    1 AA0F810161A207800528C27B0503850105
+    = 1 AB00
+    1 B206800105830107
+    = 1 B309A107800528C27B0503
+    1 BF2103800102
+    1 04026869
+    1 check
+    = 1 ack 1
+    1 04026A6B
+    1 BF2200
+"""
+# The recovery after it: where the commit of the end isn't there, the values after the check are sent again.
+LOST = """
+    1 arrive sync
+    1 A007800200CF830104
+    = 1 A107810200CF820104
+    1 BA09800107810101820101
+    = 1 BB098101018201018301FF
+    1 04026A6B
+    1 BF2200
+    1 BF2300
+    = 1 BF2400
+    1 B400
+    = 1 B500
+"""
+# Where it is, the transfer is concluded.
+STANDS = """
+    1 arrive sync
+    1 A007800200CF830104
+    = 1 A107810200CF820104
+    1 BA09800107810101820101
+    = 1 BB03810102
+    1 B400
+    = 1 B500
+"""
+
+# One that finds no file.
+OTHER = """
+    1 arrive
+    1 A00380010F
+    = 1 A10381010F
+    1 A60380017A
+    = 1 A705A00380010B
+    1 A60380017A
+    = 1 A705A00380010B
+    1 A200
+    = 1 A300
+    = 1 shut
+"""
+
+# What is at fault on a link, and how it is answered. Before the association is accepted an abort has no PDU, and a fault of
+# transport shuts the link without a word.
+HOSTILE = {
+    "another class": """
+        1 listen
+        1 raw 0300000B06E00000000140
+        = 1 shut
+    """,
+    "a length that no packet has": """
+        1 listen
+        1 raw 03000003
+        = 1 shut
+    """,
+    "another version": """
+        1 listen
+        1 raw 0400
+        = 1 shut
+    """,
+    "data before a connection": """
+        1 listen
+        1 raw 0300000702F080
+        = 1 shut
+    """,
+    "data without any and without the last mark": """
+        1 arrive
+        1 raw 0300000702F000
+        = 1 shut
+    """,
+    "the end of a connection, and octets after it": """
+        1 arrive
+        1 raw 0300000B068000010001000400
+        = 1 shut
+        1 raw 0300000B06E00000000100
+    """,
+    "a TPDU that reports an error": """
+        1 arrive
+        1 raw 0300000904700001000400
+        = 1 shut
+    """,
+    "a token before a session connection": """
+        1 arrive
+        1 raw 0300000902F0800100
+        = 1 bare
+        = 1 shut
+    """,
+    "data before a session connection": """
+        1 arrive
+        1 tsdu 01000100
+        = 1 bare
+        = 1 shut
+    """,
+    "what is no SPDU": """
+        1 arrive
+        1 tsdu 5500
+        = 1 bare
+        = 1 shut
+    """,
+    "a fault in what asks for an association": """
+        1 arrive
+        1 A0048002000F
+        = 1 bare
+        = 1 shut
+        2 arrive
+        2 A000
+        = 2 bare
+        = 2 shut
+    """,
+    "another PDU in what asks for an association": """
+        1 arrive
+        1 tsdu 0D00
+        = 1 bare
+        = 1 shut
+    """,
+    "a length that is none": """
+        1 arrive
+        1 A00380010F
+        = 1 A10381010F
+        1 value 3 A60380FF61
+        = 1 A503800165
+        = 1 shut
+    """,
+    "a value of more than 1,048,576 octets": """
+        1 arrive
+        1 A00380010F
+        = 1 A10381010F
+        1 tsdu 01000100618310000100
+        = 1 A503800165
+        = 1 shut
+    """,
+    "33 values, each in another": """
+        1 arrive
+        1 A00380010F
+        = 1 A10381010F
+        1 tsdu 010001006180308002010330803080308030803080308030803080308030803080308030803080308030803080308030803080308030803080308030803080308030803080
+        = 1 A503800165
+        = 1 shut
+    """,
+    "a field that isn't of its form, at its place": """
+        1 arrive
+        1 A00380010F
+        = 1 A10381010F
+        1 value 3 A606800161800162
+        = 1 A506800165810101
+        = 1 shut
+    """,
+    "a field outside its range, by its tag": """
+        1 arrive
+        1 A00380010F
+        = 1 A10381010F
+        1 value 3 A60780016181020100
+        = 1 A506800165810101
+        = 1 shut
+    """,
+    "a field that is missing": """
+        1 arrive
+        1 A00380010F
+        = 1 A10381010F
+        1 value 3 A603810101
+        = 1 A503800165
+        = 1 shut
+    """,
+    "what is no PDU": """
+        1 arrive
+        1 A00380010F
+        = 1 A10381010F
+        1 value 3 9F2900
+        = 1 A503800165
+        = 1 shut
+    """,
+    "a PDU in another carriage": """
+        1 arrive
+        1 A00380010F
+        = 1 A10381010F
+        1 value 3 A200
+        = 1 A503800165
+        = 1 shut
+    """,
+    "a context that isn't accepted": """
+        1 arrive
+        1 A00380010F
+        = 1 A10381010F
+        1 value 99 A603800161
+        = 1 A503800167
+        = 1 shut
+    """,
+    "a check where the session doesn't synchronize": """
+        1 arrive
+        1 A00380010F
+        = 1 A10381010F
+        1 tsdu 010031032A0131
+        = 1 A503800166
+        = 1 shut
+    """,
+    "a check of another number": """
+        1 arrive sync
+        1 A004800200CF
+        = 1 A104810200CF
+        1 tsdu 010031032A0135
+        = 1 A503800165
+        = 1 shut
+    """,
+    "what is no SPDU, on an association": """
+        1 arrive
+        1 A00380010F
+        = 1 A10381010F
+        1 tsdu 5500
+        = 1 A503800165
+        = 1 shut
+    """,
+    "a response": """
+        1 arrive
+        1 A00380010F
+        = 1 A10381010F
+        1 A700
+        = 1 A503800166
+        = 1 shut
+    """,
+}
