@@ -46,16 +46,14 @@ fn count_of(seed: &mut u64, len: usize) -> usize {
     }
 }
 
-/// An event comes. False where the responder doesn't go on.
-fn deliver<D: Disk>(
+/// Appends what an event is answered. False where the responder doesn't go on.
+fn put_told(
     alloc: Global,
-    responder: &mut Responder<D>,
-    event: Event<'_>,
+    answer: Result<(), RespondError>,
+    replies: &[Reply],
     out: &mut Vec<u8>,
 ) -> Result<bool, Fault> {
-    let mut replies = Vec::new(alloc);
-    let answer = responder.deliver(alloc, event, &mut replies);
-    put_replies(alloc, replies.as_slice(), out)?;
+    put_replies(alloc, replies, out)?;
     match answer {
         Ok(()) => Ok(true),
         Err(error) => {
@@ -63,6 +61,49 @@ fn deliver<D: Disk>(
             Ok(false)
         }
     }
+}
+
+fn arrive<D: Disk>(
+    alloc: Global,
+    responder: &mut Responder<D>,
+    link: u32,
+    out: &mut Vec<u8>,
+) -> Result<bool, Fault> {
+    let mut replies = Vec::new(alloc);
+    let answer = responder.deliver(alloc, Event::Arrived { link }, &mut replies);
+    put_told(alloc, answer, replies.as_slice(), out)
+}
+
+fn end<D: Disk>(
+    alloc: Global,
+    responder: &mut Responder<D>,
+    link: u32,
+    out: &mut Vec<u8>,
+) -> Result<bool, Fault> {
+    let mut replies = Vec::new(alloc);
+    let answer = responder.deliver(alloc, Event::Ended { link }, &mut replies);
+    put_told(alloc, answer, replies.as_slice(), out)
+}
+
+fn hear<D: Disk>(
+    alloc: Global,
+    responder: &mut Responder<D>,
+    link: u32,
+    moment: Moment,
+    octets: &[u8],
+    out: &mut Vec<u8>,
+) -> Result<bool, Fault> {
+    let mut replies = Vec::new(alloc);
+    let answer = responder.deliver(
+        alloc,
+        Event::Octets {
+            link,
+            moment,
+            octets,
+        },
+        &mut replies,
+    );
+    put_told(alloc, answer, replies.as_slice(), out)
 }
 
 /// Octets come on a link, cut by a seed.
@@ -82,12 +123,7 @@ fn deliver_octets<D: Disk>(
         }
         let count = count_of(seed, rest.len());
         let (piece, after) = rest.split_at(count.min(rest.len()));
-        let event = Event::Octets {
-            link,
-            moment,
-            octets: piece,
-        };
-        if !deliver(alloc, responder, event, out)? {
+        if !hear(alloc, responder, link, moment, piece, out)? {
             return Ok(false);
         }
         rest = after;
@@ -103,9 +139,7 @@ fn deliver_event<D: Disk>(
     out: &mut Vec<u8>,
 ) -> Result<bool, Fault> {
     match event {
-        ScriptEvent::Arrived { link } => {
-            deliver(alloc, responder, Event::Arrived { link: *link }, out)
-        }
+        ScriptEvent::Arrived { link } => arrive(alloc, responder, *link, out),
         ScriptEvent::Octets {
             link,
             moment,
@@ -119,7 +153,7 @@ fn deliver_event<D: Disk>(
             seed,
             out,
         ),
-        ScriptEvent::Ended { link } => deliver(alloc, responder, Event::Ended { link: *link }, out),
+        ScriptEvent::Ended { link } => end(alloc, responder, *link, out),
     }
 }
 

@@ -8,7 +8,7 @@ use bench_base::{Fault, input, put_number};
 use std::alloc::Global;
 use vf_base::Moment;
 use vf_disk::{Disk, FileDisk};
-use vf_responder::{Event, Responder};
+use vf_responder::{Event, Reply, Responder};
 use vf_store::Store;
 
 /// No record of these runs ends further on.
@@ -110,7 +110,7 @@ fn play<D: Disk>(
 ) -> Result<u64, Fault> {
     let mut said: u64 = 0;
     for link in 1..=streams.links {
-        said = said.saturating_add(deliver(alloc, responder, Event::Arrived { link })?);
+        arrive(alloc, responder, link)?;
         said = said.saturating_add(hear(alloc, responder, link, streams.each)?);
     }
     said = said.saturating_add(hear(alloc, responder, 1, streams.once)?);
@@ -118,6 +118,14 @@ fn play<D: Disk>(
         said = said.saturating_add(hear(alloc, responder, 1, streams.again)?);
     }
     Ok(said)
+}
+
+fn arrive<D: Disk>(alloc: Global, responder: &mut Responder<D>, link: u32) -> Result<(), Fault> {
+    let mut replies = Vec::new(alloc);
+    match responder.deliver(alloc, Event::Arrived { link }, &mut replies) {
+        Ok(()) => Ok(()),
+        Err(_) => Err(Fault::Line),
+    }
 }
 
 /// Octets come on a link.
@@ -131,29 +139,40 @@ fn hear<D: Disk>(
         return Err(Fault::Words);
     };
     let mut said: u64 = 0;
-    for octets in octets.chunks(PIECE) {
-        let event = Event::Octets {
-            link,
-            moment,
-            octets,
-        };
-        said = said.saturating_add(deliver(alloc, responder, event)?);
+    for piece in octets.chunks(PIECE) {
+        said = said.saturating_add(answered(alloc, responder, link, moment, piece)?);
     }
     Ok(said)
 }
 
-fn deliver<D: Disk>(
+/// A piece of them comes. Gives how many octets were said.
+fn answered<D: Disk>(
     alloc: Global,
     responder: &mut Responder<D>,
-    event: Event<'_>,
+    link: u32,
+    moment: Moment,
+    octets: &[u8],
 ) -> Result<u64, Fault> {
     let mut replies = Vec::new(alloc);
-    if responder.deliver(alloc, event, &mut replies).is_err() {
+    let answer = responder.deliver(
+        alloc,
+        Event::Octets {
+            link,
+            moment,
+            octets,
+        },
+        &mut replies,
+    );
+    if answer.is_err() {
         return Err(Fault::Line);
     }
+    Ok(said_in(replies.as_slice()))
+}
+
+fn said_in(replies: &[Reply]) -> u64 {
     let mut said: u64 = 0;
-    for reply in replies.as_slice() {
+    for reply in replies {
         said = said.saturating_add(reply.octets.len() as u64);
     }
-    Ok(said)
+    said
 }
