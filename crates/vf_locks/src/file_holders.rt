@@ -1,13 +1,14 @@
-ghost use Rattle.std.specs.Prelude.{◌≡◌, [], IfOk, IsOk, IsSome, OnOk, OnErr, Ok, Err, None, option_copied};
+ghost use Rattle.std.specs.Prelude.{◌≡◌, ◌↔◌, [], IfErr, IfOk, IsOk, IsSome, OnOk, OnErr, Ok, Err, None, Some, option_copied};
 ghost use Rattle.std.specs.Option.{option_map};
 ghost use Rattle.vf_locks.specs.Clash.{conflict};
 ghost use Rattle.vf_locks.specs.Counts.{numbers_of};
 ghost use Rattle.vf_locks.specs.Holders.{IsOrdered, controls_of, granted, in_order, others, passed};
 ghost use Rattle.vf_locks.specs.Place.{place_of};
+ghost use Rattle.vf_locks.specs.Table.{IsCause};
 
 use crate::counts::show_clash;
 use crate::search::{first_against, search};
-use crate::{Held, HeldCounts, Holder};
+use crate::{Conflict, GrantError, Held, HeldCounts, Holder};
 use std::alloc::Global;
 use std::marker::Model;
 use vf_base::{Action, Controls, NoMemory};
@@ -79,13 +80,43 @@ impl FileHolders {
         }
     }
 
-    /// The controls in the place of the holder's own, or beside those of the others; without memory nothing changes.
+    /// Whether no other holder stands against what this one wants; memory is taken only to name one that does.
+    pub fn allows(
+        &self,
+        alloc: Global,
+        holder: &Holder,
+        wanted: &Controls,
+    ) -> Result<(), GrantError>
+        ensures allowed { IsOk result ↔ (conflict holder.now wanted.now self.now ≡ None) }
+        ensures refused { IfErr result (IsCause (conflict holder.now wanted.now self.now)) }
+    {
+        match self.first_against(holder, wanted) {
+            Some((against, action)) => Err(clash(alloc, against, action)),
+            None => Ok(()),
+        }
+    }
+
+    /// The controls in the place of the holder's own, or beside those of the others, unless one of these stands against
+    /// them. After a refusal nothing is changed.
     pub fn grant(
         &mut self,
         alloc: Global,
         holder: &Holder,
         wanted: &Controls,
-    ) -> Result<(), NoMemory>
+    ) -> Result<(), GrantError>
+        ensures allowed { IsOk result → conflict holder.now wanted.now self.old ≡ None }
+        ensures refused { IfErr result (IsCause (conflict holder.now wanted.now self.old)) }
+        ensures ok { OnOk result (self.new ≡ granted holder.now wanted.now self.old) }
+        ensures err { OnErr result (self.new ≡ self.old) }
+        ensures stands { conflict holder.now wanted.now self.old ≡ None → IsSome (controls_of holder.now self.old) → IsOk result }
+    {
+        self.allows(alloc, holder, wanted)?;
+        self.put(alloc, holder, wanted)?;
+        Ok(())
+    }
+
+    /// The controls in the place of the holder's own, or beside those of the others; without memory nothing changes.
+    pub fn put(&mut self, alloc: Global, holder: &Holder, wanted: &Controls) -> Result<(), NoMemory>
         ensures ok { OnOk result (self.new ≡ granted holder.now wanted.now self.old) }
         ensures err { OnErr result (self.new ≡ self.old) }
         ensures stands { IsSome (controls_of holder.now self.old) → IsOk result }
@@ -184,6 +215,16 @@ impl FileHolders {
         let held = self.standing.remove(place);
         self.counts.take(&held.controls);
     }
+}
+
+/// The clash on the action with the holder, where there is memory to name it.
+fn clash(alloc: Global, against: &Holder, action: Action) -> GrantError
+    ensures { IsCause (Some (record { holder = against.now; action = action })) result }
+{
+    let Ok(holder) = against.copy(alloc) else {
+        return GrantError::NoMemory;
+    };
+    GrantError::Clash(Conflict { holder, action })
 }
 
 fn copy_all(alloc: Global, standing: &[Held]) -> Result<Vec<Held>, NoMemory>

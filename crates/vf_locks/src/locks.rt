@@ -7,11 +7,14 @@ ghost use Rattle.vf_locks.specs.Table.{IsAsBefore, IsCause, IsWith, counts_of, h
 
 use crate::file_holders::FileHolders;
 use crate::search::first_other;
-use crate::{Conflict, GrantError, Held, HeldCounts, Holder};
+use crate::{GrantError, Held, HeldCounts, Holder};
 use indexmap::IndexMap;
 use std::alloc::Global;
 use std::marker::Model;
-use vf_base::{Action, Controls, Name, NoMemory};
+use vf_base::{Controls, Name, NoMemory};
+
+/// So many entries of files without holders are kept, so that their room serves the next holders.
+const MOST_EMPTY: usize = 16;
 
 /// The holders of all files with their controls.
 #[derive(Drop)]
@@ -57,11 +60,8 @@ impl Locks {
         ensures allowed { IsOk result ↔ (conflict holder.now wanted.now (held file.now self.now) ≡ None) }
         ensures refused { IfErr result (IsCause (conflict holder.now wanted.now (held file.now self.now))) }
     {
-        let Some(holders) = self.by_file.get(file) else {
-            return Ok(());
-        };
-        match holders.first_against(holder, wanted) {
-            Some((against, action)) => Err(clash(alloc, against, action)),
+        match self.by_file.get(file) {
+            Some(holders) => holders.allows(alloc, holder, wanted),
             None => Ok(()),
         }
     }
@@ -81,12 +81,11 @@ impl Locks {
         ensures err { OnErr result (IsAsBefore self.old self.new) }
         ensures stands { conflict holder.now wanted.now (held file.now self.old) ≡ None → IsSome (controls_of holder.now (held file.now self.old)) → IsOk result }
     {
-        if let Err(error) = self.allows(alloc, file, holder, wanted) {
-            return Err(error);
-        }
-        if self.put(alloc, file, holder, wanted).is_err() {
-            return Err(GrantError::NoMemory);
-        }
+        let Some(holders) = self.by_file.get_mut(file) else {
+            self.put_first(alloc, file, holder, wanted)?;
+            return Ok(());
+        };
+        holders.grant(alloc, holder, wanted)?;
         Ok(())
     }
 
@@ -97,7 +96,9 @@ impl Locks {
         if let Some(holders) = self.by_file.get_mut(file) {
             holders.release(holder);
         }
-        self.forget_empty(file);
+        if self.by_file.len() > MOST_EMPTY {
+            self.forget_empty(file);
+        }
     }
 
     /// The holder `to` stands on the file in the place of `from`, with its controls.
@@ -161,24 +162,6 @@ impl Locks {
         }
     }
 
-    fn put(
-        &mut self,
-        alloc: Global,
-        file: &Name,
-        holder: &Holder,
-        wanted: &Controls,
-    ) -> Result<(), NoMemory>
-        ensures ok { OnOk result (IsWith file.now (granted holder.now wanted.now (held file.now self.old)) self.old self.new) }
-        ensures err { OnErr result (IsAsBefore self.old self.new) }
-        ensures stands { IsSome (controls_of holder.now (held file.now self.old)) → IsOk result }
-    {
-        let Some(holders) = self.by_file.get_mut(file) else {
-            return self.put_first(alloc, file, holder, wanted);
-        };
-        holders.grant(alloc, holder, wanted)?;
-        Ok(())
-    }
-
     fn put_first(
         &mut self,
         alloc: Global,
@@ -190,7 +173,7 @@ impl Locks {
         ensures err { OnErr result (IsAsBefore self.old self.new) }
     {
         let mut holders = FileHolders::new(alloc);
-        holders.grant(alloc, holder, wanted)?;
+        holders.put(alloc, holder, wanted)?;
         let name = file.copy(alloc)?;
         self.by_file.insert(name, holders)?;
         Ok(())
@@ -216,14 +199,4 @@ fn take_out(by_file: &mut IndexMap<Name, FileHolders>, file: &Name)
     ensures { (other : List ℕ) → get (pointwise nat_eq) by_file.new other ≡ (if pointwise nat_eq file.now other then None else get (pointwise nat_eq) by_file.old other) }
 {
     let _ = by_file.swap_remove(file);
-}
-
-/// The clash on the action with the holder, where there is memory to name it.
-fn clash(alloc: Global, against: &Holder, action: Action) -> GrantError
-    ensures { IsCause (Some (record { holder = against.now; action = action })) result }
-{
-    let Ok(holder) = against.copy(alloc) else {
-        return GrantError::NoMemory;
-    };
-    GrantError::Clash(Conflict { holder, action })
 }

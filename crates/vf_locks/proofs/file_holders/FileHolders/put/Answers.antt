@@ -1,7 +1,7 @@
 use Rattle.std.proofs.Common.{◌≡◌, ◌∙◌, ap, sym, Err, is_some, true≢false}
 use Rattle.vf_locks.proofs.Ordered.{absent_at}
 use Rattle.vf_locks.specs.Place.{place_of}
-use Rattle.vf_locks.proofs.file_holders.FileHolders.grant.Goals as goal
+use Rattle.vf_locks.proofs.file_holders.FileHolders.put.Goals as goal
 
 pub returns-in_err-insert-in-Err-clause-stands : goal.returns-in_err-insert-in-Err-clause-stands
 returns-in_err-insert-in-Err-clause-stands c = λ stands.
