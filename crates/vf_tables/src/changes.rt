@@ -31,7 +31,7 @@ impl Tables {
     }
 
     /// Makes the changes in their order. Without memory they may be made in part.
-    pub(crate) fn make_all(&mut self, alloc: Global, changes: &[Change]) -> Result<(), NoMemory>
+    pub fn make_all(&mut self, alloc: Global, changes: &[Change]) -> Result<(), NoMemory>
         ensures { OnOk result (self.new ≡ after_all self.old changes.now) }
     {
         for change in changes {
