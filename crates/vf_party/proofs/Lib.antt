@@ -1,6 +1,7 @@
 pub mod Abortions
 pub mod Answering
 pub mod Bars
+pub mod Differing
 pub mod GoingOn
 pub mod GroupEnds
 pub mod GroupTurns

@@ -7,6 +7,8 @@ ghost use Rattle.vf_party.specs.Settings.{setting_of};
 ghost use Rattle.vf_party.specs.Trials.{AreTried};
 ghost use Rattle.vf_party_steps.specs.declared.step.StepError.TheVariants as errors;
 
+use crate::apart::are_apart;
+use crate::tried::Tried;
 use crate::trying::{Trial, said_before, try_items};
 use crate::{Quiet, Said, Setting, Step, StepError};
 use std::alloc::Global;
@@ -59,32 +61,32 @@ pub(crate) fn end_group(
 
 /// Items that were tried on copies.
 #[derive(Drop)]
-struct Attempt {
-    trial: Trial,
+struct Attempt<'t> {
+    trial: Trial<'t>,
     /// The holders of all files after the good items.
     locks: Locks,
 }
 
-fn tried(
+fn tried<'t>(
     alloc: Global,
     quiet: &Quiet,
     items: &[Pdu],
     setting: &Setting,
-    tables: &Tables,
+    tables: &'t Tables,
     locks: &Locks,
-) -> Result<Attempt, NoMemory>
+) -> Result<Attempt<'t>, NoMemory>
     ensures { IfOk result (λ attempt. AreTried quiet.now tables.now locks.now attempt.locks (setting_of setting.now) items.now attempt.trial) }
 {
     let quiet = quiet.copy(alloc)?;
-    let tables = tables.copy(alloc)?;
+    let tables = Tried::of(tables);
     let mut locks = locks.copy(alloc)?;
     let trial = try_items(alloc, quiet, items, setting, tables, &mut locks)?;
     Ok(Attempt { trial, locks })
 }
 
 /// What a group comes to that is performed.
-fn performed(alloc: Global, tables: &Tables, trial: Trial) -> Result<Step<Quiet>, NoMemory>
-    ensures { IfOk result (IsPerformed tables.now trial) }
+fn performed(alloc: Global, tables: &Tables, trial: Trial<'_>) -> Result<Step<Quiet>, NoMemory>
+    ensures { IfOk result (IsPerformed tables.now trial.entry) }
 {
     let Trial {
         quiet,
@@ -94,7 +96,7 @@ fn performed(alloc: Global, tables: &Tables, trial: Trial) -> Result<Step<Quiet>
         ..
     } = trial;
     let said = between(alloc, said)?;
-    let changes = unless_same(alloc, tables, &after, changes);
+    let changes = unless_same(alloc, tables, after.tables(), changes);
     Ok(Step {
         state: quiet,
         said,
@@ -103,8 +105,8 @@ fn performed(alloc: Global, tables: &Tables, trial: Trial) -> Result<Step<Quiet>
 }
 
 /// What is said to a group that isn't performed.
-fn said_in_vain(alloc: Global, trial: Trial) -> Result<Vec<Said>, NoMemory>
-    ensures { IfOk result (λ all. all.items ≡ between_meant trial.vain.items) }
+fn said_in_vain(alloc: Global, trial: Trial<'_>) -> Result<Vec<Said>, NoMemory>
+    ensures { IfOk result (λ all. all.items ≡ between_meant trial.entry.vain.items) }
 {
     let all = between(alloc, trial.vain)?;
     Ok(all)
@@ -122,10 +124,14 @@ fn between(alloc: Global, said: Vec<Said>) -> Result<Vec<Said>, NoMemory>
 }
 
 /// The changes, where they lead to other tables: of none that is known without a look at them.
+#[tactic(auto, using(crate::proofs::Differing::tables_apart))]
 fn unless_same(alloc: Global, before: &Tables, after: &Tables, changes: Changes) -> Changes
     ensures { result ≡ unless_same_meant before.now after.now changes }
 {
     if changes.as_slice().is_empty() {
+        return changes;
+    }
+    if are_apart(&before.files, &after.files, changes.as_slice()) {
         return changes;
     }
     if are_same(before, after) {

@@ -3,6 +3,7 @@
 #![tactic(auto)]
 
 mod aborting;
+mod apart;
 mod copies;
 mod departing;
 mod grouping;
@@ -19,6 +20,7 @@ mod taking_quiet;
 mod taking_reading;
 mod taking_regime;
 mod taking_writing;
+mod tried;
 mod trying;
 
 pub use party::{Grouping, Outcome, Party};

@@ -3,10 +3,10 @@ ghost use Rattle.std.specs.Prelude.{◌≡◌, ◌≤◌, ◌<◌, ◌+◌, ◌^
 ghost use Rattle.vf_party.specs.Quiets.{stage_of};
 ghost use Rattle.vf_party.specs.Settings.{setting_of};
 ghost use Rattle.vf_party.specs.Trials.{AreTried, ComesOf, IsBadItem, IsGoodItem, IsJoined, IsUntried, pdu_of, taken_in};
-ghost use Rattle.vf_tables.specs.Changes.{after_all};
 
 use crate::items::{is_item, take_item};
 use crate::refusals::refusal;
+use crate::tried::Tried;
 use crate::{Message, Quiet, Said, Setting, Step, StepError};
 use std::alloc::Global;
 use vf_base::{Diagnostic, NoMemory};
@@ -14,11 +14,11 @@ use vf_filestore::diagnostics::{BELOW_THRESHOLD, WRONG_REGIME, plain};
 use vf_locks::Locks;
 use vf_party_steps::followed_by;
 use vf_pdu::Pdu;
-use vf_tables::{Changes, Tables};
+use vf_tables::Changes;
 
 /// What comes of items of a group that are tried, each as if the good ones before it had been performed.
 #[derive(Drop)]
-pub(crate) struct Trial {
+pub(crate) struct Trial<'t> {
     /// The party after the good items.
     pub(crate) quiet: Quiet,
     /// What is said to the items, where their group is performed.
@@ -30,19 +30,19 @@ pub(crate) struct Trial {
     /// What the good ones change in the tables, one after another.
     pub(crate) changes: Changes,
     /// The tables with these changes.
-    pub(crate) tables: Tables,
+    pub(crate) tables: Tried<'t>,
 }
 
 /// Tries the items of a group in their order. One that its regime doesn't take is refused with 37.
-pub(crate) fn try_items(
+pub(crate) fn try_items<'t>(
     alloc: Global,
     quiet: Quiet,
     items: &[Pdu],
     setting: &Setting,
-    tables: Tables,
+    tables: Tried<'t>,
     locks: &mut Locks,
-) -> Result<Trial, NoMemory>
-    ensures trial { IfOk result (AreTried quiet tables locks.old locks.new (setting_of setting.now) items.now) }
+) -> Result<Trial<'t>, NoMemory>
+    ensures trial { IfOk result (AreTried quiet tables.entry locks.old locks.new (setting_of setting.now) items.now) }
     ensures counted { IfOk result (λ trial. trial.good ≤ length items.now) }
 {
     let Some((item, others)) = items.split_first() else {
@@ -55,8 +55,8 @@ pub(crate) fn try_items(
 }
 
 /// What comes of no items.
-fn untried(alloc: Global, quiet: Quiet, tables: Tables) -> Trial
-    ensures { IsUntried quiet tables result }
+fn untried<'t>(alloc: Global, quiet: Quiet, tables: Tried<'t>) -> Trial<'t>
+    ensures { IsUntried quiet tables.entry result }
 {
     Trial {
         quiet,
@@ -69,15 +69,15 @@ fn untried(alloc: Global, quiet: Quiet, tables: Tables) -> Trial
 }
 
 /// What came of an item, and then that of later ones.
-fn joined(
+fn joined<'t>(
     said: Vec<Said>,
     vain: Vec<Said>,
     good: usize,
     changes: Changes,
-    later: Trial,
-) -> Result<Trial, NoMemory>
+    later: Trial<'t>,
+) -> Result<Trial<'t>, NoMemory>
     requires { good + later.good < 2 ^ 64 }
-    ensures { IfOk result (IsJoined said.items vain.items good changes later) }
+    ensures { IfOk result (IsJoined said.items vain.items good changes later.entry) }
 {
     let said = said_before(said, later.said)?;
     let vain = said_before(vain, later.vain)?;
@@ -104,22 +104,22 @@ pub(crate) fn said_before(said: Vec<Said>, later: Vec<Said>) -> Result<Vec<Said>
 }
 
 /// Tries one item of a group. Where its regime doesn't take it, it is refused with 37.
-pub(crate) fn try_item(
+pub(crate) fn try_item<'t>(
     alloc: Global,
     quiet: Quiet,
     item: &Pdu,
     setting: &Setting,
-    tables: Tables,
+    tables: Tried<'t>,
     locks: &mut Locks,
-) -> Result<Trial, NoMemory>
-    ensures trial { IfOk result (AreTried quiet tables locks.old locks.new (setting_of setting.now) (item.now ∷ [])) }
+) -> Result<Trial<'t>, NoMemory>
+    ensures trial { IfOk result (AreTried quiet tables.entry locks.old locks.new (setting_of setting.now) (item.now ∷ [])) }
     ensures counted { IfOk result (λ trial. trial.good ≤ 1) }
 {
     let Some(request) = taken(alloc, &quiet, item)? else {
         let trial = refused(alloc, quiet, item.number(), plain(WRONG_REGIME), tables)?;
         return Ok(trial);
     };
-    let answer = take_item(quiet, alloc, request, same(setting), &tables, locks);
+    let answer = take_item(quiet, alloc, request, same(setting), tables.tables(), locks);
     let trial = answered(alloc, item.number(), answer, tables)?;
     Ok(trial)
 }
@@ -161,13 +161,13 @@ fn pdu_in(message: Message) -> Option<Pdu>
 }
 
 /// What comes of a request of this number to which a step answered this.
-fn answered(
+fn answered<'t>(
     alloc: Global,
     number: u16,
     answer: Result<Step<Quiet>, (Quiet, StepError)>,
-    tables: Tables,
-) -> Result<Trial, NoMemory>
-    ensures { IfOk result (ComesOf number answer tables) }
+    tables: Tried<'t>,
+) -> Result<Trial<'t>, NoMemory>
+    ensures { IfOk result (ComesOf number answer tables.entry) }
 {
     match answer {
         Ok(step) => {
@@ -185,8 +185,13 @@ fn answered(
 }
 
 /// What comes of a request of this number that is granted by this step.
-fn granted(alloc: Global, number: u16, step: Step<Quiet>, tables: Tables) -> Result<Trial, NoMemory>
-    ensures { IfOk result (IsGoodItem number step tables) }
+fn granted<'t>(
+    alloc: Global,
+    number: u16,
+    step: Step<Quiet>,
+    tables: Tried<'t>,
+) -> Result<Trial<'t>, NoMemory>
+    ensures { IfOk result (IsGoodItem number step tables.entry) }
 {
     let Step {
         state,
@@ -194,7 +199,7 @@ fn granted(alloc: Global, number: u16, step: Step<Quiet>, tables: Tables) -> Res
         changes,
     } = step;
     let vain = refusal(alloc, number, plain(BELOW_THRESHOLD))?;
-    let tables = after_changes(alloc, tables, &changes)?;
+    let tables = tables.after(alloc, changes.as_slice())?;
     Ok(Trial {
         quiet: state,
         said,
@@ -206,14 +211,14 @@ fn granted(alloc: Global, number: u16, step: Step<Quiet>, tables: Tables) -> Res
 }
 
 /// What comes of a request of this number that the diagnostic refuses.
-fn refused(
+fn refused<'t>(
     alloc: Global,
     quiet: Quiet,
     number: u16,
     diagnostic: Diagnostic,
-    tables: Tables,
-) -> Result<Trial, NoMemory>
-    ensures { IfOk result (IsBadItem quiet number diagnostic tables) }
+    tables: Tried<'t>,
+) -> Result<Trial<'t>, NoMemory>
+    ensures { IfOk result (IsBadItem quiet number diagnostic tables.entry) }
 {
     let said = refusal(alloc, number, diagnostic)?;
     let vain = refusal(alloc, number, diagnostic)?;
@@ -225,15 +230,4 @@ fn refused(
         changes: Changes::new(alloc),
         tables,
     })
-}
-
-/// The tables after these changes; they are copied only where there are any.
-fn after_changes(alloc: Global, tables: Tables, changes: &Changes) -> Result<Tables, NoMemory>
-    ensures { IfOk result (λ after. after ≡ after_all tables changes.now) }
-{
-    if changes.as_slice().is_empty() {
-        return Ok(tables);
-    }
-    let tables = tables.with(alloc, changes.as_slice())?;
-    Ok(tables)
 }

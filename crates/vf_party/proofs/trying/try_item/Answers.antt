@@ -9,11 +9,12 @@ use Rattle.vf_filestore.specs.Stage.{regime_stage}
 use Rattle.vf_party.specs.Items.{is_item}
 use Rattle.vf_party.specs.Quiets.{IsQuiet, stage_of}
 use Rattle.vf_party.specs.Settings.{setting_of}
-use Rattle.vf_party_steps.specs.Steps.{MeetsStep}
+use Rattle.vf_party_steps.specs.Steps.{MeetsStep, StandsIn}
 use Rattle.vf_party.specs.Trials.{ComesOf, IsBadItem}
 use Rattle.vf_party.proofs.Trials.{answered_item, left_decides, refused_item, stage_is, taken_none, taken_some}
 use Rattle.vf_party.proofs.trying.try_item.Goals as goal
 use Rattle.vf_pdu.specs.declared.pdu.Pdu.{Pdu}
+use Rattle.vf_tables.specs.declared.tables.Tables.{Tables}
 
 pub returns-in_default-clause-trial : goal.returns-in_default-clause-trial
 returns-in_default-clause-trial c = λ state party stands represents are.
@@ -52,9 +53,12 @@ returns-clause-trial c = λ state party stands represents are.
     let taken = taken_some (stage_of quiet) item c.in-Some.request (sym c.in_ok-request.ensures ∙ c.in-Some.is) in
     let here : takes (regime_stage party.history) (messages.Pdu item) ≡ true
     = ap (λ (stage : Stage). takes stage (messages.Pdu item)) (stage_is quiet party.link party.history represents) ∙ taken.taken in
+    let looked : c.tables-2.result.now ≡ tables = c.tables-2.ensures in
+    let stands_so = subst (λ (one : Tables). StandsIn one old state party) (sym looked) stands in
+    let met = subst (λ (one : Tables). MeetsStep IsQuiet one old new state party (setting_of c.same.result) (messages.Pdu c.in-Some.request) answer) looked
+    (c.take_item-answer.ensures.consequence state party stands_so represents (subst (λ (request : Pdu). takes (regime_stage party.history) (messages.Pdu request) ≡ true) taken.same here)) in
     let meets : MeetsStep IsQuiet tables old new state party setting (messages.Pdu item) answer
     = subst (λ (one : Setting). MeetsStep IsQuiet tables old new state party one (messages.Pdu item) answer) (ap setting_of c.same.ensures)
-    (subst (λ (request : Pdu). takes (regime_stage party.history) (messages.Pdu request) ≡ true → MeetsStep IsQuiet tables old new state party (setting_of c.same.result) (messages.Pdu request) answer) (sym taken.same)
-    (c.take_item-answer.ensures.consequence state party stands represents) here) in
+    (subst (λ (request : Pdu). MeetsStep IsQuiet tables old new state party (setting_of c.same.result) (messages.Pdu request) answer) (sym taken.same) met) in
     answered_item state party setting item tables old new answer quiet tried taken.is stands represents here meets c.take_item-answer.ensures.kept
     (subst (λ (number : ℕ). ComesOf number answer tables tried) c.number-2.ensures c.in_ok-trial-2.ensures)
