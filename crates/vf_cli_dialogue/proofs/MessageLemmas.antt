@@ -4,11 +4,11 @@ use Rattle.std.proofs.Common.{◌≡◌, ℕ, ◌≤◌, Bool, true, false, cond
 use Rattle.std.specs.Prelude.{nat_le}
 use Rattle.std.proofs.lemmas.Bool.{and_parts, le-leb, leb-true}
 use Rattle.vf_base.specs.declared.element.Element.{Element}
-use Rattle.vf_base.specs.declared.element.Element.TheVariants.{Descriptor, Enter, Exit, Text, Binary}
+use Rattle.vf_base.specs.declared.element.Element.TheVariants.{Enter, Exit, Text, Binary}
 use Rattle.vf_ber.specs.Primitive.{octets_in}
 use Rattle.vf_ber.specs.Tree.{Tag, Tree, plain, built, Trees, root}
 use Rattle.vf_elements.specs.ElementFaults.{is_descriptor, is_empty, is_mark, is_string, wrong_segment}
-use Rattle.vf_elements.specs.ElementReading.{descriptor_as, descriptor_from, element_in, mark_as, octets_of_slot, string_as, string_from, told_by, truth_of_slot}
+use Rattle.vf_elements.specs.ElementReading.{descriptor_as, descriptor_from, element_in, mark_as, octets_of_slot, string_as, string_from, told_by}
 use Rattle.vf_elements.specs.ElementValue.{IsNamed, IsWritable}
 use Rattle.vf_elements.specs.Elements.{descriptor, is_text, octet_string}
 use Rattle.vf_elements.specs.Messages.{from_element, from_pdu, message_in}
@@ -24,13 +24,13 @@ use Rattle.vf_pdu.specs.declared.pdu.Pdu.{Pdu}
 use Rattle.vf_pdu.specs.declared.pdu.Pdu.TheVariants.{ProviderAbort}
 use Rattle.vf_pdu.proofs.Tables.{row_is_table}
 use Rattle.vf_pdu.proofs.Whole.{whole}
-use Rattle.vf_pdu_fields.proofs.Found.{Kept, ok_is, reading_kept}
-use Rattle.vf_pdu_fields.specs.Content.{Number, Truth, Octets, Arcs, Fields, Listed, Slot, slot, slots}
+use Rattle.vf_pdu_fields.proofs.Found.{ok_is, reading_kept}
+use Rattle.vf_pdu_fields.specs.Content.{Number, Truth, Octets, Arcs, Fields, Listed, Slot, slots}
 use Rattle.vf_pdu_fields.specs.Fault.{Fault, Unknown}
 use Rattle.vf_pdu_fields.specs.Meaning.{all_fit, fits}
 use Rattle.vf_pdu_fields.specs.Reading.{reading}
 use Rattle.vf_pdu_fields.specs.declared.limits.TheConstants.{MOST_PLACE}
-use Rattle.vf_pdu_fields.specs.Rows.{Boolean, Text as TextForm, optional, default, Row, end, field, one}
+use Rattle.vf_pdu_fields.specs.Rows.{Boolean, Text as TextForm, default, Row, end, field, one}
 use Rattle.vf_cli_dialogue.specs.Dialogue.{outside}
 use Rattle.vf_filestore.specs.Sayable.{IsReadWhole}
 

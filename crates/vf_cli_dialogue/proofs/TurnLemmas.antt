@@ -295,6 +295,11 @@ module _ (state : State) (before : Filestore) (holds : Holds before state) (mess
       by true (Some next) is put = goes_on next is put.0
       by false (Some next) is put = absurd (true≢false (sym put.1))
 
+-- a party that took a message in its place
+pub put_in_place : (next : Party) (goes : Bool) → IsPut (if goes then Some next else None) next goes
+put_in_place next true = (refl, refl)
+put_in_place next false = refl
+
 -- what a party takes that a filestore has, from what is owed of it in any state
 pub answered_by : (state : State) (before : Filestore) (holds : Holds before state) (message : Message) (filestore : Filestore) (outcome : Outcome) (taken : Result Outcome (Party × NoMemory))
     (tables : Tables) (party : Party) (given : Setting) (goes : Bool) → taken ≡ Ok outcome → tables ≡ before.tables → party ≡ before.party → given ≡ setting

@@ -1,12 +1,12 @@
 //! A conversation with one party.
-ghost use Rattle.std.specs.Prelude.{◌≡◌, ◌++◌, ◌+◌, ◌<◌, ◌≤◌, [], drop, false, true, if◌then◌else◌, IfOk, All, IfSome, Ok, OnOk, Some, length, List, ℕ};
+ghost use Rattle.std.specs.Prelude.{◌≡◌, ◌++◌, ◌+◌, ◌<◌, ◌≤◌, [], drop, false, true, if◌then◌else◌, IfOk, All, IfSome, OnOk, Some, length, List, ℕ};
 ghost use Rattle.std.specs.List.{flat_map, list_any};
 ghost use Rattle.vf_ber.specs.Reader.{reading};
 ghost use Rattle.vf_ber.specs.Reading.{Read, Short};
 ghost use Rattle.vf_ber.specs.Views.{tree_of};
 ghost use Rattle.vf_ber_scan.specs.Scanned.{HasTaken};
 ghost use Rattle.vf_cli_dialogue.specs.declared.conversation.After.TheVariants as ends;
-ghost use Rattle.vf_cli_dialogue.specs.Conversation.{Adds, Advances, Appends, Holds, IsAnsweredBy, IsPut, IsRest, IsTaking, Makes, Stands, TakesFirst, TakesReady, is_ready as ready_test, left_in, octets_in, size_of};
+ghost use Rattle.vf_cli_dialogue.specs.Conversation.{Adds, Advances, Appends, Holds, IsAnsweredBy, IsRest, IsTaking, Makes, Stands, TakesFirst, TakesReady, is_ready as ready_test, left_in, octets_in, size_of};
 ghost use Rattle.vf_cli_dialogue.specs.Dialogue.{is_abort as abort_test, link, opened, outside, reply, setting as setting_meant};
 ghost use Rattle.vf_filestore.specs.Sayable.{IsReadWhole, IsSayable};
 ghost use Rattle.vf_filestore.specs.State.{State};
@@ -23,7 +23,7 @@ use vf_ber::Value;
 use vf_ber_scan::Scan;
 use vf_elements::{Message, Said};
 use vf_locks::Locks;
-use vf_party::{Outcome, Party, Setting};
+use vf_party::{Answered, Party, Setting};
 use vf_tables::{Changes, Doubled};
 
 /// A filestore with one party.
@@ -389,61 +389,20 @@ fn after_replies(goes: bool) -> After
     if goes { After::Goes } else { After::Gone }
 }
 
-/// What the party answers to a message, and its changes, which are still to be made.
-#[derive(Drop)]
-struct Answered {
-    /// The party goes on.
-    goes: bool,
-    said: Vec<Said>,
-    changes: Changes,
-}
-
 /// The party takes a message, and the next one stands in its place. Where memory is wanting, the party is gone.
 fn answer(alloc: Global, filestore: &mut Filestore, message: Message) -> Result<Answered, NoMemory>
     ensures tables { filestore.new.tables ≡ filestore.old.tables }
-    ensures answers { IfOk result (λ answered. (state : State) → (holds : Holds filestore.old state)
-        → IsAnsweredBy state filestore.old holds message filestore.new answered.goes answered.said.items answered.changes) }
+    ensures answers { IfOk result (λ heard. (state : State) → (holds : Holds filestore.old state)
+        → IsAnsweredBy state filestore.old holds message filestore.new heard.goes heard.said.items heard.changes) }
 {
-    let party = mem::replace(&mut filestore.party, Party::arrived(LINK));
-    let taken = party.take(
+    let heard = filestore.party.hear(
         alloc,
         message,
         setting(),
         filestore.tables.tables(),
         &mut filestore.locks,
-    );
-    let Outcome {
-        party: next,
-        said,
-        changes,
-    } = outcome_in(taken)?;
-    let goes = put_next(&mut filestore.party, next);
-    Ok(Answered {
-        goes,
-        said,
-        changes,
-    })
-}
-
-/// What came of a message; the party is dropped that is given back for want of memory.
-fn outcome_in(taken: Result<Outcome, (Party, NoMemory)>) -> Result<Outcome, NoMemory>
-    ensures { IfOk result (λ outcome. taken ≡ Ok outcome) }
-{
-    match taken {
-        Ok(outcome) => Ok(outcome),
-        Err(_) => Err(NoMemory),
-    }
-}
-
-/// Puts the next party in the place of another, if there is one, and says whether there is.
-fn put_next(party: &mut Party, next: Option<Party>) -> bool
-    ensures { IsPut next party.new result }
-{
-    let Some(next) = next else {
-        return false;
-    };
-    *party = next;
-    true
+    )?;
+    Ok(heard)
 }
 
 /// The setting of every message: it comes at moment 0, and no session stands below.

@@ -3,6 +3,7 @@ pub mod Answers
 pub mod GoingOn
 pub mod GroupEnds
 pub mod GroupTurns
+pub mod Hearing
 pub mod Items
 pub mod Quiets
 pub mod Refusals

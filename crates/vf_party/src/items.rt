@@ -8,6 +8,7 @@ ghost use Rattle.vf_party.specs.Quiets.{IsQuiet, stage_of};
 ghost use Rattle.vf_party.specs.Settings.{setting_of};
 ghost use Rattle.vf_party_steps.specs.Steps.{IsStep};
 ghost use Rattle.vf_party.specs.declared.quiet.Quiet.TheVariants as quiets;
+ghost use Rattle.vf_pdu.specs.PduNumbers.{number_of};
 
 use crate::quiet::quieted;
 use crate::{Associated, Open, Quiet, Selected, Setting, Step, StepError};
@@ -75,10 +76,7 @@ fn take_associated(
             return quieted(answer);
         }
         request @ Pdu::CreateRequest { .. } => {
-            let answer = associated.create(
-                alloc, request, moment, serial, token, sync, tables, locks,
-            );
-            return quieted(answer);
+            return take_create(associated, alloc, request, setting, tables, locks);
         }
         _ => unreachable!(),
     }
@@ -111,31 +109,22 @@ fn take_selected(
             return quieted(answer);
         }
         request @ Pdu::DeleteRequest => {
-            let answer = selected.delete(
-                alloc, request, moment, serial, token, sync, tables, locks,
-            );
-            return quieted(answer);
+            return take_delete(selected, alloc, request, setting, tables, locks);
         }
         request @ Pdu::ReadAttribRequest { .. } => {
-            let answer = selected.read_attrib(
-                alloc, request, moment, serial, token, sync, tables, locks,
-            );
-            return quieted(answer);
+            return take_read_attrib(selected, alloc, request, setting, tables, locks);
         }
         request @ Pdu::ChangeAttribRequest { .. } => {
-            let answer = selected.change_attrib(
-                alloc, request, moment, serial, token, sync, tables, locks,
-            );
-            return quieted(answer);
+            return take_change_attrib(selected, alloc, request, setting, tables, locks);
         }
         request @ Pdu::OpenRequest { .. } => {
-            let answer = selected.open(alloc, request, moment, serial, token, sync, tables, locks);
-            return quieted(answer);
+            return open_selected(selected, alloc, request, setting, tables, locks);
         }
         _ => unreachable!(),
     }
 }
 
+#[inline(never)]
 fn take_open(
     regimes: Open,
     alloc: Global,
@@ -162,4 +151,126 @@ fn take_open(
         }
         _ => unreachable!(),
     }
+}
+
+// These are functions of their own, out of line, since the room for what they keep costs each request that comes through
+// one function with them.
+/// A creation.
+#[inline(never)]
+fn take_create(
+    associated: Associated,
+    alloc: Global,
+    request: Pdu,
+    setting: Setting,
+    tables: &Tables,
+    locks: &mut Locks,
+) -> Result<Step<Quiet>, (Quiet, StepError)>
+    requires { number_of request ≡ 10 }
+    ensures consequence { IsStep IsQuiet IsQuiet tables.now locks.old locks.new (quiets.Associated associated) (setting_of setting) (messages.Pdu request) result }
+    ensures kept { IfErr result (λ back. back.0 ≡ quiets.Associated associated) }
+{
+    let Setting {
+        moment,
+        serial,
+        token,
+        sync,
+    } = setting;
+    let answer = associated.create(alloc, request, moment, serial, token, sync, tables, locks);
+    return quieted(answer);
+}
+
+/// A deletion.
+#[inline(never)]
+fn take_delete(
+    selected: Selected,
+    alloc: Global,
+    request: Pdu,
+    setting: Setting,
+    tables: &Tables,
+    locks: &mut Locks,
+) -> Result<Step<Quiet>, (Quiet, StepError)>
+    requires { number_of request ≡ 12 }
+    ensures consequence { IsStep IsQuiet IsQuiet tables.now locks.old locks.new (quiets.Selected selected) (setting_of setting) (messages.Pdu request) result }
+    ensures kept { IfErr result (λ back. back.0 ≡ quiets.Selected selected) }
+{
+    let Setting {
+        moment,
+        serial,
+        token,
+        sync,
+    } = setting;
+    let answer = selected.delete(alloc, request, moment, serial, token, sync, tables, locks);
+    return quieted(answer);
+}
+
+/// Attributes are read.
+#[inline(never)]
+fn take_read_attrib(
+    selected: Selected,
+    alloc: Global,
+    request: Pdu,
+    setting: Setting,
+    tables: &Tables,
+    locks: &mut Locks,
+) -> Result<Step<Quiet>, (Quiet, StepError)>
+    requires { number_of request ≡ 14 }
+    ensures consequence { IsStep IsQuiet IsQuiet tables.now locks.old locks.new (quiets.Selected selected) (setting_of setting) (messages.Pdu request) result }
+    ensures kept { IfErr result (λ back. back.0 ≡ quiets.Selected selected) }
+{
+    let Setting {
+        moment,
+        serial,
+        token,
+        sync,
+    } = setting;
+    let answer = selected.read_attrib(alloc, request, moment, serial, token, sync, tables, locks);
+    return quieted(answer);
+}
+
+/// Attributes are changed.
+#[inline(never)]
+fn take_change_attrib(
+    selected: Selected,
+    alloc: Global,
+    request: Pdu,
+    setting: Setting,
+    tables: &Tables,
+    locks: &mut Locks,
+) -> Result<Step<Quiet>, (Quiet, StepError)>
+    requires { number_of request ≡ 16 }
+    ensures consequence { IsStep IsQuiet IsQuiet tables.now locks.old locks.new (quiets.Selected selected) (setting_of setting) (messages.Pdu request) result }
+    ensures kept { IfErr result (λ back. back.0 ≡ quiets.Selected selected) }
+{
+    let Setting {
+        moment,
+        serial,
+        token,
+        sync,
+    } = setting;
+    let answer = selected.change_attrib(alloc, request, moment, serial, token, sync, tables, locks);
+    return quieted(answer);
+}
+
+/// The selected file is opened.
+#[inline(never)]
+fn open_selected(
+    selected: Selected,
+    alloc: Global,
+    request: Pdu,
+    setting: Setting,
+    tables: &Tables,
+    locks: &mut Locks,
+) -> Result<Step<Quiet>, (Quiet, StepError)>
+    requires { number_of request ≡ 18 }
+    ensures consequence { IsStep IsQuiet IsQuiet tables.now locks.old locks.new (quiets.Selected selected) (setting_of setting) (messages.Pdu request) result }
+    ensures kept { IfErr result (λ back. back.0 ≡ quiets.Selected selected) }
+{
+    let Setting {
+        moment,
+        serial,
+        token,
+        sync,
+    } = setting;
+    let answer = selected.open(alloc, request, moment, serial, token, sync, tables, locks);
+    return quieted(answer);
 }

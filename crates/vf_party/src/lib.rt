@@ -7,6 +7,7 @@ mod apart;
 mod copies;
 mod departing;
 mod grouping;
+mod hearing;
 mod items;
 mod leaving;
 mod outcomes;
@@ -23,6 +24,7 @@ mod taking_writing;
 mod tried;
 mod trying;
 
+pub use hearing::Answered;
 pub use party::{Grouping, Outcome, Party};
 pub use quiet::Quiet;
 pub use setting::Setting;

@@ -2,8 +2,10 @@
 ghost use Rattle.std.specs.Prelude.{◌≡◌};
 ghost use Rattle.std.specs.List.{list_any};
 ghost use Rattle.vf_filestore.specs.Conclusion.{has_abort as has_abort_meant};
+ghost use Rattle.vf_party.specs.Hearing.{outcome_in, turn_in};
 ghost use Rattle.vf_party.specs.Turns.{ComesTo, IsOutcomeOf, is_abort as is_abort_meant};
 
+use crate::hearing::Answered;
 use crate::party::{Outcome, Party, PartyState};
 use crate::refusals::refusal;
 use crate::{Said, Step, StepError};
@@ -39,6 +41,57 @@ pub(crate) fn concluded<Old: PartyState, New: PartyState>(
                 StepError::NoMemory => Err((party, NoMemory)),
             }
         }
+    }
+}
+
+/// The same, with the party that is left in the place of another.
+pub(crate) fn conclude<Old: PartyState, New: PartyState>(
+    party: &mut Party,
+    alloc: Global,
+    number: u16,
+    answer: Result<Step<New>, (Old, StepError)>,
+    locks: &mut Locks,
+) -> Result<Answered, NoMemory>
+    ensures { ComesTo New.represents Old.party_of New.party_of number locks.old locks.new answer (turn_in party.new result) }
+{
+    match answer {
+        Ok(step) => Ok(put_outcome(party, step, locks)),
+        Err((state, error)) => {
+            *party = state.into_party();
+            match error {
+                StepError::Refused(diagnostic) => {
+                    let Ok(said) = refusal(alloc, number, diagnostic) else {
+                        return Err(NoMemory);
+                    };
+                    Ok(Answered {
+                        goes: true,
+                        said,
+                        changes: Changes::new(alloc),
+                    })
+                }
+                StepError::NoMemory => Err(NoMemory),
+            }
+        }
+    }
+}
+
+/// What comes of a good step, with the party that is left in the place of another.
+fn put_outcome<New: PartyState>(party: &mut Party, step: Step<New>, locks: &mut Locks) -> Answered
+    ensures { IsOutcomeOf New.represents New.party_of locks.old locks.new step (outcome_in party.new result) }
+{
+    if has_abort(step.said.as_slice()) {
+        step.state.leave(locks);
+        return Answered {
+            goes: false,
+            said: step.said,
+            changes: step.changes,
+        };
+    }
+    *party = step.state.into_party();
+    Answered {
+        goes: true,
+        said: step.said,
+        changes: step.changes,
     }
 }
 

@@ -2,6 +2,7 @@ ghost use Rattle.std.specs.Prelude.{◌≡◌, ℕ};
 ghost use Rattle.vf_filestore.specs.History.{History};
 ghost use Rattle.vf_filestore.specs.State.{arrived as arrived_meant};
 ghost use Rattle.vf_party_steps.specs.Leaving.{LeavesHolders};
+ghost use Rattle.vf_party.specs.Hearing.{turn_in};
 ghost use Rattle.vf_party.specs.Quiets.{IsQuiet};
 ghost use Rattle.vf_party_steps.specs.Reads.{IsReading};
 ghost use Rattle.vf_party_steps.specs.Recoveries.{IsRecovered};
@@ -13,6 +14,7 @@ ghost use Rattle.vf_party.specs.declared.party.Party.{Party as PartyMeant};
 ghost use Rattle.vf_party.specs.declared.party.Party.TheVariants as parties;
 ghost use Rattle.vf_party.specs.declared.quiet.Quiet.TheVariants as quiets;
 
+use crate::hearing::{Answered, settled, told};
 use crate::leaving::leave_quiet;
 use crate::taking_group::take_grouping;
 use crate::taking_idle::take_idle;
@@ -21,6 +23,7 @@ use crate::taking_reading::take_reading;
 use crate::taking_writing::take_writing;
 use crate::{Associated, Idle, Message, Open, Quiet, Reading, Recovered, Said, Setting, Writing};
 use std::alloc::Global;
+use std::mem;
 use vf_base::{NoMemory, Sequence};
 use vf_locks::Locks;
 use vf_pdu::Pdu;
@@ -59,7 +62,11 @@ impl Party {
     {
         match self {
             Party::Idle(idle) => return take_idle(idle, alloc, message, setting, tables, locks),
-            Party::Quiet(quiet) => return take_quiet(quiet, alloc, message, setting, tables, locks),
+            Party::Quiet(quiet) => {
+                let mut party = Party::arrived(0);
+                let heard = take_quiet(&mut party, quiet, alloc, message, setting, tables, locks);
+                return told(party, heard);
+            }
             Party::Reading(reading) => {
                 return take_reading(reading, alloc, message, setting, tables, locks);
             }
@@ -68,6 +75,28 @@ impl Party {
             }
             Party::Grouping(grouping) => {
                 return take_grouping(grouping, alloc, message, setting, tables, locks);
+            }
+        }
+    }
+
+    /// Takes a message as `take` does, in the place of the party: one that is left stands there.
+    pub fn hear(
+        &mut self,
+        alloc: Global,
+        message: Message,
+        setting: Setting,
+        tables: &Tables,
+        locks: &mut Locks,
+    ) -> Result<Answered, NoMemory>
+        ensures { IsTurn tables.now locks.old locks.new self.old (setting_of setting) message (turn_in self.new result) }
+    {
+        match mem::replace(self, Party::arrived(0)) {
+            Party::Quiet(quiet) => {
+                return take_quiet(self, quiet, alloc, message, setting, tables, locks);
+            }
+            party => {
+                let taken = party.take(alloc, message, setting, tables, locks);
+                return settled(self, taken);
             }
         }
     }

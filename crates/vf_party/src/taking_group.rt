@@ -40,6 +40,7 @@ impl PartyState for Grouping {
 }
 
 /// Takes a message: an item more, the group's end, or what ends the association.
+#[inline(never)]
 pub(crate) fn take_grouping(
     grouping: Grouping,
     alloc: Global,

@@ -22,6 +22,7 @@ use vf_pdu::Pdu;
 use vf_tables::Tables;
 
 /// Takes a message.
+#[inline(never)]
 pub(crate) fn take_idle(
     idle: Idle,
     alloc: Global,

@@ -21,6 +21,7 @@ use vf_pdu::Pdu;
 use vf_tables::Tables;
 
 /// Takes a message.
+#[inline(never)]
 pub(crate) fn take_reading(
     reading: Reading,
     alloc: Global,

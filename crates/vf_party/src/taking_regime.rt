@@ -29,6 +29,7 @@ use vf_pdu::Pdu;
 use vf_tables::{Changes, Tables};
 
 /// Takes a request that its stage takes and nothing aborts, that is no item and by which the initiator doesn't leave.
+#[inline(never)]
 pub(crate) fn take_own(
     quiet: Quiet,
     alloc: Global,

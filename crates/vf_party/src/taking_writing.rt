@@ -22,6 +22,7 @@ use vf_pdu::Pdu;
 use vf_tables::Tables;
 
 /// Takes a message.
+#[inline(never)]
 pub(crate) fn take_writing(
     writing: Writing,
     alloc: Global,

@@ -1,4 +1,4 @@
-use Rattle.std.proofs.Common.{◌≡◌, ◌==◌, ◌||◌, ℕ, true, ap, sym, ◌∙◌}
+use Rattle.std.proofs.Common.{◌≡◌, ◌==◌, ◌||◌, ℕ, true, [], ap, sym, ◌∙◌}
 use Rattle.vf_elements.specs.Stages.{takes}
 use Rattle.vf_elements.specs.declared.message.Message.TheVariants as messages
 use Rattle.vf_filestore.specs.Aborts.{first_abort}
@@ -6,7 +6,7 @@ use Rattle.vf_filestore.specs.Decision.{Leaves}
 use Rattle.vf_filestore.specs.HoldersAfter.{hearing}
 use Rattle.vf_filestore.specs.Stage.{grouping}
 use Rattle.vf_filestore.specs.Transition.{met, with_message}
-use Rattle.vf_filestore.specs.Transition.{leaves as leaves_with}
+use Rattle.vf_party.specs.Hearing.{outcome_in, turn_in}
 use Rattle.vf_party.specs.Items.{is_item}
 use Rattle.vf_party.specs.Quiets.{IsQuiet, stage_of}
 use Rattle.vf_party.specs.Refusals.{refusal_numbered}
@@ -20,20 +20,20 @@ use Rattle.vf_party.proofs.taking_quiet.take_request.Goals as goal
 pub returns-in-Some : goal.returns-in-Some
 returns-in-Some c = λ state party stands histories alone.
     let message = messages.Pdu c.args.request in
-    barred_turn IsQuiet parties.Quiet c.args.tables.now c.args.locks.now c.aborted.new.locks c.args.quiet (setting_of c.args.setting) message state party stands alone c.in-Some.number c.aborted.result
+    barred_turn IsQuiet parties.Quiet c.args.tables.now c.args.locks.now c.abort_quiet.new.locks c.args.quiet (setting_of c.args.setting) message state party stands alone c.in-Some.number (turn_in c.abort_quiet.new.party c.abort_quiet.result)
     (ap (λ stage. takes stage message) (quiet_stage c.args.quiet party alone.represented) ∙ c.requires)
-    (ap first_abort (quiet_bars party (setting_of c.args.setting) c.args.quiet c.args.request alone.represented c.requires) ∙ sym c.aborted_in_quiet-bar.ensures ∙ c.in-Some.is) c.aborted.ensures
+    (ap first_abort (quiet_bars party (setting_of c.args.setting) c.args.quiet c.args.request alone.represented c.requires) ∙ sym c.aborted_in_quiet-bar.ensures ∙ c.in-Some.is) c.abort_quiet.ensures
 
 pub returns-then-is_item : goal.returns-then-is_item
 returns-then-is_item c =
     let item : is_item c.args.request ≡ true = sym c.is_item-is_item.ensures ∙ c.if-is_item.true in
     step_turn IsQuiet IsQuiet parties.Quiet parties.Quiet (λ self standing is. is) (λ self standing is. is)
-    c.args.tables.now c.args.locks.now c.take_item-answer.new.locks c.concluded.new.locks c.args.quiet (setting_of c.args.setting) (messages.Pdu c.args.request) (stage_of c.args.quiet)
+    c.args.tables.now c.args.locks.now c.take_item-answer.new.locks c.conclude.new.locks c.args.quiet (setting_of c.args.setting) (messages.Pdu c.args.request) (stage_of c.args.quiet)
     (λ party is. quiet_stage c.args.quiet party is) c.requires
     (λ party is. ap first_abort (quiet_bars party (setting_of c.args.setting) c.args.quiet c.args.request is c.requires) ∙ sym c.aborted_in_quiet-bar.ensures ∙ c.in_default.is)
     (λ trace alone. ap (grouping c.args.request) alone ∙ begins_none c.args.request (item_begins_none c.args.request item)) (unassociating c.args.request (stage_of c.args.quiet) (quiet_stays c.args.quiet) c.requires)
     c.number-number.result (λ diagnostic. refused_by_number diagnostic c.args.request ∙ ap (λ (n : ℕ). refusal_numbered n diagnostic) (sym c.number-number.ensures))
-    c.take_item-answer.result c.concluded.result c.take_item-answer.ensures.consequence c.take_item-answer.ensures.kept c.concluded.ensures
+    c.take_item-answer.result (turn_in c.conclude.new.party c.conclude.result) c.take_item-answer.ensures.consequence c.take_item-answer.ensures.kept c.conclude.ensures
 
 pub returns-then-is_leaving : goal.returns-then-is_leaving
 returns-then-is_leaving c = λ state party stands histories alone.
@@ -43,7 +43,7 @@ returns-then-is_leaving c = λ state party stands histories alone.
     let unbarred = ap first_abort (quiet_bars party setting c.args.quiet c.args.request alone.represented c.requires) ∙ sym c.aborted_in_quiet-bar.ensures ∙ c.in_default.is in
     let decides = unbarred_decides IsQuiet parties.Quiet c.args.tables.now c.args.locks.now c.args.locks.now c.args.quiet setting message state party stands alone taken unbarred
     ∙ leaving_decides state party setting c.args.request ((λ i. sym c.number-number.ensures i == 4 || sym c.number-number.ensures i == 5) ∙ sym c.is_leaving.ensures ∙ c.if-is_leaving.true) in
-    ended_turn IsQuiet parties.Quiet c.args.tables.now c.args.locks.now c.ended.new.locks c.args.quiet setting message state party stands alone.represented
-    c.new.result.items c.ended.result Leaves leaves decides
-    (ap (met (hearing state party message) (with_message message party) setting message) decides ∙ (λ i. leaves_with (hearing state party message) (with_message message party) (sym c.new.ensures.items i)))
-    c.ended.ensures
+    ended_turn IsQuiet parties.Quiet c.args.tables.now c.args.locks.now c.end_quiet.new.locks c.args.quiet setting message state party stands alone.represented
+    [] (outcome_in c.args.party.now c.end_quiet.result) Leaves leaves decides
+    (ap (met (hearing state party message) (with_message message party) setting message) decides)
+    (c.end_quiet.ensures c.args.party.now)

@@ -1,11 +1,11 @@
-use Rattle.std.proofs.Common.{ap, sym, ◌∙◌}
+use Rattle.std.proofs.Common.{[], ap, ◌∙◌}
 use Rattle.vf_elements.specs.Stages.{takes}
 use Rattle.vf_elements.specs.declared.message.Message.{Message}
 use Rattle.vf_filestore.specs.Aborts.{aborts, first_abort}
 use Rattle.vf_filestore.specs.Decision.{Leaves, message_decision}
 use Rattle.vf_filestore.specs.HoldersAfter.{hearing}
 use Rattle.vf_filestore.specs.Transition.{met, with_message}
-use Rattle.vf_filestore.specs.Transition.{leaves as leaves_with}
+use Rattle.vf_party.specs.Hearing.{outcome_in}
 use Rattle.vf_party.specs.Quiets.{IsQuiet}
 use Rattle.vf_party.specs.Settings.{setting_of}
 use Rattle.vf_party.specs.declared.party.Party.TheVariants as parties
@@ -20,7 +20,7 @@ returns c = λ state party stands histories alone.
     let taken = ap (λ stage. takes stage message) (quiet_stage c.args.quiet party alone.represented) ∙ c.requires in
     let decides = unbarred_decides IsQuiet parties.Quiet c.args.tables.now c.args.locks.now c.args.locks.now c.args.quiet setting message state party stands alone taken (ap (λ (one : Message). first_abort (aborts party setting one)) c.in-Break.is)
     ∙ ap (λ (one : Message). message_decision state party setting one) c.in-Break.is in
-    ended_turn IsQuiet parties.Quiet c.args.tables.now c.args.locks.now c.ended.new.locks c.args.quiet setting message state party stands alone.represented
-    c.new.result.items c.ended.result Leaves leaves decides
-    (ap (met (hearing state party message) (with_message message party) setting message) decides ∙ (λ i. leaves_with (hearing state party message) (with_message message party) (sym c.new.ensures.items i)))
-    c.ended.ensures
+    ended_turn IsQuiet parties.Quiet c.args.tables.now c.args.locks.now c.end_quiet.new.locks c.args.quiet setting message state party stands alone.represented
+    [] (outcome_in c.args.party.now c.end_quiet.result) Leaves leaves decides
+    (ap (met (hearing state party message) (with_message message party) setting message) decides)
+    (c.end_quiet.ensures c.args.party.now)
