@@ -7,13 +7,9 @@ mod call;
 #[cfg(test)]
 mod commands;
 #[cfg(test)]
-mod contents;
-#[cfg(test)]
 mod dialogues;
 #[cfg(test)]
 mod faults;
-#[cfg(test)]
-mod management;
 #[cfg(test)]
 mod rows;
 #[cfg(test)]
