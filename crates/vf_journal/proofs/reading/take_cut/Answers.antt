@@ -1,7 +1,7 @@
 use Rattle.std.proofs.Common.{◌-◌, arith, ap, sym, ◌∙◌}
 use Rattle.vf_journal.specs.JournalState.{with_record}
 use Rattle.vf_journal.proofs.Takings.{alone_none, alone_some}
-use Rattle.vf_journal.proofs.reading.take_alone.Goals as goal
+use Rattle.vf_journal.proofs.reading.take_cut.Goals as goal
 
 pub returns-in_default-clause-taken : goal.returns-in_default-clause-taken
 returns-in_default-clause-taken g c =
