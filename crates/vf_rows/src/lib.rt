@@ -1,5 +1,5 @@
 //! The top call over objects in memory, from its words, its disk and its input to what it prints, its status and what the
-//! disk then holds: worked dialogues, and commands over a store.
+//! disk then holds: worked dialogues, and faults of the disk, the input and the output.
 #![tactic(auto)]
 
 #[cfg(test)]
@@ -14,7 +14,5 @@ mod faults;
 mod rows;
 #[cfg(test)]
 mod sips;
-#[cfg(test)]
-mod tasks;
 #[cfg(test)]
 mod words;
