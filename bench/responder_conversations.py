@@ -53,6 +53,42 @@ TWENTY = f"""
 {strings("= ", 0, 8)}        = 1 check 1
 """
 
+RECORDS = ("        2 6000\n", "        2 6000\n        2 190142\n", "        2 6000\n        2 190143\n        2 190143\n", "        2 6000\n")
+
+
+def rewritten(count):
+    """Link 2 erases a file of records, and writes so many."""
+    written = f"""        2 BF21068001018101FF
+{"".join(RECORDS[:count])}        2 BF2200
+        2 BF2300
+        = 2 BF2400
+"""
+    return "        2 BE00\n        = 2 BF1F00\n" + (written if count else "")
+
+
+def shortened(place, count):
+    """Link 1 stands behind so many records when the file becomes shorter: no record is the current one or the next, and the
+    last one is the previous."""
+    previous = f"BD038101{count:02}" if count else "BD05A003800113"
+    return f"""{rewritten(place - 1)}        1 BC038001FF
+        = 1 BD038101{place:02}
+{rewritten(count)}        1 BC038001FC
+        = 1 BD05A003800113
+        1 BC038001FB
+        = 1 BD05A003800113
+        1 BF20068001FC810101
+        = 1 BF2205A003800113
+        1 BF2300
+        = 1 BF2405A003800113
+        1 BF20068001FB810100
+        = 1 BF2205A003800113
+        1 BF2300
+        = 1 BF2405A003800113
+        1 BC038001FA
+        = 1 {previous}
+"""
+
+
 # A write in an open that can be recovered: a string, a check after it, and another string.
 SECURED = """
         1 arrive sync
@@ -427,6 +463,23 @@ CONVERSATIONS = {
         1 BE00
         = 1 BF1F00
     """,
+    # a position behind the end, where another party makes the file shorter
+    "shortened": """
+        1 arrive
+        1 A00380010F
+        = 1 A10381010F
+        1 AA0F810161A207800528C27B0502850101
+        = 1 AB00
+        1 B203800101
+        = 1 B309A107800528C27B0502
+        2 arrive
+        2 A00380010F
+        = 2 A10381010F
+        2 A606800161810112
+        = 2 A700
+        2 B203800112
+        = 2 B309A107800528C27B0502
+""" + "".join(shortened(place, count) for place in range(2, 6) for count in range(place - 1)),
     # an open that stands under another identity isn't recovered, and stays; closed it leaves no docket
     "another": """
         1 arrive sync

@@ -1,5 +1,5 @@
 //! The top call over objects in memory, from its words, its disk and its input to what it prints, its status and what the
-//! disk then holds: worked dialogues, and commands over a store.
+//! disk then holds: worked dialogues, faults of the disk, the input and the output, and stops of the disk.
 #![tactic(auto)]
 
 #[cfg(test)]
@@ -15,6 +15,6 @@ mod rows;
 #[cfg(test)]
 mod sips;
 #[cfg(test)]
-mod tasks;
+mod stops;
 #[cfg(test)]
 mod words;
