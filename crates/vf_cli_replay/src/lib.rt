@@ -1,0 +1,12 @@
+//! The command `replay`: a script of incarnations of the responder, each over the disk that the one before it left, and what
+//! is heard on its links.
+#![tactic(auto)]
+
+mod base;
+mod caller;
+mod incarnation;
+mod lines;
+mod replaying;
+mod requests;
+
+pub use replaying::replay;
