@@ -1,4 +1,2 @@
-pub mod Bases
-pub mod Lines
-pub mod Calling
+pub mod Saying
 pub mod Running

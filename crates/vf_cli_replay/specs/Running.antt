@@ -13,8 +13,9 @@ use Rattle.vf_responder.specs.Run.{trail}
 use Rattle.vf_responder.specs.Serving.{Serving}
 use Rattle.vf_responder.specs.declared.event.Reply.{Reply}
 use Rattle.vf_tpkt.specs.Tpdu.{packet, request}
-use Rattle.vf_cli_replay.specs.Calling.{Calling, SaysLine, begun, hearing}
-use Rattle.vf_cli_replay.specs.Lines.{octets_line, shut_line}
+use Rattle.vf_cli_calling.specs.Calling.{Calling, begun, hearing}
+use Rattle.vf_cli_calling.specs.Lines.{octets_line, shut_line}
+use Rattle.vf_cli_replay.specs.Saying.{SaysLine}
 
 -- THE CALLING ENDS of an incarnation, by their links
 abbrev pub Ends : Type 0

@@ -1,9 +1,9 @@
 //! An incarnation of the responder: it is opened over a disk, and things happen on its links until it stops or they are through.
-use crate::caller::Caller;
-use crate::lines::{append_octets, append_shut};
+use crate::saying::say;
 use indexmap::IndexMap;
 use std::alloc::Global;
 use vf_base::{Moment, NoMemory};
+use vf_cli_calling::{Caller, append_octets, append_shut};
 use vf_cli_script::{Act, Life, LinkKind, LinkLine};
 use vf_disk::{CrashForm, MemoryDisk};
 use vf_responder::{Event, Reply, RespondError, Responder};
@@ -241,22 +241,5 @@ fn goes_on(replies: &[Reply], place: usize) -> bool {
     match replies.get(place + 1) {
         Some(next) => next.link == reply.link,
         None => false,
-    }
-}
-
-/// A calling end says what a line has it say.
-fn say(
-    alloc: Global,
-    caller: &mut Caller,
-    act: &Act,
-    octets: &mut Vec<u8>,
-) -> Result<(), NoMemory> {
-    match act {
-        Act::Said { messages, .. } => caller.say_all(alloc, messages.as_slice(), octets),
-        Act::Check { .. } => caller.check(alloc, octets),
-        Act::Acknowledge { point, .. } => caller.acknowledge(alloc, *point, octets),
-        Act::Restart { point, .. } => caller.restart(alloc, *point, octets),
-        Act::Pass { .. } => caller.pass(alloc, octets),
-        _ => Ok(()),
     }
 }

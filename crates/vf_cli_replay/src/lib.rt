@@ -2,11 +2,8 @@
 //! is heard on its links.
 #![tactic(auto)]
 
-mod base;
-mod caller;
 mod incarnation;
-mod lines;
 mod replaying;
-mod requests;
+mod saying;
 
 pub use replaying::replay;
