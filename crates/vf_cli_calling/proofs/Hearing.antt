@@ -15,6 +15,7 @@ use Rattle.vf_tpkt.specs.Wanting.{lacking}
 use Rattle.vf_cli_calling.specs.Calling.{Calling, Heard, hearing, noted, noted_at, octet_heard, point_of, preceded, told}
 use Rattle.vf_cli_calling.specs.Lines.{heard_line}
 use Rattle.vf_cli_calling.specs.Represents.{Hears, Represents, Tells}
+use Rattle.vf_cli_calling.specs.declared.base.Base.{Base}
 use Rattle.vf_cli_calling.specs.declared.caller.Caller.{Caller}
 
 abbrev heard_nothing : Calling → Heard
@@ -81,26 +82,34 @@ few_heard link calling (octet ∷ later) (inr last) =
     subst (λ (a : Association). (later ≡ []) ⊎ (is_ended a.exchange.ending ≡ true)) (sym (told_stays link (received calling fed) fed.indications)) last.last in
     heard_last link heard later over ∙ ap (λ (f : Fed). heard_as link calling f) (sym last.whole)
 
-pub heard_few : (link : ℕ) (caller caller' caller'' : Caller) (calling : Calling) (octets : List ℕ) (indications : List Indication) (answers text text' : List ℕ)
+pub heard_few : (link : ℕ) (caller caller' caller'' : Caller) (calling : Calling) (octets : List ℕ) (before indications slice : List Indication) (answers answers' text text' : List ℕ)
     → Represents caller calling → length octets ≤ lacking caller.stack.transport.packet
-    → FewTellLast caller.stack calling.association octets → TellsRead Initiator calling.association octets
-    → Feeds (octets_received (side_of caller.stack) calling.association octets) [] [] caller'.stack indications answers → IsSame caller.stack.exchange caller'.stack.exchange
-    → caller'.sync ≡ caller.sync → caller'.base ≡ caller.base
-    → ((now : Calling) → Represents caller' now → AreRead indications → Hears (told link now indications) text caller'' text')
+    → FewTellLast caller.stack calling.association octets → TellsRead Initiator calling.association octets → before ≡ []
+    → Feeds (octets_received (side_of caller.stack) calling.association octets) before answers caller'.stack indications answers' → IsSame caller.stack.exchange caller'.stack.exchange
+    → caller'.sync ≡ caller.sync → caller'.base ≡ caller.base → slice ≡ indications
+    → ((now : Calling) → Represents caller' now → AreRead slice → Hears (told link now slice) text caller'' text')
     → Hears (hearing link calling octets) text caller'' text'
-heard_few link caller caller' caller'' calling octets indications answers text text' is few law read feeds same sync base tells =
+heard_few link caller caller' caller'' calling octets before indications slice answers answers' text text' is few law read none feeds same sync base sliced tells =
     let a : Association = calling.association in
     let fed : Fed = octets_received Initiator a octets in
-    let f : Feeds fed [] [] caller'.stack indications answers =
-    subst (λ (s : TokenSide). Feeds (octets_received s a octets) [] [] caller'.stack indications answers) is.side feeds in
+    let f1 : Feeds fed before answers caller'.stack indications answers' =
+    subst (λ (s : TokenSide). Feeds (octets_received s a octets) before answers caller'.stack indications answers') is.side feeds in
+    let f : Feeds fed [] answers caller'.stack indications answers' =
+    subst (λ (b : List Indication). Feeds fed b answers caller'.stack indications answers') none f1 in
     let lasts : TellsLast Initiator a octets = subst (λ (s : TokenSide). TellsLast s a octets) is.side (law is.association few) in
     let now : Represents caller' (received calling fed) =
     record { association = f.represents; side = same.0 ∙ is.side; offer = same.1 ∙ is.offer; sync = sync ∙ is.sync; base = base ∙ is.base } in
-    let were_read : AreRead indications = subst AreRead (sym f.indications) read.0 in
-    let heard : Hears (told link (received calling fed) indications) text caller'' text' = tells (received calling fed) now were_read in
-    let told_so : told link (received calling fed) indications ≡ hearing link calling octets =
-    ap (λ (i : List Indication). told link (received calling fed) i) f.indications ∙ sym (few_heard link calling octets lasts) in
+    let all : slice ≡ fed.indications = sliced ∙ f.indications in
+    let were_read : AreRead slice = subst AreRead (sym all) read.0 in
+    let heard : Hears (told link (received calling fed) slice) text caller'' text' = tells (received calling fed) now were_read in
+    let told_so : told link (received calling fed) slice ≡ hearing link calling octets =
+    ap (λ (i : List Indication). told link (received calling fed) i) all ∙ sym (few_heard link calling octets lasts) in
     subst (λ (h : Heard). Hears h text caller'' text') told_so heard
+
+pub tells_so : (link : ℕ) (caller' : Caller) (now : Calling) (indication : Indication) (text text' : List ℕ) → Represents caller' now
+    → text' ≡ text ++ heard_line link caller'.base indication → Tells link now indication text caller' text'
+tells_so link caller' now indication text text' is e =
+    record { line_is = e ∙ ap (λ (b : Base). text ++ heard_line link b indication) is.base; represents = is }
 
 -- ---- from indication to indication
 
