@@ -6,7 +6,7 @@ use Rattle.std.proofs.Math.ListN.{drop_of_length-le}
 use Rattle.vf_elements.specs.declared.message.Message.{Message}
 use Rattle.vf_session.specs.declared.units.TokenSide.{TokenSide}
 use Rattle.vf_session.specs.declared.units.TokenSide.TheVariants.{Initiator}
-use Rattle.vf_stack.specs.Represents.{IsSame, Represents as IsStackOf, offer_of, side_of}
+use Rattle.vf_stack.specs.Represents.{IsSame, offer_of, side_of}
 use Rattle.vf_stack.specs.Sending.{May, octets_sent}
 use Rattle.vf_stack.specs.Sends.{Sends as IsSentBy}
 use Rattle.vf_stack.specs.declared.request.Request.{Request}

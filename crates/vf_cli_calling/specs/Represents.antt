@@ -1,5 +1,5 @@
 -- Which calling ends one represents, and what its calls owe for each of them.
-use Rattle.std.specs.Prelude.{◌≡◌, ℕ, Bool, true, false, List, [], ◌∷◌, ◌++◌}
+use Rattle.std.specs.Prelude.{◌≡◌, ℕ, Bool, true, false, List, ◌++◌}
 use Rattle.vf_session.specs.declared.units.TokenSide.TheVariants.{Initiator}
 use Rattle.vf_stack.specs.Represents.{Represents as IsStackOf, offer_of, side_of}
 use Rattle.vf_stack.specs.Sending.{octets_sent}

@@ -123,8 +123,7 @@ impl Caller {
     fn offer(&mut self, alloc: Global, request: &Request, out: &mut Vec<u8>) -> Result<(), NoMemory>
         ensures { (calling : Calling) → Represents self.old calling → OnOk result (Speaks (SendsOne calling request.now) out.old.items self.new out.new.items) }
     {
-        let sent = self.send(alloc, request, out)?;
-        let _ = sent;
+        let _sent = self.send(alloc, request, out)?;
         Ok(())
     }
 

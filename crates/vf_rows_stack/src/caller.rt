@@ -133,7 +133,11 @@ impl Conversation {
         self.take(alloc, row)?;
         text.push_str(format!(in alloc; "{row} = {}", self.called.told)?.as_str())?;
         for octet in &self.lines {
-            text.push(if *octet == b'\n' { ';' } else { char::from(*octet) })?;
+            text.push(if *octet == b'\n' {
+                ';'
+            } else {
+                char::from(*octet)
+            })?;
         }
         text.push('\n')?;
         self.called.told.clear();
