@@ -1,6 +1,6 @@
 //! Writing the canonical spelling of a value, from its end to its start, so that each length is known when it is
 //! written.
-ghost use Rattle.std.specs.Prelude.{◌≡◌, ◌≤◌, ◌+◌, ◌++◌, ◌↔◌, length, IsErrOf, OnOk, OnErr};
+ghost use Rattle.std.specs.Prelude.{◌≡◌, ◌≤◌, ◌+◌, ◌++◌, ◌↔◌, length, take, IsErrOf, OnOk, OnErr};
 ghost use Rattle.vf_ber.specs.Limits.{IsTooLarge};
 ghost use Rattle.vf_ber.specs.Placed.{ending_at};
 ghost use Rattle.vf_ber.specs.Spelling.{header, identifier, length_octets, spell, spells};
@@ -8,7 +8,7 @@ ghost use Rattle.vf_ber.specs.Views.{tag_of, tree_of, trees_in};
 
 use crate::measure::measure;
 use crate::{MOST_DEPTH, Tag, Value, WriteError};
-use std::alloc::Global;
+use std::alloc::{AllocError, Global};
 use vf_base::MOST_VALUE_OCTETS;
 
 /// Appends the canonical spelling of the value, which has definite lengths in the fewest octets.
@@ -23,10 +23,33 @@ pub fn write(_alloc: Global, value: &Value, out: &mut Vec<u8>) -> Result<(), Wri
         return Err(WriteError::TooLarge);
     };
     let end = out.len() + len as usize;
-    if out.resize(end, 0).is_err() {
+    if lengthen(out, len as usize).is_err() {
         return Err(WriteError::NoMemory);
     }
     let _start = put_value(value, end, out.as_mut_slice());
+    Ok(())
+}
+
+/// What room is made of before it is written over, many octets at a time.
+const ROOM: [u8; 256] = [0; 256];
+
+/// Appends room for so many octets. After an error nothing is appended.
+fn lengthen(out: &mut Vec<u8>, count: usize) -> Result<(), AllocError>
+    ensures len { OnOk result (length out.new.items ≡ length out.old.items + count) }
+    ensures kept { OnOk result (take (length out.old.items) out.new.items ≡ out.old.items) }
+    ensures err { OnErr result (out.new.items ≡ out.old.items) }
+{
+    let len = out.len();
+    out.reserve(count)?;
+    let mut left = count;
+    while left > 0 {
+        let piece = left.min(ROOM.len());
+        if out.extend_from_slice(&ROOM[..piece]).is_err() {
+            out.truncate(len);
+            return Err(AllocError);
+        }
+        left -= piece;
+    }
     Ok(())
 }
 
