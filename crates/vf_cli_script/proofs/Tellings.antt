@@ -1,0 +1,63 @@
+-- A script, one statement after another.
+use Rattle.std.specs.Prelude.{slice_get}
+use Rattle.std.proofs.Common.{◌≡◌, ◌∙◌, ◌<◌, ◌≤◌, ℕ, zero, suc, ◌+◌, Bool, true, false, List, [], ◌∷◌, ◌++◌, length, drop, Option, Some, None, Result, Ok, Err, refl, sym, ap, arith}
+use Rattle.vf_cli_script.specs.Scripts.{Progress, go_on, script_from, script_of, with_statement}
+use Rattle.vf_cli_script.specs.declared.line.Statement.{Statement}
+use Rattle.vf_cli_script.specs.declared.script.Script.{Script}
+
+-- the statement at a place, and those behind it
+pub here : (statements : List (Option Statement)) (place : ℕ) (statement : Option Statement) → slice_get statements place ≡ Some statement → drop place statements ≡ statement ∷ drop (place + 1) statements
+here [] zero statement is = absurd cc
+here [] (suc place) statement is = absurd cc
+here (first ∷ later) zero statement is = λ i. first_of (is i) ∷ later
+  where
+    first_of : Option (Option Statement) → Option Statement
+    first_of None = first
+    first_of (Some s) = s
+here (first ∷ later) (suc place) statement is =
+    let next : suc (place + 1) ≡ suc place + 1 = omega arith in
+    here later place statement is ∙ ap (λ (n : ℕ). statement ∷ drop n (first ∷ later)) next
+
+-- a line that is good
+pub script_more : (told : Result Script ℕ) (so_far more : Progress) (place : ℕ) (statements after : List (Option Statement)) (statement : Option Statement)
+    → told ≡ script_from so_far place (drop place statements) → slice_get statements place ≡ Some statement → drop (place + 1) after ≡ drop (place + 1) statements
+    → with_statement so_far statement (drop (place + 1) after) ≡ Some more → told ≡ script_from more (place + 1) (drop (place + 1) after)
+unfolding script_from
+script_more told so_far more place statements after statement is out same good =
+    is ∙ ap (script_from so_far place) (here statements place statement out ∙ ap (λ (l : List (Option Statement)). statement ∷ l) (sym same))
+    ∙ ap (λ (next : Option Progress). go_on next (place + 1) (λ (p : Progress). script_from p (place + 1) (drop (place + 1) after))) good
+
+-- one that is bad
+pub script_bad : (told : Result Script ℕ) (so_far : Progress) (place : ℕ) (statements after : List (Option Statement)) (statement : Option Statement)
+    → told ≡ script_from so_far place (drop place statements) → slice_get statements place ≡ Some statement → drop (place + 1) after ≡ drop (place + 1) statements
+    → with_statement so_far statement (drop (place + 1) after) ≡ None → told ≡ Err (place + 1)
+unfolding script_from
+script_bad told so_far place statements after statement is out same bad =
+    is ∙ ap (script_from so_far place) (here statements place statement out ∙ ap (λ (l : List (Option Statement)). statement ∷ l) (sym same))
+    ∙ ap (λ (next : Option Progress). go_on next (place + 1) (λ (p : Progress). script_from p (place + 1) (drop (place + 1) after))) bad
+
+-- no line is left
+pub script_whole : (told : Result Script ℕ) (so_far : Progress) (place : ℕ) (statements : List (Option Statement)) → told ≡ script_from so_far place (drop place statements) → length statements ≤ place
+    → told ≡ Ok (script_of so_far)
+unfolding script_from
+script_whole told so_far place statements is all = is ∙ ap (script_from so_far place) (drop_all place statements all)
+  where
+    drop_all : (n : ℕ) (l : List (Option Statement)) → length l ≤ n → drop n l ≡ []
+    drop_all zero [] few = refl
+    drop_all zero (s ∷ l) few = absurd (omega (arith, few))
+    drop_all (suc n) [] few = refl
+    drop_all (suc n) (s ∷ l) few = drop_all n l (omega (arith, few))
+
+-- ---- what is cut off is no script
+
+bad_end : (so_far : Progress) (before : ℕ) (statements : List (Option Statement)) (script : Script) → script_from so_far before (statements ++ None ∷ []) ≡ Ok script → ⊥
+unfolding script_from
+bad_end so_far before [] script is = cc
+bad_end so_far before (statement ∷ later) script is = by (with_statement so_far statement (later ++ None ∷ [])) is
+  where
+    by : (next : Option Progress) → go_on next (before + 1) (λ (p : Progress). script_from p (before + 1) (later ++ None ∷ [])) ≡ Ok script → ⊥
+    by None is = cc
+    by (Some p) is = bad_end p (before + 1) later script is
+
+pub no_script : (so_far : Progress) (statements front : List (Option Statement)) (script : Script) → statements ≡ front ++ None ∷ [] → script_from so_far 0 statements ≡ Ok script → ⊥
+no_script so_far statements front script end is = bad_end so_far 0 front script (ap (script_from so_far 0) (sym end) ∙ is)
