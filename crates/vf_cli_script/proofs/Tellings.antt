@@ -1,9 +1,13 @@
 -- A script, one statement after another.
 use Rattle.std.specs.Prelude.{slice_get}
-use Rattle.std.proofs.Common.{◌≡◌, ◌∙◌, ◌<◌, ◌≤◌, ℕ, zero, suc, ◌+◌, Bool, true, false, List, [], ◌∷◌, ◌++◌, length, drop, Option, Some, None, Result, Ok, Err, refl, sym, ap, arith}
-use Rattle.vf_cli_script.specs.Scripts.{Progress, go_on, script_from, script_of, with_statement}
+use Rattle.std.proofs.Common.{◌≡◌, ◌∙◌, ◌<◌, ◌≤◌, ℕ, zero, suc, ◌+◌, Bool, true, false, List, [], ◌∷◌, ◌++◌, length, drop, Option, Some, None, Result, Ok, Err, refl, sym, ap, arith, ⊎_elim}
+use Rattle.std.proofs.lemmas.Bool.{cases_lt}
+use Rattle.vf_cli_script.specs.Scripts.{IfScript, IsTold, Progress, begun, go_on, script_from, script_of, statements_within, with_statement}
 use Rattle.vf_cli_script.specs.declared.line.Statement.{Statement}
 use Rattle.vf_cli_script.specs.declared.script.Script.{Script}
+use Rattle.vf_cli_script.specs.declared.script.Told.{Told}
+use Rattle.vf_cli_script.specs.declared.script.Told.TheVariants as tellings
+use Rattle.vf_cli_script.proofs.Feeds.{bad_last}
 
 -- the statement at a place, and those behind it
 pub here : (statements : List (Option Statement)) (place : ℕ) (statement : Option Statement) → slice_get statements place ≡ Some statement → drop place statements ≡ statement ∷ drop (place + 1) statements
@@ -50,14 +54,28 @@ script_whole told so_far place statements is all = is ∙ ap (script_from so_far
 
 -- ---- what is cut off is no script
 
+bad_next : (next : Option Progress) (number : ℕ) (later : Progress → Result Script ℕ) (script : Script) → ((p : Progress) → later p ≡ Ok script → ⊥) → go_on next number later ≡ Ok script → ⊥
+bad_next None number later script bad is = cc
+bad_next (Some p) number later script bad is = bad p is
+
 bad_end : (so_far : Progress) (before : ℕ) (statements : List (Option Statement)) (script : Script) → script_from so_far before (statements ++ None ∷ []) ≡ Ok script → ⊥
 unfolding script_from
 bad_end so_far before [] script is = cc
-bad_end so_far before (statement ∷ later) script is = by (with_statement so_far statement (later ++ None ∷ [])) is
-  where
-    by : (next : Option Progress) → go_on next (before + 1) (λ (p : Progress). script_from p (before + 1) (later ++ None ∷ [])) ≡ Ok script → ⊥
-    by None is = cc
-    by (Some p) is = bad_end p (before + 1) later script is
+bad_end so_far before (statement ∷ later) script is =
+    bad_next (with_statement so_far statement (later ++ None ∷ [])) (before + 1) (λ (p : Progress). script_from p (before + 1) (later ++ None ∷ [])) script
+    (λ p e. bad_end p (before + 1) later script e) is
 
 pub no_script : (so_far : Progress) (statements front : List (Option Statement)) (script : Script) → statements ≡ front ++ None ∷ [] → script_from so_far 0 statements ≡ Ok script → ⊥
 no_script so_far statements front script end is = bad_end so_far 0 front script (ap (script_from so_far 0) (sym end) ∙ is)
+
+-- so a script has no more octets than count
+pub whole_script : (limit : ℕ) (octets : List ℕ) (script : Script) → script_from begun 0 (statements_within limit octets) ≡ Ok script → length octets ≤ limit
+whole_script limit octets script is = ⊎_elim (λ long. let end = bad_last limit octets long in absurd (no_script begun (statements_within limit octets) end.0 script end.1 is)) (λ short. short) (cases_lt limit (length octets))
+
+pub whole_told : (limit : ℕ) (octets : List ℕ) (told : Told) → IsTold (script_from begun 0 (statements_within limit octets)) told → IfScript told (length octets ≤ limit)
+whole_told limit octets (tellings.Script script) is = whole_script limit octets script is
+whole_told limit octets (tellings.Bad number) is = tt
+
+pub if_script : (told : Told) (P Q : Type 0) → (P → Q) → IfScript told P → IfScript told Q
+if_script (tellings.Script script) P Q so is = so is
+if_script (tellings.Bad number) P Q so is = tt

@@ -1,5 +1,5 @@
 //! An input as lines.
-ghost use Rattle.std.specs.Prelude.{◌≡◌, ◌+◌, ◌<◌, IfOk, drop, length, slice_get, Some};
+ghost use Rattle.std.specs.Prelude.{◌≡◌, ◌+◌, ◌<◌, ◌&&◌, IfOk, drop, length, min, nat_eq, slice_get, Some};
 ghost use Rattle.std.specs.List.{position};
 ghost use Rattle.vf_cli_script.specs.Scripts.{is_feed, statements_in as statements_meant};
 
@@ -18,7 +18,7 @@ pub(crate) fn statements_in(
     ensures { IfOk result (λ statements. statements.items ≡ statements_meant octets.now) }
 {
     let mut statements = Vec::new(alloc);
-    let (within, beyond) = octets.split_at(octets.len().min(INPUT_LIMIT));
+    let (within, beyond) = octets.split_at(count_within(octets.len()));
     let mut rest = within;
     while let Some(place) = place_of_feed(rest) {
         let (line, later) = rest.split_at(place);
@@ -27,11 +27,24 @@ pub(crate) fn statements_in(
         statements.push(statement)?;
         rest = later;
     }
-    if rest.is_empty() && beyond.is_empty() {
+    if are_empty(rest, beyond) {
         return Ok(statements);
     }
     statements.push(None)?;
     Ok(statements)
+}
+
+/// How many octets of an input of so many count.
+fn count_within(len: usize) -> usize
+    ensures { result ≡ min len INPUT_LIMIT }
+{
+    len.min(INPUT_LIMIT)
+}
+
+fn are_empty(one: &[u8], other: &[u8]) -> bool
+    ensures { result ≡ (nat_eq (length one.now) 0 && nat_eq (length other.now) 0) }
+{
+    one.is_empty() && other.is_empty()
 }
 
 fn place_of_feed(text: &[u8]) -> Option<usize>

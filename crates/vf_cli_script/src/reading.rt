@@ -3,7 +3,7 @@ ghost use Rattle.std.specs.Prelude.{◌≡◌, Some, None, IfOk, OnOk, nat_eq};
 ghost use Rattle.std.specs.Option.{option_map};
 ghost use Rattle.indexmap.specs.IndexMap.{get};
 ghost use Rattle.vf_cli_script.specs.Readings.{if_good, progress_of};
-ghost use Rattle.vf_cli_script.specs.Scripts.{begun, is_apt, is_apt_on as apt_on, is_raw as raw_test, is_welcome, last_of as last_meant, lives_of, script_of, suits as suits_meant, with_last, with_life, with_line, with_statement, with_user};
+ghost use Rattle.vf_cli_script.specs.Scripts.{begun, is_apt, is_apt_on as apt_on, is_raw as raw_test, is_welcome, last_of as last_meant, lives_of, script_of, suits as suits_meant, with_last as last_added, with_life, with_line, with_statement, with_user};
 
 use crate::arrivals::arrivals_in;
 use crate::line::{Act, LinkKind, LinkLine, Statement, Stop};
@@ -150,14 +150,21 @@ impl Reading {
 
     /// Puts a line behind the others of the incarnation.
     fn keep(&mut self, line: LinkLine) -> Result<(), NoMemory>
-        ensures { OnOk result (self.new ≡ record self.old { life = option_map (with_last line) self.old.life }) }
+        ensures { OnOk result (self.new ≡ record self.old { life = option_map (last_added line) self.old.life }) }
     {
-        let Some(life) = &mut self.life else {
-            return Ok(());
-        };
-        life.lines.push(line)?;
+        if let Some(life) = self.life.take() {
+            self.life = Some(with_last(life, line)?);
+        }
         Ok(())
     }
+}
+
+/// An incarnation with a line behind its others.
+fn with_last(mut life: Life, line: LinkLine) -> Result<Life, NoMemory>
+    ensures { IfOk result (λ made. made ≡ last_added line life) }
+{
+    life.lines.push(line)?;
+    Ok(life)
 }
 
 fn is_apt_on(kind: Option<LinkKind>, line: &LinkLine, last: u32) -> bool

@@ -1,11 +1,12 @@
 //! A script: its users, and its incarnations with what happens in them.
-ghost use Rattle.std.specs.Prelude.{◌≡◌, List, ℕ, Some, IfOk, IsErrOf};
+ghost use Rattle.std.specs.Prelude.{◌≡◌, ◌≤◌, List, ℕ, Some, IfOk, IsErrOf, length};
 ghost use Rattle.vf_base.specs.Faults.{HasRisen, NeverFalls};
 ghost use Rattle.vf_base.specs.Streams.{IsAtEnd};
-ghost use Rattle.vf_cli_script.specs.Scripts.{IfScript, IsTold, told_by as told_meant};
+ghost use Rattle.vf_cli_script.specs.Scripts.{IfScript, IsTold, begun, script_from, told_by as told_meant};
+ghost use Rattle.vf_cli_script.specs.declared.input.TheConstants.{INPUT_LIMIT};
 
 use crate::input::{ReadError, read_all};
-use crate::line::{LinkLine, Stop};
+use crate::line::{LinkLine, Statement, Stop};
 use crate::lines::{statements_in, take_out};
 use crate::reading::Reading;
 use std::alloc::Global;
@@ -42,16 +43,26 @@ pub enum Told {
 
 /// What octets are.
 fn told_by(alloc: Global, octets: &[u8]) -> Result<Told, NoMemory>
-    ensures { IfOk result (λ told. IsTold (told_meant octets.now) told) }
+    ensures told { IfOk result (λ told. IsTold (told_meant octets.now) told) }
+    ensures whole { IfOk result (λ told. IfScript told (length octets.now ≤ INPUT_LIMIT)) }
 {
     let mut statements = statements_in(alloc, octets)?;
+    let told = told_from(alloc, statements.as_mut_slice())?;
+    Ok(told)
+}
+
+/// What lines are by what they say. Each statement is taken out.
+fn told_from(alloc: Global, statements: &mut [Option<Statement>]) -> Result<Told, NoMemory>
+    ensures { IfOk result (λ told. IsTold (script_from begun 0 statements.old) told) }
+{
     let mut reading = Reading::new(alloc);
     for place in 0..statements.len() {
-        let Some(statement) = take_out(statements.as_mut_slice(), place) else {
+        let Some(statement) = take_out(statements, place) else {
             return Ok(Told::Bad(place + 1));
         };
-        let (_, later) = statements.as_slice().split_at(place + 1);
-        if !reading.take(alloc, statement, later)? {
+        let (_, later) = statements.split_at(place + 1);
+        let good = reading.take(alloc, statement, later)?;
+        if !good {
             return Ok(Told::Bad(place + 1));
         }
     }
