@@ -37,7 +37,7 @@ lines_more is_cut all before pushed rest between later line place statement so_f
 
 take_all : (limit : ℕ) (octets : List ℕ) → take (min (length octets) limit) octets ≡ take limit octets
 take_all zero octets = let none : min (length octets) zero ≡ zero = omega arith in ap (λ (n : ℕ). take n octets) none
-take_all (suc limit) [] = refl
+take_all (suc limit) [] = let none : min (length {A = ℕ} []) (suc limit) ≡ zero = omega arith in ap (λ (n : ℕ). take {A = ℕ} n []) none
 take_all (suc limit) (octet ∷ octets) =
     let next : min (suc (length octets)) (suc limit) ≡ suc (min (length octets) limit) = omega arith in
     ap (λ (n : ℕ). take n (octet ∷ octets)) next ∙ ap (λ (l : List ℕ). octet ∷ l) (take_all limit octets)
@@ -83,23 +83,32 @@ front_same limit octets rest all is long =
     let cut : nat_lt limit (length octets) ≡ nat_lt limit (length all) = grind (arith, nat_tests, count, long) in
     λ i. said_in (cut i) (sym same i)
 
-cut_end : (line : List ℕ) (lines : List (List ℕ)) → (front : List (Option Statement)) × (said_by true (line ∷ lines) ≡ front ++ None ∷ [])
-cut_end line [] = ([], by (nat_eq (length line) 0))
+bad_rest : (line : List ℕ) → unended true line ≡ None ∷ []
+bad_rest line = by (nat_eq (length line) 0)
   where
-    by : (b : Bool) → (if b && false then [] else None ∷ []) ≡ None ∷ []
+    by : (b : Bool) → (let rest : List (Option Statement) = if b && false then [] else None ∷ [] in rest) ≡ None ∷ []
     by true = refl
     by false = refl
-cut_end line (other ∷ others) = let later = cut_end other others in (statement_of line ∷ later.0, ap (λ (l : List (Option Statement)). statement_of line ∷ l) later.1)
 
-some_end : (parts : List (List ℕ)) → 0 < length parts → (front : List (Option Statement)) × (said_by true parts ≡ front ++ None ∷ [])
+pub record EndsBadly (statements : List (Option Statement)) : Type 0 where
+  pub front : List (Option Statement)
+  pub is : statements ≡ front ++ None ∷ []
+
+cut_end : (line : List ℕ) (lines : List (List ℕ)) → EndsBadly (said_by true (line ∷ lines))
+cut_end line [] = record { front = []; is = bad_rest line }
+cut_end line (other ∷ others) =
+    let later = cut_end other others in
+    record { front = statement_of line ∷ later.front; is = ap (λ (l : List (Option Statement)). statement_of line ∷ l) later.is }
+
+some_end : (parts : List (List ℕ)) → 0 < length parts → EndsBadly (said_by true parts)
 some_end [] some = absurd (omega (arith, some))
 some_end (line ∷ lines) some = cut_end line lines
 
 -- its last line is bad
-pub bad_last : (limit : ℕ) (octets : List ℕ) → limit < length octets → (front : List (Option Statement)) × (statements_within limit octets ≡ front ++ None ∷ [])
+pub bad_last : (limit : ℕ) (octets : List ℕ) → limit < length octets → EndsBadly (statements_within limit octets)
 unfolding statements_within
 bad_last limit octets long =
     let parts = slice_split is_feed (take limit octets) in
     let cut : nat_lt limit (length octets) ≡ true = grind (arith, nat_tests, long) in
     let end = some_end parts (some_parts is_feed (take limit octets)) in
-    (end.0, ap (λ (b : Bool). said_by b parts) cut ∙ end.1)
+    record { front = end.front; is = ap (λ (b : Bool). said_by b parts) cut ∙ end.is }

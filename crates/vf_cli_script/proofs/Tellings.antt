@@ -70,7 +70,7 @@ no_script so_far statements front script end is = bad_end so_far 0 front script 
 
 -- so a script has no more octets than count
 pub whole_script : (limit : ℕ) (octets : List ℕ) (script : Script) → script_from begun 0 (statements_within limit octets) ≡ Ok script → length octets ≤ limit
-whole_script limit octets script is = ⊎_elim (λ long. let end = bad_last limit octets long in absurd (no_script begun (statements_within limit octets) end.0 script end.1 is)) (λ short. short) (cases_lt limit (length octets))
+whole_script limit octets script is = ⊎_elim (λ long. let end = bad_last limit octets long in absurd (no_script begun (statements_within limit octets) end.front script end.is is)) (λ short. short) (cases_lt limit (length octets))
 
 pub whole_told : (limit : ℕ) (octets : List ℕ) (told : Told) → IsTold (script_from begun 0 (statements_within limit octets)) told → IfScript told (length octets ≤ limit)
 whole_told limit octets (tellings.Script script) is = whole_script limit octets script is

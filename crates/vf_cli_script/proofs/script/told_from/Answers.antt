@@ -1,5 +1,5 @@
 use Rattle.std.specs.Prelude.{slice_get}
-use Rattle.std.proofs.Common.{◌≡◌, ◌∙◌, ◌+◌, ◌≤◌, Bool, false, true, not, List, Option, Result, Some, None, Ok, ap, arith, drop, length, refl, sym}
+use Rattle.std.proofs.Common.{◌≡◌, ◌∙◌, ◌+◌, ◌≤◌, Bool, List, Option, Some, None, Ok, ap, arith, drop, length, refl, sym}
 use Rattle.vf_cli_script.specs.Readings.{if_good, progress_of}
 use Rattle.vf_cli_script.specs.Scripts.{Progress, begun, script_from, with_statement}
 use Rattle.vf_cli_script.specs.declared.line.Statement.{Statement}
@@ -16,27 +16,17 @@ pub returns-then-not-good : goal.returns-then-not-good
 returns-then-not-good c =
     let before = progress_of c.loop-place.reading in
     let statement : Option Statement = Some c.in-Some.statement in
-    let bad : c.in_ok-good.good ≡ false = by c.in_ok-good.good c.if-not-good.true in
     script_bad (script_from begun 0 c.args.statements.now) before c.loop-place.place c.loop-place.statements c.take_out.new.statements statement c.loop-place.invariant
     c.in-Some.ensures.out c.in-Some.ensures.later
-    (ap (with_statement before statement) (sym c.split_at.ensures.back) ∙ c.in_ok-good.ensures ∙ ap (λ (b : Bool). if_good b (progress_of c.take.new.self)) bad)
-  where
-    by : (b : Bool) → not b ≡ true → b ≡ false
-    by true is = sym is
-    by false is = refl
+    (ap (with_statement before statement) (sym c.split_at.ensures.back) ∙ c.in_ok-good.ensures ∙ ap (λ (b : Bool). if_good b (progress_of c.take.new.self)) c.if-not-good.true)
 
 pub loop-place-preserved : goal.loop-place-preserved
 loop-place-preserved c =
     let before = progress_of c.loop-place.reading in
     let statement : Option Statement = Some c.in-Some.statement in
-    let good : c.in_ok-good.good ≡ true = by c.in_ok-good.good c.if-not-good.false in
     script_more (script_from begun 0 c.args.statements.now) before (progress_of c.take.new.self) c.loop-place.place c.loop-place.statements c.take_out.new.statements statement c.loop-place.invariant
     c.in-Some.ensures.out c.in-Some.ensures.later
-    (ap (with_statement before statement) (sym c.split_at.ensures.back) ∙ c.in_ok-good.ensures ∙ ap (λ (b : Bool). if_good b (progress_of c.take.new.self)) good)
-  where
-    by : (b : Bool) → not b ≡ false → b ≡ true
-    by true is = refl
-    by false is = sym is
+    (ap (with_statement before statement) (sym c.split_at.ensures.back) ∙ c.in_ok-good.ensures ∙ ap (λ (b : Bool). if_good b (progress_of c.take.new.self)) c.if-not-good.false)
 
 pub returns : goal.returns
 returns c =
