@@ -1,5 +1,5 @@
-//! `init`, `list`, `dockets` and `drop`, through the top call. What they read and print, and what a stop leaves, is tried beside their
-//! functions.
+//! `init`, `list`, `dockets`, `drop` and `replay`, through the top call. What they read and print, and what a stop leaves, is
+//! tried beside their functions.
 use crate::call::{Printed, call_on, only};
 use crate::rows::lines_of;
 use std::alloc::Global;
@@ -30,6 +30,8 @@ drop --store s --activity 7 | ann | |  1 | refused 27/ | ann
 drop --store s --activity=7 --user=ann | ann | |  1 | refused 27/ | ann
 drop --store s --activity 7 | F | |  8 | not a store 1/ | F
 dialogue       | x   | A200/    |  7 | A503800166/    | x
+replay         | x   | life 6 lose/arrive 1 plain/said 1 0 A00380010F/said 1 0 AA0C810161A207800528C27B0503/ |  0 | reply 1 A10381010F/stopped/files 0/ | x
+replay         | x   | life/arrive 1 raw/end 2/ | 11 | bad line 3/ | x
 list           | ann |          |  2 | usage/         | ann
 ";
 
@@ -96,7 +98,7 @@ fn commands_over_a_store(rt: HostRuntime) -> Result<(), Fail> {
             count = count.saturating_add(1);
         }
     }
-    assert_eq!(rt; count, 15);
+    assert_eq!(rt; count, 17);
     Ok(())
 }
 

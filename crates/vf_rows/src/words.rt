@@ -45,6 +45,8 @@ drop --store=s --activity=0
 drop --store=s --activity=2147483648
 drop --store=s --user=u
 drop --store=s --activity=1 --password=p
+replay script
+replay --store=s
 put --name=
 put --store=s --host=h --port=1 --name=a
 put --store=s --host=h --port=0 --name=a --user=u
@@ -77,7 +79,7 @@ fn words_outside_the_grammar(rt: HostRuntime) -> Result<(), Fail> {
         assert!(rt; prints_usage(rt.alloc(), words)?, "{words}");
         count = count.saturating_add(1);
     }
-    assert_eq!(rt; count, 61);
+    assert_eq!(rt; count, 63);
     Ok(())
 }
 
@@ -118,7 +120,8 @@ fn what_commands_over_a_store_want(rt: HostRuntime) -> Result<(), NoMemory> {
 }
 
 /// Each with its words: they are within the grammar, and want this host and this port, or none.
-const WITHIN: [(&str, &str, u16); 8] = [
+const WITHIN: [(&str, &str, u16); 9] = [
+    ("replay", "", 0),
     ("put --store=s --host=h --port=1 --name=a --user=u", "h", 1),
     (
         "get --store=s --host=h.i --port=65535 --name=a --user=u --password=p --kind=1 --tries=0",
