@@ -73,6 +73,7 @@ fn told_from(alloc: Global, statements: &mut [Option<Statement>]) -> Result<Told
 /// Reads a script (profile), to its end or to the octet behind the most that one may have.
 pub fn read_script<I: Source>(alloc: Global, input: &mut I) -> Result<Told, ReadError>
     ensures told { (octets : List ℕ) → I.left input.old ≡ Some octets → IfOk result (λ told. IsTold (told_meant octets) told) }
+    ensures some { IfOk result (λ told. (octets : List ℕ) × IsTold (told_meant octets) told) }
     ensures end { IfOk result (λ told. IfScript told (IsAtEnd (I.left input.new))) }
     ensures falls { NeverFalls (I.fault_count input.old) (I.fault_count input.new) }
     ensures cause { IsErrOf result ReadError.Failed → HasRisen (I.fault_count input.old) (I.fault_count input.new) }

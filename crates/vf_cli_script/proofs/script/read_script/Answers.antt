@@ -17,6 +17,9 @@ returns-clause-told g c = λ octets is.
     subst (λ (l : List (Option Statement)). IsTold (script_from begun 0 l) c.in_ok-told.told)
     (ap statements_in c.as_slice.ensures.value ∙ same c.in_ok-octets.octets.items octets (c.in_ok-octets.ensures.octets octets is)) c.in_ok-told.ensures.told
 
+pub returns-clause-some : goal.returns-clause-some
+returns-clause-some g c = (c.as_slice.result.now, c.in_ok-told.ensures.told)
+
 pub returns-clause-end : goal.returns-clause-end
 returns-clause-end g c =
     if_script c.in_ok-told.told (length c.as_slice.result.now ≤ INPUT_LIMIT) (IsAtEnd (g.I.Source.left c.read_all.new.input))
