@@ -1,4 +1,8 @@
-pub mod Bases
-pub mod Lines
-pub mod Calling
+pub mod Saying
 pub mod Running
+pub mod Living
+pub mod Replayed
+pub mod Halting
+pub mod Hearing
+pub mod Standing
+pub mod Users

@@ -1,37 +1,21 @@
 //! An incarnation of the responder: it is opened over a disk, and things happen on its links until it stops or they are through.
-use crate::caller::Caller;
-use crate::lines::{append_octets, append_shut};
+ghost use Rattle.std.specs.Prelude.{◌≡◌, IfOk, false};
+ghost use Rattle.vf_cli_replay.specs.Living.{Lives, LivesOpened};
+ghost use Rattle.vf_cli_replay.specs.Standing.{HasLived, Keeps, LivesOn, may_leave, shown, with_stop};
+ghost use Rattle.vf_filestore.specs.State.{State};
+ghost use Rattle.vf_incarnations.specs.Laws.{MayBegin};
+ghost use Rattle.vf_responder.specs.Represents.{Represents};
+ghost use Rattle.vf_responder.specs.Serving.{unheard};
+ghost use Rattle.vf_store.specs.StoreState.{IsRepresented};
+
+use crate::halt::{append_halt, halt_of};
+use crate::links::Links;
 use indexmap::IndexMap;
 use std::alloc::Global;
-use vf_base::{Moment, NoMemory};
-use vf_cli_script::{Act, Life, LinkKind, LinkLine};
+use vf_base::NoMemory;
+use vf_cli_script::{Life, Stop};
 use vf_disk::{CrashForm, MemoryDisk};
-use vf_responder::{Event, Reply, RespondError, Responder};
-
-/// How an incarnation ends before its last line.
-#[derive(Clone, Copy, Debug, PartialEq, Eq)]
-enum Halt {
-    /// The disk stopped.
-    Stopped,
-    /// The store is full.
-    Full,
-}
-
-/// The links of an incarnation.
-#[derive(Drop)]
-struct Running {
-    responder: Responder<MemoryDisk>,
-    /// The calling ends, by their links.
-    callers: IndexMap<u32, Caller>,
-}
-
-/// The first moment.
-fn beginning() -> Moment {
-    let Ok(moment) = Moment::of(0) else {
-        unreachable!()
-    };
-    moment
-}
+use vf_responder::Responder;
 
 /// Lives an incarnation over a disk, and appends the lines of what is heard; gives what its end leaves of the disk.
 pub(crate) fn live(
@@ -39,24 +23,52 @@ pub(crate) fn live(
     life: &Life,
     disk: MemoryDisk,
     text: &mut Vec<u8>,
-) -> Result<MemoryDisk, NoMemory> {
-    let mut disk = disk;
-    let mut form = CrashForm::Keep;
-    if let Some(stop) = life.stop {
-        disk.stop(stop.call);
-        form = stop.form;
-    }
-    let disk = match Responder::open(alloc, disk, life.limit) {
-        Ok(responder) => live_in(alloc, life, responder, text)?,
-        Err((disk, error)) => {
-            append_halt(halt_of(error)?, text)?;
-            disk
-        }
-    };
+) -> Result<MemoryDisk, NoMemory>
+    ensures { (state : State) → Keeps disk state → IfOk result (λ left. HasLived life.now state text.old.items left text.new.items) }
+{
+    let disk = live_on(alloc, life, disk, text)?;
     if disk.lacked() {
         return Err(NoMemory);
     }
-    disk.crash(form)
+    disk.crash(form_of(life.stop))
+}
+
+/// What a crash leaves of the disk at the end. Where no call of it was stopped all of it is synced.
+fn form_of(stop: Option<Stop>) -> CrashForm {
+    match stop {
+        Some(stop) => stop.form,
+        None => CrashForm::Keep,
+    }
+}
+
+/// The disk with the stop that is asked for. Calls count from 1.
+fn stopping(disk: MemoryDisk, stop: Option<Stop>) -> MemoryDisk
+    ensures { result ≡ with_stop stop disk }
+{
+    let mut disk = disk;
+    if let Some(stop) = stop {
+        disk.stop(stop.call.max(1));
+    }
+    disk
+}
+
+/// The same as `live`, up to its end; gives the disk as it is then.
+fn live_on(
+    alloc: Global,
+    life: &Life,
+    disk: MemoryDisk,
+    text: &mut Vec<u8>,
+) -> Result<MemoryDisk, NoMemory>
+    ensures { (state : State) → Keeps disk state → IfOk result (λ left. LivesOn (Lives life.now state) state text.old.items left text.new.items) }
+{
+    let disk = stopping(disk, life.stop);
+    match Responder::open(alloc, disk, life.limit) {
+        Ok(responder) => live_in(alloc, life, responder, text),
+        Err((disk, error)) => {
+            append_halt(life.stop, halt_of(error)?, text)?;
+            Ok(disk)
+        }
+    }
 }
 
 /// The same, once the responder is open.
@@ -65,198 +77,19 @@ fn live_in(
     life: &Life,
     responder: Responder<MemoryDisk>,
     text: &mut Vec<u8>,
-) -> Result<MemoryDisk, NoMemory> {
-    let mut running = Running {
+) -> Result<MemoryDisk, NoMemory>
+    ensures { (state : State) → Represents responder (unheard state) → IsRepresented shown may_leave responder.store → responder.store.journal.limit ≡ life.now.limit
+        → IfOk result (λ left. LivesOn (LivesOpened life.now.stop life.now state) state text.old.items left text.new.items) }
+{
+    let mut links = Links {
         responder,
         callers: IndexMap::new(alloc),
     };
     for line in life.lines.as_slice() {
-        if let Some(halt) = running.happens(alloc, line, text)? {
-            append_halt(halt, text)?;
-            break;
+        if let Some(halt) = links.happens(alloc, line, text)? {
+            append_halt(life.stop, halt, text)?;
+            return Ok(links.responder.close());
         }
     }
-    Ok(running.responder.close())
-}
-
-/// What an error of the responder is; want of memory is none.
-fn halt_of(error: RespondError) -> Result<Halt, NoMemory> {
-    match error {
-        RespondError::DiskFault => Ok(Halt::Stopped),
-        RespondError::Full { .. } => Ok(Halt::Full),
-        RespondError::NoMemory => Err(NoMemory),
-        RespondError::NotAStore { .. } => Ok(Halt::Stopped),
-    }
-}
-
-/// Appends the line of an incarnation that ends before its last line.
-fn append_halt(halt: Halt, text: &mut Vec<u8>) -> Result<(), NoMemory> {
-    match halt {
-        Halt::Stopped => text.extend_from_slice(b"stopped\n")?,
-        Halt::Full => text.extend_from_slice(b"full\n")?,
-    }
-    Ok(())
-}
-
-impl Running {
-    /// Something happens on a link; says where the incarnation ends by it.
-    fn happens(
-        &mut self,
-        alloc: Global,
-        line: &LinkLine,
-        text: &mut Vec<u8>,
-    ) -> Result<Option<Halt>, NoMemory> {
-        let link = line.link;
-        match &line.act {
-            Act::Arrive(kind) => self.arrive(alloc, link, *kind, text),
-            Act::Octets { moment, octets } => {
-                self.come(alloc, link, *moment, octets.as_slice(), text)
-            }
-            Act::End => self.deliver(alloc, Event::Ended { link }, text),
-            Act::Said { moment, .. } => self.says(alloc, *moment, line, text),
-            Act::Check { moment } => self.says(alloc, *moment, line, text),
-            Act::Acknowledge { moment, .. } => self.says(alloc, *moment, line, text),
-            Act::Restart { moment, .. } => self.says(alloc, *moment, line, text),
-            Act::Pass { moment } => self.says(alloc, *moment, line, text),
-        }
-    }
-
-    /// A link arrives. The first octets of its calling end come at moment 0.
-    fn arrive(
-        &mut self,
-        alloc: Global,
-        link: u32,
-        kind: LinkKind,
-        text: &mut Vec<u8>,
-    ) -> Result<Option<Halt>, NoMemory> {
-        let halt = self.deliver(alloc, Event::Arrived { link }, text)?;
-        if halt.is_some() || kind == LinkKind::Raw {
-            return Ok(halt);
-        }
-        let mut octets = Vec::new(alloc);
-        let caller = Caller::new(alloc, kind == LinkKind::Sync, &mut octets)?;
-        self.callers.insert(link, caller)?;
-        self.come(alloc, link, beginning(), octets.as_slice(), text)
-    }
-
-    /// The calling end of a link says something, where there is one and it may.
-    fn says(
-        &mut self,
-        alloc: Global,
-        moment: Moment,
-        line: &LinkLine,
-        text: &mut Vec<u8>,
-    ) -> Result<Option<Halt>, NoMemory> {
-        let mut octets = Vec::new(alloc);
-        let Some(caller) = self.callers.get_mut(&line.link) else {
-            return Ok(None);
-        };
-        say(alloc, caller, &line.act, &mut octets)?;
-        self.come(alloc, line.link, moment, octets.as_slice(), text)
-    }
-
-    /// Octets come on a link, where there are any.
-    fn come(
-        &mut self,
-        alloc: Global,
-        link: u32,
-        moment: Moment,
-        octets: &[u8],
-        text: &mut Vec<u8>,
-    ) -> Result<Option<Halt>, NoMemory> {
-        self.deliver(
-            alloc,
-            Event::Octets {
-                link,
-                moment,
-                octets,
-            },
-            text,
-        )
-    }
-
-    /// An event comes to the responder, and what it says is heard.
-    fn deliver(
-        &mut self,
-        alloc: Global,
-        event: Event<'_>,
-        text: &mut Vec<u8>,
-    ) -> Result<Option<Halt>, NoMemory> {
-        let mut replies = Vec::new(alloc);
-        match self.responder.deliver(alloc, event, &mut replies) {
-            Ok(()) => {
-                self.hear_all(alloc, replies.as_slice(), text)?;
-                Ok(None)
-            }
-            Err(error) => {
-                let halt = halt_of(error)?;
-                Ok(Some(halt))
-            }
-        }
-    }
-
-    /// What is said on a link in neighbouring replies is heard at once.
-    fn hear_all(
-        &mut self,
-        alloc: Global,
-        replies: &[Reply],
-        text: &mut Vec<u8>,
-    ) -> Result<(), NoMemory> {
-        let mut octets = Vec::new(alloc);
-        for place in 0..replies.len() {
-            let reply = &replies[place];
-            octets.extend_from_slice(reply.octets.as_slice())?;
-            if !goes_on(replies, place) {
-                self.hear(alloc, reply.link, octets.as_slice(), text)?;
-                octets.clear();
-            }
-            if reply.shut {
-                append_shut(alloc, reply.link, text)?;
-            }
-        }
-        Ok(())
-    }
-
-    /// What is said on a link is heard by its calling end, or told as octets where it has none.
-    fn hear(
-        &mut self,
-        alloc: Global,
-        link: u32,
-        octets: &[u8],
-        text: &mut Vec<u8>,
-    ) -> Result<(), NoMemory> {
-        match self.callers.get_mut(&link) {
-            Some(caller) => caller.hear(alloc, link, octets, text),
-            None => append_octets(alloc, link, octets, text),
-        }
-    }
-}
-
-/// Whether the reply after this one goes on with what it says.
-fn goes_on(replies: &[Reply], place: usize) -> bool {
-    let reply = &replies[place];
-    if reply.shut {
-        return false;
-    }
-    match replies.get(place + 1) {
-        Some(next) => next.link == reply.link,
-        None => false,
-    }
-}
-
-/// A calling end says what a line has it say.
-fn say(
-    alloc: Global,
-    caller: &mut Caller,
-    act: &Act,
-    octets: &mut Vec<u8>,
-) -> Result<(), NoMemory> {
-    match act {
-        Act::Said { messages, .. } => caller.say_all(alloc, messages.as_slice(), octets),
-        Act::Check { .. } => caller.check(alloc, octets),
-        Act::Acknowledge { point, .. } => caller.acknowledge(alloc, *point, octets),
-        Act::Restart { point, .. } => caller.restart(alloc, *point, octets),
-        Act::Pass { .. } => caller.pass(alloc, octets),
-        _ => Ok(()),
-    }
+    Ok(links.responder.close())
 }

@@ -2,11 +2,12 @@
 //! is heard on its links.
 #![tactic(auto)]
 
-mod base;
-mod caller;
+mod ends;
+mod halt;
+mod hearing;
 mod incarnation;
-mod lines;
+mod links;
 mod replaying;
-mod requests;
+mod saying;
 
 pub use replaying::replay;

@@ -2,19 +2,11 @@
 ghost use Rattle.std.specs.Prelude.{◌≡◌, ◌++◌, ◌∷◌, [], IfOk, OnOk, codes, decimal};
 ghost use Rattle.std.specs.String.{string_bytes};
 ghost use Rattle.hex.specs.Hex.{encode_upper};
-ghost use Rattle.vf_ber.specs.Limits.{IsTooLarge};
-ghost use Rattle.vf_ber.specs.Spelling.{spell};
-ghost use Rattle.vf_ber.specs.Views.{tree_of};
-ghost use Rattle.vf_elements.specs.ElementValue.{IsWritable, value as element_value};
-ghost use Rattle.vf_pdu.specs.PduMeaning.{IsInRange};
-ghost use Rattle.vf_pdu.specs.PduValue.{value};
 ghost use Rattle.vf_cli_printing.specs.Printed.{line_feed};
-ghost use Rattle.vf_cli_replay.specs.Lines.{ack_line, check_line, octets_line, reply_line, shut_line};
+ghost use Rattle.vf_cli_calling.specs.Lines.{ack_line, check_line, octets_line, reply_line, shut_line};
 
 use std::alloc::Global;
-use vf_base::{Element, NoMemory};
-use vf_ber::{Value, WriteError};
-use vf_pdu::Pdu;
+use vf_base::NoMemory;
 
 /// Appends the line of a message.
 pub(crate) fn append_reply(
@@ -37,8 +29,8 @@ fn reply_head(alloc: Global, link: u32) -> Result<String, NoMemory>
     Ok(text)
 }
 
-/// Appends the line of octets on a raw link, where there are any.
-pub(crate) fn append_octets(
+/// Appends the line of octets on a link without a calling end, where there are any.
+pub fn append_octets(
     alloc: Global,
     link: u32,
     octets: &[u8],
@@ -120,7 +112,7 @@ fn ack_text(alloc: Global, link: u32, check: u64) -> Result<String, NoMemory>
 }
 
 /// Appends the line of a link that is shut.
-pub(crate) fn append_shut(alloc: Global, link: u32, text: &mut Vec<u8>) -> Result<(), NoMemory>
+pub fn append_shut(alloc: Global, link: u32, text: &mut Vec<u8>) -> Result<(), NoMemory>
     ensures { OnOk result (text.new.items ≡ text.old.items ++ shut_line link) }
 {
     let line = shut_text(alloc, link)?;
@@ -133,41 +125,4 @@ fn shut_text(alloc: Global, link: u32) -> Result<String, NoMemory>
 {
     let text = format!(in alloc; "shut {link}\n")?;
     Ok(text)
-}
-
-/// Appends the octets of a PDU in its canonical spelling.
-pub(crate) fn put_pdu(alloc: Global, pdu: &Pdu, octets: &mut Vec<u8>) -> Result<(), NoMemory>
-    requires { IsInRange pdu.now }
-    ensures { OnOk result (octets.new.items ≡ octets.old.items ++ spell (value pdu.now)) }
-{
-    let made = vf_pdu::to_value(alloc, pdu)?;
-    vf_pdu::value_is_within();
-    put_value(alloc, &made, octets)?;
-    Ok(())
-}
-
-/// Appends the octets of a data element in its canonical spelling.
-pub(crate) fn put_element(
-    alloc: Global,
-    element: &Element,
-    octets: &mut Vec<u8>,
-) -> Result<(), NoMemory>
-    requires writable { IsWritable element.now }
-    requires short { IsTooLarge (element_value element.now) → ⊥ }
-    ensures { OnOk result (octets.new.items ≡ octets.old.items ++ spell (element_value element.now)) }
-{
-    let made = vf_elements::to_value(alloc, element)?;
-    put_value(alloc, &made, octets)?;
-    Ok(())
-}
-
-fn put_value(alloc: Global, value: &Value, octets: &mut Vec<u8>) -> Result<(), NoMemory>
-    requires { IsTooLarge (tree_of value.now) → ⊥ }
-    ensures { OnOk result (octets.new.items ≡ octets.old.items ++ spell (tree_of value.now)) }
-{
-    match vf_ber::write(alloc, value, octets) {
-        Ok(()) => Ok(()),
-        Err(WriteError::TooLarge) => unreachable!(),
-        Err(WriteError::NoMemory) => Err(NoMemory),
-    }
 }

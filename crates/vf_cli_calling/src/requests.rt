@@ -1,9 +1,6 @@
 //! What the calling end of a link sends to say a message.
-ghost use Rattle.std.specs.Option.{option_map};
-ghost use Rattle.std.specs.Prelude.{◌≡◌, IfOk, Some, if◌then◌else◌};
-ghost use Rattle.vf_stack.specs.declared.indication.Item.TheVariants as items;
-ghost use Rattle.vf_stack.specs.declared.request.Request.TheVariants as requests;
-ghost use Rattle.vf_cli_replay.specs.Calling.{Calling, pdu_request, request_of as request_meant, restart_of};
+ghost use Rattle.std.specs.Prelude.{◌≡◌, IfOk};
+ghost use Rattle.vf_cli_calling.specs.Calling.{pdu_request, request_of as request_meant, restart_by};
 
 use crate::base::Base;
 use std::alloc::Global;
@@ -20,7 +17,7 @@ pub(crate) fn request_of(
     base: Base,
     message: &Message,
 ) -> Result<Option<Request>, NoMemory>
-    ensures { IfOk result (λ request. (caller : Calling) → caller.sync ≡ sync → caller.base ≡ base → request ≡ request_meant caller message.now) }
+    ensures { IfOk result (λ request. request ≡ request_meant sync base message.now) }
 {
     match message {
         Message::Pdu(pdu) => request_of_pdu(alloc, sync, base, pdu),
@@ -38,7 +35,7 @@ fn request_of_pdu(
     base: Base,
     pdu: &Pdu,
 ) -> Result<Option<Request>, NoMemory>
-    ensures { IfOk result (λ request. (caller : Calling) → caller.sync ≡ sync → caller.base ≡ base → request ≡ pdu_request caller pdu.now) }
+    ensures { IfOk result (λ request. request ≡ pdu_request sync base pdu.now) }
 {
     let copy = pdu.copy(alloc)?;
     let copy = Boxed::new(alloc, copy)?;
@@ -55,7 +52,7 @@ fn request_of_pdu(
 
 /// F-RESTART: a resynchronization with sync, data without it.
 fn restart(sync: bool, serial: Option<u32>, pdu: Boxed<Pdu>) -> Option<Request>
-    ensures { result ≡ (if sync then option_map (λ serial. requests.Restart serial pdu) serial else Some (requests.Item (items.Pdu pdu))) }
+    ensures { result ≡ restart_by sync serial pdu }
 {
     if !sync {
         return Some(Request::Item(Item::Pdu(pdu)));

@@ -1,7 +1,7 @@
 -- Which serial numbers the checks of a transfer have (ISO 8327): they go on from the number that the next check had when the
 -- transfer was asked for, or went on after a recovery at a point (ISO 8571-3; where they begin is profile).
 use Rattle.std.specs.Prelude.{ℕ, ◌+◌, ◌-◌, ◌&&◌, nat_le, Option, Some, None, if◌then◌else◌}
-use Rattle.vf_cli_replay.specs.declared.base.Base.{Base}
+use Rattle.vf_cli_calling.specs.declared.base.Base.{Base}
 
 -- a link that has had no transfer counts from the first number
 abbrev pub first : Base

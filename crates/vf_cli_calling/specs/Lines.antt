@@ -1,16 +1,19 @@
 -- The lines that `replay` prints (profile).
-use Rattle.std.specs.Prelude.{ℕ, List, [], ◌∷◌, ◌++◌, Option, None, Some, codes, decimal}
+use Rattle.std.specs.Prelude.{ℕ, nat_lt, List, [], ◌∷◌, ◌++◌, length, Option, None, Some, codes, decimal, if◌then◌else◌}
 use Rattle.hex.specs.Hex.{encode_upper}
+use Rattle.vf_base.specs.declared.element.Element.{Element}
+use Rattle.vf_base.specs.declared.limits.TheConstants.{MOST_VALUE_OCTETS}
 use Rattle.vf_ber.specs.Spelling.{spell}
 use Rattle.vf_elements.specs.ElementValue.{value as element_value}
 use Rattle.vf_pdu.specs.PduValue.{value}
 use Rattle.vf_pdu.specs.declared.pdu.Pdu.{Pdu}
 use Rattle.vf_stack.specs.declared.indication.Indication.{Indication}
 use Rattle.vf_stack.specs.declared.indication.Indication.TheVariants.{Associate, Accepted, Refused, Release, Released, Item, Check, Acknowledged, Restart, Restarted, Cancel, Cancelled, Abort, Fault}
+use Rattle.vf_stack.specs.declared.indication.Item.{Item as ItemOf}
 use Rattle.vf_stack.specs.declared.indication.Item.TheVariants as items
 use Rattle.vf_cli_printing.specs.Printed.{line_feed}
-use Rattle.vf_cli_replay.specs.Bases.{check_of}
-use Rattle.vf_cli_replay.specs.declared.base.Base.{Base}
+use Rattle.vf_cli_calling.specs.Bases.{check_of}
+use Rattle.vf_cli_calling.specs.declared.base.Base.{Base}
 
 -- a word and a link, and what stands after them
 abbrev pub link_line : (word : List ℕ) → (link : ℕ) → List ℕ → List ℕ
@@ -49,9 +52,17 @@ abbrev pub maybe_line : ℕ → Option Pdu → List ℕ
 maybe_line link None = []
 maybe_line link (Some pdu) = pdu_line link pdu
 
+-- One that passes the limit of values has no line; none comes, since a TSDU has that limit.
+abbrev pub element_line : ℕ → Element → List ℕ
+element_line link element =
+    let octets = spell (element_value element) in if nat_lt MOST_VALUE_OCTETS (length octets) then [] else reply_line link octets
+
+abbrev pub item_line : ℕ → ItemOf → List ℕ
+item_line link (items.Pdu pdu) = pdu_line link pdu
+item_line link (items.Element element) = element_line link element
+
 abbrev pub heard_line : ℕ → Base → Indication → List ℕ
-heard_line link base (Item (items.Pdu pdu)) = pdu_line link pdu
-heard_line link base (Item (items.Element element)) = reply_line link (spell (element_value element))
+heard_line link base (Item item) = item_line link item
 heard_line link base (Check serial) = check_line link (check_of base serial)
 heard_line link base (Acknowledged serial) = ack_line link (check_of base serial)
 heard_line link base (Accepted sync pdu) = pdu_line link pdu

@@ -1,6 +1,6 @@
 //! Which serial numbers the checks of a transfer have (ISO 8327; ISO 8571-3, checkpoints).
 ghost use Rattle.std.specs.Prelude.{◌≡◌, ◌+◌};
-ghost use Rattle.vf_cli_replay.specs.Bases.{check_of, first, serial_at, serial_of};
+ghost use Rattle.vf_cli_calling.specs.Bases.{check_of, first, serial_at, serial_of};
 
 /// The greatest serial number.
 const MOST_SERIAL: u64 = 999_999;

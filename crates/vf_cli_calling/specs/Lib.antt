@@ -1,0 +1,4 @@
+pub mod Bases
+pub mod Lines
+pub mod Calling
+pub mod Represents
