@@ -1,0 +1,7 @@
+pub mod CallerEnds
+pub mod Replies
+pub mod Going
+pub mod Serving
+pub mod Plans
+pub mod Lived
+pub mod InARow

@@ -1,5 +1,5 @@
 -- What the code keeps while an incarnation runs, and what its calls owe, in the words of lives.
-use Rattle.std.specs.Prelude.{◌≡◌, ℕ, false, max, List, [], ◌++◌, Option, None, Some}
+use Rattle.std.specs.Prelude.{◌≡◌, ℕ, max, List, [], ◌++◌, Option, None, Some}
 use Rattle.vf_base.specs.declared.events.ScriptEvent.{ScriptEvent}
 use Rattle.vf_cli_script.specs.declared.line.Act.{Act}
 use Rattle.vf_cli_script.specs.declared.line.Stop.{Stop}
