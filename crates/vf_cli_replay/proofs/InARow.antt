@@ -7,7 +7,8 @@ use Rattle.vf_filestore.specs.State.{State}
 use Rattle.vf_incarnations.proofs.Lives.{incarnations_are_runs}
 use Rattle.vf_incarnations.specs.Incarnations.{after_all, left_by}
 use Rattle.vf_cli_replay.specs.Living.{LiveOn, Lived, Lives, episodes_of, lines_of}
-use Rattle.vf_cli_replay.specs.Standing.{HasLived, HaveLived, Keeps, LivesOn, may_leave}
+use Rattle.vf_cli_replay.specs.Disks.{Keeps, may_leave}
+use Rattle.vf_cli_replay.specs.Standing.{HasLived, HaveLived, LivesOn}
 
 -- ---- A CRASH leaves what the next life begins with.
 fresh_first : (disk : Memory) (octets : List ℕ) → disk ≡ fresh octets [] → disk ≡ fresh disk.first []

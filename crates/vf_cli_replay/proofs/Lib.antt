@@ -5,3 +5,4 @@ pub mod Serving
 pub mod Plans
 pub mod Lived
 pub mod InARow
+pub mod Delivering

@@ -16,7 +16,8 @@ use Rattle.vf_cli_replay.proofs.Serving.{nothing_leaves, store_leaves, through_l
 use Rattle.vf_cli_replay.specs.Halting.{halt_line}
 use Rattle.vf_cli_replay.specs.Living.{GoesOn, IsFull, Lived, Lives, LivesOpened, LivesWith, StopsFrom, StopsWithin, ended_within, opened, stopped_at_once, through}
 use Rattle.vf_cli_replay.specs.Running.{events_of}
-use Rattle.vf_cli_replay.specs.Standing.{HasEnded, HasGone, LivesOn, may_leave}
+use Rattle.vf_cli_replay.specs.Disks.{may_leave}
+use Rattle.vf_cli_replay.specs.Standing.{HasEnded, HasGone, LivesOn}
 use Rattle.vf_cli_replay.specs.declared.halt.Halt.{Halt}
 use Rattle.vf_cli_replay.specs.declared.halt.Halt.TheVariants as halts
 use Rattle.vf_cli_replay.specs.declared.links.Links.{Links}

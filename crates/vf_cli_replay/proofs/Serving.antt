@@ -20,7 +20,7 @@ use Rattle.vf_cli_calling.specs.Calling.{Calling}
 use Rattle.vf_cli_script.specs.declared.line.Act.{Act}
 use Rattle.vf_cli_replay.specs.Living.{opened}
 use Rattle.vf_cli_replay.specs.Running.{Begins, Brings, Comes, Course, Event, Goes, GoesAlong, IsWithin, Running, Speaks, Spoken, answered_if, end_on, no_course, then_on}
-use Rattle.vf_cli_replay.specs.Standing.{may_leave, shown}
+use Rattle.vf_cli_replay.specs.Disks.{may_leave, shown}
 
 -- ---- WHAT COMES changes the calling ends alone.
 spoken_serves : (running : Running) (link : ℕ) (act : Act) (caller : Option Calling) (now : Running) (brought : Option ScriptEvent) → Spoken running link act caller now brought → now.serving ≡ running.serving

@@ -4,5 +4,6 @@ pub mod Living
 pub mod Replayed
 pub mod Halting
 pub mod Hearing
+pub mod Disks
 pub mod Standing
 pub mod Users

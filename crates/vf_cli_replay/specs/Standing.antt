@@ -4,14 +4,11 @@ use Rattle.vf_base.specs.declared.events.ScriptEvent.{ScriptEvent}
 use Rattle.vf_cli_script.specs.declared.line.Act.{Act}
 use Rattle.vf_cli_script.specs.declared.line.Stop.{Stop}
 use Rattle.vf_cli_script.specs.declared.script.Life.{Life}
-use Rattle.vf_disk.specs.Disk.{LeavesShown}
-use Rattle.vf_disk.specs.Memory.{Memory, fresh, state as state_of}
+use Rattle.vf_disk.specs.Memory.{Memory}
 use Rattle.vf_disk.specs.Plans.{sooner}
-use Rattle.vf_disk.specs.State.{IsImage}
 use Rattle.vf_filestore.specs.State.{State}
 use Rattle.vf_filestore.specs.Tables.{tables_of}
 use Rattle.vf_incarnations.specs.Incarnations.{after_all, left_by}
-use Rattle.vf_incarnations.specs.Laws.{MayBegin}
 use Rattle.vf_responder.specs.Along.{RepresentsAlong}
 use Rattle.vf_responder.specs.Represents.{Kept}
 use Rattle.vf_responder.specs.Represents as responder
@@ -22,6 +19,7 @@ use Rattle.vf_store.specs.StoreState.{IsRepresented}
 use Rattle.vf_cli_calling.specs.Calling.{Calling}
 use Rattle.vf_cli_replay.specs.Saying.{SaysLine}
 use Rattle.vf_cli_replay.specs.Living.{IsFull, LiveOn, Lived, Lives, LivesOpened, episodes_of, lines_of}
+use Rattle.vf_cli_replay.specs.Disks.{Keeps, may_leave, shown}
 use Rattle.vf_cli_replay.specs.Hearing.{AreEnds}
 use Rattle.vf_cli_replay.specs.Running.{Course, Event, GoesAlong, IsWithin, Running, answered, end_on, with_end}
 use Rattle.vf_cli_replay.specs.declared.halt.Halt.{Halt}
@@ -29,12 +27,6 @@ use Rattle.vf_cli_replay.specs.declared.halt.Halt.TheVariants as halts
 use Rattle.vf_cli_replay.specs.declared.links.Links.{Links}
 
 -- ---- AN INCARNATION that runs on a disk in memory, which represents its tables
-abbrev pub shown : Memory → Option (List ℕ)
-shown disk = Some (state_of disk).shown
-
-abbrev pub may_leave : Memory → List ℕ → Type 0
-may_leave disk = IsImage (state_of disk)
-
 pub record Stands (links : Links) (running : Running) : Type 0 where
   pub responder : responder.Represents links.responder running.serving
   pub stored : IsRepresented shown may_leave links.responder.store
@@ -90,14 +82,7 @@ pub record IsLived (Allowed : Lived → Type 0) (state : State) (text text' imag
 pub record LivesOn (Allowed : Lived → Type 0) (state : State) (text : List ℕ) (disk : Memory) (text' : List ℕ) : Type 0 where
   pub each : (image : List ℕ) → may_leave disk image → IsLived Allowed state text text' image
 
--- ---- A DISK between two lives: all of it is synced, and represents the tables of a state that a life may begin with.
-pub record Keeps (disk : Memory) (state : State) : Type 0 where
-  pub image : List ℕ
-  pub disk_is : disk ≡ fresh image []
-  pub synced : LeavesShown (Some image) (may_leave disk)
-  pub represents : ImageRepresents image (tables_of state)
-  pub begins : MayBegin state
-
+-- ---- THE STOP that is asked for. Calls count from 1.
 abbrev pub with_stop : Option Stop → Memory → Memory
 with_stop None disk = disk
 with_stop (Some stop) disk = record disk { plan = record disk.plan { until_stop = Some (sooner (max stop.call 1) disk.plan.until_stop) } }

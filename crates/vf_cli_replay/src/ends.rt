@@ -1,12 +1,17 @@
 //! The disk of a script before its first incarnation, and the files after its last.
-ghost use Rattle.std.specs.Prelude.{◌≡◌, ◌++◌, [], List, IfOk, OnOk, true};
+ghost use Rattle.std.specs.Prelude.{◌≡◌, ◌++◌, ◌∷◌, [], List, IfOk, OnOk, codes, decimal};
+ghost use Rattle.std.specs.String.{string_bytes};
 ghost use Rattle.vf_attr.specs.declared.file.File.{File as FileMeant};
 ghost use Rattle.vf_cli_replay.specs.Replayed.{files_lines};
-ghost use Rattle.vf_cli_replay.specs.Standing.{Keeps};
+ghost use Rattle.vf_cli_printing.specs.Printed.{line_feed};
+ghost use Rattle.vf_cli_replay.specs.Disks.{Keeps, may_leave, shown};
 ghost use Rattle.vf_cli_replay.specs.Users.{AreGood};
 ghost use Rattle.vf_filestore.specs.Runs.{beginning};
 ghost use Rattle.vf_filestore.specs.State.{State};
+ghost use Rattle.vf_store.specs.StoreState.{IsRepresented};
 ghost use Rattle.vf_store_commands.specs.Listing.{IsInOrder};
+ghost use Rattle.vf_store_commands.specs.Making.{users_alone};
+ghost use Rattle.vf_tables.specs.Entries.{no_tables};
 
 use std::alloc::Global;
 use vf_attr::File;

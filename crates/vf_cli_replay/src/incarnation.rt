@@ -1,7 +1,8 @@
 //! An incarnation of the responder: it is opened over a disk, and things happen on its links until it stops or they are through.
 ghost use Rattle.std.specs.Prelude.{◌≡◌, IfOk, false};
 ghost use Rattle.vf_cli_replay.specs.Living.{Lives, LivesOpened};
-ghost use Rattle.vf_cli_replay.specs.Standing.{HasLived, Keeps, LivesOn, may_leave, shown, with_stop};
+ghost use Rattle.vf_cli_replay.specs.Disks.{Keeps, may_leave, shown};
+ghost use Rattle.vf_cli_replay.specs.Standing.{HasLived, LivesOn, with_stop};
 ghost use Rattle.vf_filestore.specs.State.{State};
 ghost use Rattle.vf_incarnations.specs.Laws.{MayBegin};
 ghost use Rattle.vf_responder.specs.Represents.{Represents};

@@ -1,7 +1,8 @@
 //! The links of an incarnation of the responder: what comes on them, and what is heard.
+ghost use Rattle.std.specs.Option.{option_map};
 ghost use Rattle.std.specs.Prelude.{◌≡◌, ◌∷◌, [], IfOk};
 ghost use Rattle.vf_base.specs.declared.events.ScriptEvent.TheVariants as script;
-ghost use Rattle.vf_cli_replay.specs.Running.{Begins, Comes, Running, Speaks, events_by, moment_of};
+ghost use Rattle.vf_cli_replay.specs.Running.{Begins, Comes, Running, Speaks, arrival_of, events_by, moment_of};
 ghost use Rattle.vf_cli_replay.specs.Standing.{HasCome, HasHappened, HasSpoken, Stands};
 ghost use Rattle.vf_responder.specs.Events.{event_meant};
 

@@ -2,7 +2,8 @@
 ghost use Rattle.std.specs.Prelude.{◌≡◌, ◌++◌, ◌∷◌, [], List, ℕ, Some, IfOk};
 ghost use Rattle.vf_cli_printing.specs.Printed.{HasCauses, IsOneOf, Prints, bad_line};
 ghost use Rattle.vf_cli_replay.specs.Replayed.{EndsReplay, IsReplayed, OrNothing, PrintsReplay, PrintsScript};
-ghost use Rattle.vf_cli_replay.specs.Standing.{HaveLived, Keeps};
+ghost use Rattle.vf_cli_replay.specs.Disks.{Keeps};
+ghost use Rattle.vf_cli_replay.specs.Standing.{HaveLived};
 ghost use Rattle.vf_cli_replay.specs.Users.{AreGood};
 ghost use Rattle.vf_base.specs.Faults.{HasRisen};
 ghost use Rattle.vf_filestore.specs.State.{State};
