@@ -42,7 +42,7 @@ comes_well running event text text' limit links told answers stored heard =
     (it.lines, record { responder = answers.represents; stored = stored; callers = it.ends })
 
 -- ---- it can't go on. What may be left now might have been left since it began.
-left_now : (disk : Memory) (since : ℕ) (image : List ℕ) → since ≤ length disk.steps → may_leave disk image → LeftSince disk since image
+pub left_now : (disk : Memory) (since : ℕ) (image : List ℕ) → since ≤ length disk.steps → may_leave disk image → LeftSince disk since image
 left_now disk since image le now =
     let all = take_all (length disk.steps) disk.steps (omega arith) in
     (length disk.steps, le, omega arith, subst (λ (steps : List Step). IsImage (state_of disk.first steps) image) (sym all) now)

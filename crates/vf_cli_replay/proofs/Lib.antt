@@ -6,3 +6,7 @@ pub mod Plans
 pub mod Lived
 pub mod InARow
 pub mod Delivering
+pub mod Opening
+pub mod Told
+pub mod Printing
+pub mod Firsts

@@ -46,7 +46,7 @@ neither : (a b : Bool) → (a || b) ≡ false → a ≡ false
 neither true b is = absurd cc
 neither false b is = refl
 
-abbrev plan_of : Option Stop → List ℕ → StopPlan
+abbrev pub plan_of : Option Stop → List ℕ → StopPlan
 plan_of stop image = (with_stop stop (fresh image [])).plan
 
 pub opens_later : (stop : Option Stop) (image : List ℕ) (plan : Option StopPlan) → SyncsAndLooks (Some (plan_of stop image)) plan false → at_once stop ≡ false
