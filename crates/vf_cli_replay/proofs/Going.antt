@@ -1,9 +1,10 @@
 -- How events that come to a responder are joined with what comes next.
-use Rattle.std.proofs.Common.{◌≡◌, ◌∙◌, ℕ, ◌+◌, List, [], ◌∷◌, ◌++◌, take, drop, Option, None, Some, ap, append_assoc, append-nil, refl, subst, sym}
+use Rattle.std.proofs.Common.{◌≡◌, ◌∙◌, ℕ, List, [], ◌∷◌, ◌++◌, Option, None, Some, Result, Ok, Err, IfOk, ap, append_assoc, append-nil, refl, subst, sym}
 use Rattle.vf_base.specs.declared.events.ScriptEvent.{ScriptEvent}
+use Rattle.vf_cli_script.specs.declared.line.Act.{Act}
 use Rattle.vf_cli_script.specs.declared.line.LinkLine.{LinkLine}
 use Rattle.vf_disk.specs.Memory.{Memory}
-use Rattle.vf_cli_replay.specs.Running.{Brings, Course, Event, GoesAlong, IsWithin, Running, answered, answered_if, events_by, events_of, no_course, then_on}
+use Rattle.vf_cli_replay.specs.Running.{Brings, Comes, Course, Event, GoesAlong, IsWithin, Running, Speaks, answered, answered_if, events_by, events_of, no_course, then_on}
 use Rattle.vf_cli_replay.specs.Standing.{HasCome, HasEnded, HasGone, HasHappened, Stands}
 use Rattle.vf_cli_replay.specs.declared.halt.Halt.{Halt}
 use Rattle.vf_cli_replay.specs.declared.links.Links.{Links}
@@ -137,3 +138,23 @@ line_ended running before line later text limit between links text' text'' halt 
     events_append before (line ∷ later) ∙ sym (append_assoc (events_of before) (events_by line.link line.act) (events_of later)) in
     subst (λ (l : List Event). HasEnded running l text limit halt links.responder.store.disk text'') (sym all)
     (ended_before running (events_of before ++ events_by line.link line.act) (events_of later) text limit halt links.responder.store.disk text'' one)
+
+-- ---- WHAT A LINE has happen, by what it is
+module _ {E : Type 0} (running : Running) (link : ℕ) (text : List ℕ) (limit : ℕ) (links : Links) (text' : List ℕ) (answer : Result (Option Halt) E) where
+  abbrev pub Happens : List Event → Type 0
+  Happens all = IfOk answer (HasHappened running all text limit links text')
+
+  pub line_happens : (act act' : Act) → act ≡ act' → Happens (events_by link act') → Happens (events_by link act)
+  line_happens act act' is happens = subst (λ (a : Act). Happens (events_by link a)) (sym is) happens
+
+  -- one event comes
+  pub line_comes : (event : ScriptEvent) → IfOk answer (HasCome running event text limit links text') → Happens (Comes event ∷ [])
+  line_comes event come = by answer come
+    where
+      by : (answer : Result (Option Halt) E) → IfOk answer (HasCome running event text limit links text') → IfOk answer (HasHappened running (Comes event ∷ []) text limit links text')
+      by (Ok halt) come = event_comes running running (Comes event) event text limit links text' halt (refl, refl) come
+      by (Err error) come = tt
+
+  -- a calling end says something
+  pub line_says : (act act' : Act) → act ≡ act' → events_by link act' ≡ Speaks link act' ∷ [] → Happens (Speaks link act ∷ []) → Happens (events_by link act)
+  line_says act act' is one happens = line_happens act act' is (subst Happens (sym one) (subst (λ (a : Act). Happens (Speaks link a ∷ [])) is happens))

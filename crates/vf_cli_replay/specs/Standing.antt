@@ -10,8 +10,7 @@ use Rattle.vf_filestore.specs.State.{State}
 use Rattle.vf_filestore.specs.Tables.{tables_of}
 use Rattle.vf_incarnations.specs.Incarnations.{after_all, left_by}
 use Rattle.vf_responder.specs.Along.{RepresentsAlong}
-use Rattle.vf_responder.specs.Represents.{Kept}
-use Rattle.vf_responder.specs.Represents as responder
+use Rattle.vf_responder.specs.Represents.{Represents}
 use Rattle.vf_responder.specs.Run.{trail}
 use Rattle.vf_responder.specs.Serving.{Serving}
 use Rattle.vf_store.specs.Represented.{Represents as ImageRepresents}
@@ -28,7 +27,7 @@ use Rattle.vf_cli_replay.specs.declared.links.Links.{Links}
 
 -- ---- AN INCARNATION that runs on a disk in memory, which represents its tables
 pub record Stands (links : Links) (running : Running) : Type 0 where
-  pub responder : responder.Represents links.responder running.serving
+  pub responder : Represents links.responder running.serving
   pub stored : IsRepresented shown may_leave links.responder.store
   pub callers : AreEnds links.callers.entries running.ends
 
