@@ -1,5 +1,6 @@
 -- The disk of a script before its first life.
-use Rattle.std.proofs.Common.{◌≡◌, ◌∙◌, ℕ, true, List, [], ◌∷◌, Option, Some, length, ap, refl, arith, sym, subst}
+use Rattle.std.proofs.Common.{◌≡◌, ◌∙◌, ℕ, true, List, [], ◌∷◌, Option, Some, Result, Ok, Err, IfOk, length, ap, refl, arith, sym, subst}
+use Rattle.vf_base.specs.declared.errors.NoMemory.{NoMemory as OutOfMemory}
 use Rattle.vf_disk.specs.Disk.{LeavesShown}
 use Rattle.vf_disk.specs.Memory.{Memory, fresh}
 use Rattle.vf_filestore.specs.Runs.{beginning}
@@ -32,6 +33,13 @@ first_keeps users store left octets good tables stands is may synced = record {
   begins = new_stores_begin users good.valid good.ranged;
 }
 
+pub first_crashes : (users : List User) (store : StoreState Memory) (disk : Memory) (octets : List ℕ) (answer : Result Memory OutOfMemory) → AreGood users
+    → (store.tables ≡ users_alone users) × IsRepresented shown may_leave store → disk ≡ store.disk → IfOk answer (λ left. left ≡ fresh octets [])
+    → IfOk answer (λ left. may_leave disk left.first) → IfOk answer (λ left. LeavesShown (Some left.first) (may_leave left)) → IfOk answer (λ left. Keeps left (beginning users []))
+first_crashes users store disk octets (Ok left) good has same is may synced =
+    first_keeps users store left octets good has.0 has.1 is (subst (λ (d : Memory). may_leave d left.first) same may) synced
+first_crashes users store disk octets (Err error) good has same is may synced = tt
+
 pub no_users : (users : List User) → length users ≡ 0 → users ≡ []
 no_users [] none = refl
 no_users (user ∷ users) none = absurd (omega (arith, none))
@@ -48,3 +56,13 @@ users_fit tables changes users makes good empty is =
         let law = makes (users_alone users) good.kept in
         let valid : is_valid (users_alone users) ≡ true = first_of (is_valid (users_alone users)) _ good.kept in
         (record { each = law.0; valid = subst (λ (t : Tables). is_valid t ≡ true) (sym law.1) valid }, law.1)
+
+pub users_made : (tables : Tables) (changes : List Change) (users : List User) (new : StoreState Memory) → SnapshotMakes → AreGood users → tables ≡ no_tables → changes ≡ snapshot (users_alone users)
+    → new.tables ≡ after_all tables changes → (AreFitting tables changes → IsRepresented shown may_leave new) → (new.tables ≡ users_alone users) × IsRepresented shown may_leave new
+users_made tables changes users new makes good empty is made stands =
+    let fits = users_fit tables changes users makes good empty is in (made ∙ fits.1, stands fits.0)
+
+-- without users nothing is written
+pub none_made : (users : List User) (store : StoreState Memory) → length users ≡ 0 → store.tables ≡ no_tables → IsRepresented shown may_leave store
+    → (store.tables ≡ users_alone users) × IsRepresented shown may_leave store
+none_made users store none empty stands = (empty ∙ ap users_alone (sym (no_users users none)), stands)

@@ -89,7 +89,7 @@ lives_on life state text text' disk later lives = record {
 
 stops_first : (stop : Option Stop) (life : Life) (state : State) → at_once stop ≡ true → LivesWith stop life state stopped_at_once
 stops_first None life state first = absurd cc
-stops_first (Some stop) life state first = subst (λ (b : Bool). StopsFrom b life state stopped_at_once) (sym first) (refl {x = stopped_at_once})
+stops_first (Some stop) life state first = let it : StopsFrom true life state stopped_at_once = refl in subst (λ (b : Bool). StopsFrom b life state stopped_at_once) (sym first) it
 
 pub lives_not : (life : Life) (state : State) (text text' : List ℕ) (disk : Memory) → at_once life.stop ≡ true → text' ≡ text ++ stopped_line
     → ((image : List ℕ) → may_leave disk image → Represents image (tables_of state)) → LivesOn (Lives life state) state text disk text'

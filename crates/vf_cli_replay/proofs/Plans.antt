@@ -1,7 +1,7 @@
 -- A stop at the first call of the disk is one in the opening of its store, and no other is.
 use Rattle.std.proofs.Common.{◌≡◌, ◌∙◌, ⊎_elim, ℕ, zero, suc, ◌+◌, ◌-◌, ◌<◌, ◌≤◌, max, Bool, true, false, nat_eq, nat_le, nat_lt, List, [], Option, None, Some, ap, refl, sym, subst, arith}
 use Rattle.std.specs.Prelude.{◌||◌, IsSome}
-use Rattle.std.proofs.lemmas.Bool.Decides.{nat_tests}
+use Rattle.std.proofs.lemmas.Bool.{eqb-true}
 use Rattle.vf_disk.specs.Calls.{SyncsAndLooks, after_looks}
 use Rattle.vf_disk.specs.Memory.{Memory, fresh}
 use Rattle.vf_disk.specs.Plans.{StopPlan, after_change, change_fails, is_after_stop, is_stopped, look_fails, planned}
@@ -32,15 +32,18 @@ look_by plan until has fails =
     λ i. look_fails (record { numbers = record { failing = sym has.none i; calls = plan.numbers.calls }; until_stop = sym has.stop i }) in
     or_none (is_after_stop until) (same ∙ fails)
 
+later_call : (call : ℕ) → 1 < call → max call 1 ≡ call
+later_call call later = omega arith
+
 first_call : (call : ℕ) → nat_le (max call 1) 1 ≡ nat_le call 1
 first_call zero = refl
 first_call (suc zero) = refl
-first_call (suc (suc call)) = grind (arith, nat_tests)
+first_call (suc (suc call)) = ap (λ (n : ℕ). nat_le n 1) (later_call (suc (suc call)) (omega arith))
 
 second_call : (call : ℕ) → nat_eq (max call 1 - 1) 0 ≡ true → nat_le call 1 ≡ true
 second_call zero is = refl
 second_call (suc zero) is = refl
-second_call (suc (suc call)) is = grind (arith, nat_tests)
+second_call (suc (suc call)) is = absurd (omega (arith, later_call (suc (suc call)) (omega arith), eqb-true (max (suc (suc call)) 1 - 1) 0 is))
 
 neither : (a b : Bool) → (a || b) ≡ false → a ≡ false
 neither true b is = absurd cc

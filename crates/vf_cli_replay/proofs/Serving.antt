@@ -44,7 +44,7 @@ then_runs : (serving : Serving) (first later : Course) → Runs serving first �
 then_runs serving first later one two = two ∙ ap (λ (s : Serving). at_end s (run later.events s)) one ∙ sym (end-append first.events later.events serving)
 
 pub course_runs : (running : Running) (events : List Event) (course : Course) → GoesAlong running events course → Runs running.serving course
-course_runs running [] course is = subst (Runs running.serving) (sym is) (refl {x = running.serving})
+course_runs running [] course is = let none : Runs running.serving (no_course running) = refl in subst (Runs running.serving) (sym is) none
 course_runs running (event ∷ events) course goes =
     let first = goes.0 in
     let here = goes.2.0 in

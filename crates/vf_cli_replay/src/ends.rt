@@ -1,5 +1,5 @@
 //! The disk of a script before its first incarnation, and the files after its last.
-ghost use Rattle.std.specs.Prelude.{◌≡◌, ◌++◌, ◌∷◌, [], List, IfOk, OnOk, codes, decimal};
+ghost use Rattle.std.specs.Prelude.{◌≡◌, ◌++◌, ◌∷◌, [], List, ℕ, Some, IfOk, OnOk, codes, decimal};
 ghost use Rattle.std.specs.String.{string_bytes};
 ghost use Rattle.vf_attr.specs.declared.file.File.{File as FileMeant};
 ghost use Rattle.vf_cli_replay.specs.Replayed.{files_lines};
@@ -8,10 +8,13 @@ ghost use Rattle.vf_cli_replay.specs.Disks.{Keeps, may_leave, shown};
 ghost use Rattle.vf_cli_replay.specs.Users.{AreGood};
 ghost use Rattle.vf_filestore.specs.Runs.{beginning};
 ghost use Rattle.vf_filestore.specs.State.{State};
+ghost use Rattle.vf_store.specs.Represented.{Represents};
 ghost use Rattle.vf_store.specs.StoreState.{IsRepresented};
 ghost use Rattle.vf_store_commands.specs.Listing.{IsInOrder};
 ghost use Rattle.vf_store_commands.specs.Making.{users_alone};
 ghost use Rattle.vf_tables.specs.Entries.{no_tables};
+ghost use Rattle.vf_tables.specs.Snapshot.{snapshot};
+ghost use Rattle.vf_tables.specs.declared.tables.Tables.{Tables as TablesMeant};
 
 use std::alloc::Global;
 use vf_attr::File;
@@ -19,7 +22,7 @@ use vf_base::NoMemory;
 use vf_disk::{CrashForm, MemoryDisk};
 use vf_store::Store;
 use vf_store_commands::text_of_files;
-use vf_tables::{Dockets, Files, Tables, Tasks, Users, snapshot_makes};
+use vf_tables::{Changes, Dockets, Files, Tables, Tasks, Users, snapshot_makes};
 
 /// A store for which no record is too long.
 const NO_LIMIT: u64 = 18_446_744_073_709_551_615;
@@ -29,9 +32,6 @@ pub(crate) fn first_disk(alloc: Global, users: Users) -> Result<MemoryDisk, NoMe
     ensures { AreGood users → IfOk result (λ disk. Keeps disk (beginning users [])) }
 {
     let store = new_store(alloc)?;
-    if users.len() == 0 {
-        return store.close().crash(CrashForm::Keep);
-    }
     let store = with_users(alloc, store, users)?;
     store.close().crash(CrashForm::Keep)
 }
@@ -41,13 +41,35 @@ fn new_store(alloc: Global) -> Result<Store<MemoryDisk>, NoMemory>
     ensures { IfOk result (λ store. (store.tables ≡ no_tables) × IsRepresented shown may_leave store) }
 {
     let mut disk = MemoryDisk::of(alloc, &[], Vec::new(alloc))?;
-    if Store::create(&mut disk).is_err() {
-        return Err(NoMemory);
+    match Store::create(&mut disk) {
+        Ok(()) => opened(alloc, disk),
+        Err(_) => Err(NoMemory),
     }
+}
+
+/// The store on a disk.
+fn opened(alloc: Global, disk: MemoryDisk) -> Result<Store<MemoryDisk>, NoMemory>
+    ensures { (image : List ℕ) (tables : TablesMeant) → shown disk ≡ Some image → Represents image tables
+        → IfOk result (λ store. (store.tables ≡ tables) × IsRepresented shown may_leave store) }
+{
     match Store::open(alloc, disk, NO_LIMIT) {
         Ok(store) => Ok(store),
         Err(_) => Err(NoMemory),
     }
+}
+
+/// The changes that make these users of the tables without entries.
+fn changes_for(alloc: Global, users: Users) -> Result<Changes, NoMemory>
+    ensures { IfOk result (λ changes. changes ≡ snapshot (users_alone users)) }
+{
+    let tables = Tables {
+        users,
+        files: Files::new(alloc),
+        dockets: Dockets::new(alloc),
+        tasks: Tasks::new(alloc),
+    };
+    let changes = tables.snapshot(alloc)?;
+    Ok(changes)
 }
 
 /// The store with these users, in one record.
@@ -60,18 +82,15 @@ fn with_users(
         → IfOk result (λ store. (store.tables ≡ users_alone users) × IsRepresented shown may_leave store) }
 {
     snapshot_makes();
-    let tables = Tables {
-        users,
-        files: Files::new(alloc),
-        dockets: Dockets::new(alloc),
-        tasks: Tasks::new(alloc),
-    };
-    let changes = tables.snapshot(alloc)?;
-    let mut store = store;
-    if store.commit(alloc, changes).is_err() {
-        return Err(NoMemory);
+    if users.len() == 0 {
+        return Ok(store);
     }
-    Ok(store)
+    let changes = changes_for(alloc, users)?;
+    let mut store = store;
+    match store.commit(alloc, changes) {
+        Ok(()) => Ok(store),
+        Err(_) => Err(NoMemory),
+    }
 }
 
 /// Appends how many files there are, and the line of each.
@@ -82,9 +101,7 @@ pub(crate) fn append_files(
 ) -> Result<(), NoMemory>
     ensures { (state : State) → Keeps disk state → OnOk result ((files : List FileMeant) × (IsInOrder state.files files × (text.new.items ≡ text.old.items ++ files_lines files))) }
 {
-    let Ok(store) = Store::open(alloc, disk, NO_LIMIT) else {
-        return Err(NoMemory);
-    };
+    let store = opened(alloc, disk)?;
     append_files_of(alloc, store.tables().files.as_slice(), text)
 }
 
