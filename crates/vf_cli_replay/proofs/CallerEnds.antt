@@ -1,5 +1,5 @@
 -- The calling ends by their links: one is taken out, and put there again.
-use Rattle.std.proofs.Common.{◌≡◌, ◌∙◌, ℕ, Bool, true, false, cond, nat_eq, List, ◌++◌, Option, None, Some, Result, Ok, Err, OnOk, refl, sym, subst}
+use Rattle.std.proofs.Common.{◌≡◌, ◌∙◌, ℕ, Bool, true, false, cond, nat_eq, List, [], ◌++◌, Option, None, Some, Result, Ok, Err, OnOk, refl, sym, subst}
 use Rattle.std.specs.Cmp.{nat_eq_equiv}
 use Rattle.vf_cli_calling.specs.Calling.{Calling, hearing}
 use Rattle.vf_cli_calling.specs.Lines.{octets_line}
@@ -66,3 +66,7 @@ heard_none link octets ends text text' new is lines are =
 pub map_ok : {T E : Type 0} (answer : Result T E) (P Q : Type 0) → (P → Q) → OnOk answer P → OnOk answer Q
 map_ok (Ok done) P Q by holds = by holds
 map_ok (Err error) P Q by holds = tt
+
+-- none at all
+pub no_ends : (callers : List (ℕ × Caller)) → callers ≡ [] → AreEnds callers []
+no_ends callers none = subst (λ (l : List (ℕ × Caller)). AreEnds l []) (sym none) (record { each = λ link. tt })

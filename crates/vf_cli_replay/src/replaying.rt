@@ -65,10 +65,10 @@ fn replayed(alloc: Global, script: Script) -> Result<Vec<u8>, NoMemory>
     ensures { AreGood script.users → IfOk result (λ text. IsReplayed script text.items) }
 {
     let Script { users, lives } = script;
-    let disk = first_disk(alloc, users)?;
+    let first = first_disk(alloc, users)?;
     let mut text = Vec::new(alloc);
-    let disk = live_all(alloc, lives.as_slice(), disk, &mut text)?;
-    append_files(alloc, disk, &mut text)?;
+    let last = live_all(alloc, lives.as_slice(), first, &mut text)?;
+    append_files(alloc, last, &mut text)?;
     Ok(text)
 }
 
