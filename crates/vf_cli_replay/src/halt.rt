@@ -30,7 +30,11 @@ pub(crate) fn halt_of(error: RespondError) -> Result<Halt, NoMemory>
 }
 
 /// Appends the line of an incarnation that ends so. Where no stop is asked for, the disk fails for want of memory alone.
-pub(crate) fn append_halt(stop: Option<Stop>, halt: Halt, text: &mut Vec<u8>) -> Result<(), NoMemory>
+pub(crate) fn append_halt(
+    stop: Option<Stop>,
+    halt: Halt,
+    text: &mut Vec<u8>,
+) -> Result<(), NoMemory>
     ensures line { OnOk result (text.new.items ≡ text.old.items ++ halt_line halt) }
     ensures asked { OnOk result (halt ≡ Halt.Stopped → IsSome stop) }
 {

@@ -88,7 +88,14 @@ pub(crate) fn hear_all(
         let reply = &replies[place];
         octets.extend_from_slice(reply.octets.as_slice())?;
         if !goes_on(reply, &replies[place + 1..]) {
-            hear_on(alloc, callers, reply.link, octets.as_slice(), reply.shut, text)?;
+            hear_on(
+                alloc,
+                callers,
+                reply.link,
+                octets.as_slice(),
+                reply.shut,
+                text,
+            )?;
             octets.clear();
         }
     }

@@ -8,8 +8,8 @@ ghost use Rattle.vf_cli_replay.specs.Users.{AreGood};
 ghost use Rattle.vf_base.specs.Faults.{HasRisen};
 ghost use Rattle.vf_filestore.specs.State.{State};
 
-use crate::incarnation::live;
 use crate::ends::{append_files, first_disk};
+use crate::incarnation::live;
 use std::alloc::Global;
 use vf_base::{NoMemory, Sink, Source};
 use vf_cli_printing::{BAD_LINE, INPUT_FAULT, NO_MEMORY, append_bad_line, print};

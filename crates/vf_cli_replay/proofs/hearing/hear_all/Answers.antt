@@ -25,7 +25,7 @@ loop-place-preserved c = λ ends are.
     let goes : c.goes_on.result ≡ goes_on reply (drop (place + 1) replies) = c.goes_on.ensures ∙ ap (goes_on reply) rest in
     let hears = c.loop-place.invariant ends are in
     elim c.if-not-goes_on.branch [
-      then-not-goes_on+in_ok-hear_on w ↦
+      | then-not-goes_on+in_ok-hear_on w ↦
           (let heard = w.in_ok-hear_on.ensures hears.now hears.are in
           let all : w.as_slice-then-not-goes_on.result.now ≡ c.loop-place.octets.items ++ reply.octets = w.as_slice-then-not-goes_on.ensures.value ∙ octets in
           let it : HasHeard (heard_on (behind c.loop-place.octets.items reply) hears.now) c.loop-place.text.items w.hear_on.new.callers.entries w.hear_on.new.text.items =

@@ -22,9 +22,12 @@ among lines place line within is =
     ∙ take-append-drop (place + 1) lines
 
 pub loop-line-init : goal.loop-line-init
-loop-line-init c = (refl, λ state represents stands.
-    none_gone (opened state) c.args.text.now.items (record { responder = c.args.responder; callers = c.new-links.result })
-    (record { responder = represents; stored = stands; callers = no_ends c.new-links.result.entries c.new-links.ensures.entries }))
+loop-line-init c = (
+  refl,
+  λ state represents stands.
+      none_gone (opened state) c.args.text.now.items (record { responder = c.args.responder; callers = c.new-links.result })
+      (record { responder = represents; stored = stands; callers = no_ends c.new-links.result.entries c.new-links.ensures.entries }),
+)
 
 pub loop-line-preserved : goal.loop-line-preserved
 loop-line-preserved c =
@@ -33,13 +36,15 @@ loop-line-preserved c =
     let place : ℕ = c.loop-line.line-index in
     let line = c.line-item.result in
     let text = c.args.text.now.items in
-    let limit = c.loop-line.links.responder.store.journal.limit in
-    (c.happens.ensures.limit ∙ invariant.0, λ state represents stands.
-        let gone = invariant.1 state represents stands in
-        let happened = subst (λ (h : Option Halt). HasHappened gone.course.after (events_by line.link line.act) c.loop-line.text.items limit c.happens.new.self c.happens.new.text.items h)
-            c.in_default.is (c.in_ok-happens.ensures.happens gone.course.after gone.stands) in
-        subst (λ (l : List LinkLine). HasGone (opened state) (events_of l) text c.happens.new.self c.happens.new.text.items) (sym (next_is lines place line c.loop-line-test.true c.line-item.is))
-        (line_gone (opened state) (take place lines) line text limit c.loop-line.links c.happens.new.self c.loop-line.text.items c.happens.new.text.items gone happened))
+    let limit = c.loop-line.links.responder.store.journal.limit in (
+      c.happens.ensures.limit ∙ invariant.0,
+      λ state represents stands.
+          let gone = invariant.1 state represents stands in
+          let happened = subst (λ (h : Option Halt). HasHappened gone.course.after (events_by line.link line.act) c.loop-line.text.items limit c.happens.new.self c.happens.new.text.items h)
+          c.in_default.is (c.in_ok-happens.ensures.happens gone.course.after gone.stands) in
+          subst (λ (l : List LinkLine). HasGone (opened state) (events_of l) text c.happens.new.self c.happens.new.text.items) (sym (next_is lines place line c.loop-line-test.true c.line-item.is))
+          (line_gone (opened state) (take place lines) line text limit c.loop-line.links c.happens.new.self c.loop-line.text.items c.happens.new.text.items gone happened),
+    )
 
 pub returns-in-Some : goal.returns-in-Some
 returns-in-Some c = λ state represents stands bound.
@@ -53,7 +58,7 @@ returns-in-Some c = λ state represents stands bound.
     let links = c.happens.new.self in
     let gone = invariant.1 state represents stands in
     let happened = subst (λ (h : Option Halt). HasHappened gone.course.after (events_by line.link line.act) c.loop-line.text.items limit links c.happens.new.text.items h)
-        c.in-Some.is (c.in_ok-happens.ensures.happens gone.course.after gone.stands) in
+    c.in-Some.is (c.in_ok-happens.ensures.happens gone.course.after gone.stands) in
     let all : take place lines ++ line ∷ drop (place + 1) lines ≡ life.lines = among lines place line c.loop-line-test.true c.line-item.is ∙ c.as_slice-line-items.ensures in
     let ended : HasEnded (opened state) (events_of life.lines) text limit c.in-Some.halt links.responder.store.disk c.happens.new.text.items =
     subst (λ (l : List LinkLine). HasEnded (opened state) (events_of l) text limit c.in-Some.halt links.responder.store.disk c.happens.new.text.items) all

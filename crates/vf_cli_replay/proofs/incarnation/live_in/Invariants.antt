@@ -14,4 +14,4 @@ abbrev pub invariant-loop-line : goal.invariant-loop-line
 invariant-loop-line l =
     (l.links.responder.store.journal.limit ≡ l.initial.links.responder.store.journal.limit)
     × ((state : State) → Represents l.initial.links.responder (unheard state) → IsRepresented shown may_leave l.initial.links.responder.store
-      → HasGone (opened state) (events_of (take l.line-index l.line-items)) l.initial.text.items l.links l.text.items)
+    → HasGone (opened state) (events_of (take l.line-index l.line-items)) l.initial.text.items l.links l.text.items)

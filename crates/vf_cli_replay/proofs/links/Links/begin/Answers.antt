@@ -24,6 +24,6 @@ returns-clause-happens c = λ running stands.
     let event : Octets link c.first_moment-moment.result c.as_slice-octets.result.now ≡ Octets link 0 (packet request) = λ i. Octets link (c.first_moment-moment.ensures i) (octets i) in
     if_ok c.deliver.result _ (HasHappened running (Begins link sync ∷ []) text limit c.deliver.new.self c.deliver.new.text.items)
     (λ halt come.
-        event_comes running now (Begins link sync) (Octets link 0 (packet request)) text limit c.deliver.new.self c.deliver.new.text.items halt (refl, refl)
-        (subst (λ (e : ScriptEvent). HasCome now e text limit c.deliver.new.self c.deliver.new.text.items halt) event come))
+    event_comes running now (Begins link sync) (Octets link 0 (packet request)) text limit c.deliver.new.self c.deliver.new.text.items halt (refl, refl)
+    (subst (λ (e : ScriptEvent). HasCome now e text limit c.deliver.new.self c.deliver.new.text.items halt) event come))
     (c.deliver.ensures.comes now standing)

@@ -16,8 +16,8 @@ returns-in-None-clause-happens c = λ running stands.
     event_comes running running arrival (Arrived link) text limit c.deliver.new.self c.deliver.new.text.items None (refl, refl) (c.in-None.ensures.comes running stands) in
     if_ok c.begin.result _ (HasHappened running (arrival ∷ Begins link c.args.sync ∷ []) text limit c.begin.new.self c.begin.new.text.items)
     (λ halt happens.
-        happens_then running (arrival ∷ []) (Begins link c.args.sync ∷ []) text limit c.deliver.new.self c.begin.new.self c.deliver.new.text.items c.begin.new.text.items halt gone
-        (subst (λ (n : ℕ). HasHappened gone.course.after (Begins link c.args.sync ∷ []) c.deliver.new.text.items n c.begin.new.self c.begin.new.text.items halt) c.deliver.ensures.limit happens))
+    happens_then running (arrival ∷ []) (Begins link c.args.sync ∷ []) text limit c.deliver.new.self c.begin.new.self c.deliver.new.text.items c.begin.new.text.items halt gone
+    (subst (λ (n : ℕ). HasHappened gone.course.after (Begins link c.args.sync ∷ []) c.deliver.new.text.items n c.begin.new.self c.begin.new.text.items halt) c.deliver.ensures.limit happens))
     (c.begin.ensures.happens gone.course.after gone.stands)
 
 pub returns-in-Some-clause-happens : goal.returns-in-Some-clause-happens

@@ -15,7 +15,7 @@ returns-in-Ok-clause-comes c = λ running stands.
     let text = c.args.text.now.items in
     let told = c.deliver.new.replies.items in
     let answers = subst (λ (old : List Reply). Answers (trail event running.serving) running.serving old links.responder told) c.new-replies.ensures.items
-        (c.in-Ok.ensures.answers running.serving stands.responder) in
+    (c.in-Ok.ensures.answers running.serving stands.responder) in
     let heard = c.in_ok-hear_all.ensures running.ends stands.callers in
     comes_well running event text c.hear_all.new.text.items c.args.self.now.responder.store.journal.limit links told answers
     (c.in-Ok.ensures.represented running.serving stands.responder stands.stored)

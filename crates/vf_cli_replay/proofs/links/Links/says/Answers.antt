@@ -14,7 +14,7 @@ returns-in_default-clause-happens c = λ running stands is.
     let act = c.args.act.now in
     let spoken = c.in_ok-speak.ensures.spoken running stands in
     let none = none_of running link act (end_on link running.ends) c.speak.new.self
-        (subst (λ o. HasSpoken running link act (option_map (λ v. v.items) o) c.speak.new.self) c.in_default.is spoken) in
+    (subst (λ o. HasSpoken running link act (option_map (λ v. v.items) o) c.speak.new.self) c.in_default.is spoken) in
     nothing_comes running (Speaks link act) c.args.text.now.items c.speak.new.self none.0 none.1
 
 pub returns-clause-happens : goal.returns-clause-happens
@@ -26,12 +26,12 @@ returns-clause-happens c = λ running stands is.
     let spoken = c.in_ok-speak.ensures.spoken running stands in
     let octets = c.in-Some.octets.items in
     let comes = comes_of running link act (end_on link running.ends) octets c.speak.new.self
-        (subst (λ o. HasSpoken running link act (option_map (λ v. v.items) o) c.speak.new.self) c.in-Some.is spoken) in
+    (subst (λ o. HasSpoken running link act (option_map (λ v. v.items) o) c.speak.new.self) c.in-Some.is spoken) in
     let event : Octets link c.args.moment c.as_slice-octets.result.now ≡ Octets link (moment_of act) octets = λ i. Octets link (is i) (c.as_slice-octets.ensures.value i) in
     let same : c.speak.new.self.responder.store.journal.limit ≡ limit = ap (λ r. r.store.journal.limit) c.speak.ensures.responder in
     if_ok c.deliver.result _ (HasHappened running (Speaks link act ∷ []) text limit c.deliver.new.self c.deliver.new.text.items)
     (λ halt come.
-        event_comes running comes.now (Speaks link act) (Octets link (moment_of act) octets) text limit c.deliver.new.self c.deliver.new.text.items halt comes.spoken
-        (subst (λ (n : ℕ). HasCome comes.now (Octets link (moment_of act) octets) text n c.deliver.new.self c.deliver.new.text.items halt) same
-        (subst (λ (e : ScriptEvent). HasCome comes.now e text c.speak.new.self.responder.store.journal.limit c.deliver.new.self c.deliver.new.text.items halt) event come)))
+    event_comes running comes.now (Speaks link act) (Octets link (moment_of act) octets) text limit c.deliver.new.self c.deliver.new.text.items halt comes.spoken
+    (subst (λ (n : ℕ). HasCome comes.now (Octets link (moment_of act) octets) text n c.deliver.new.self c.deliver.new.text.items halt) same
+    (subst (λ (e : ScriptEvent). HasCome comes.now e text c.speak.new.self.responder.store.journal.limit c.deliver.new.self c.deliver.new.text.items halt) event come)))
     (c.deliver.ensures.comes comes.now comes.stands)
