@@ -1,6 +1,6 @@
 -- The users of a script (profile): no two have one identity, there are not too many, and each has a name and a password of at most
 -- 255 octets.
-use Rattle.std.specs.Prelude.{◌≡◌, ◌≤◌, true, List, length}
+use Rattle.std.specs.Prelude.{◌≡◌, true, List, []}
 use Rattle.vf_filestore.specs.Keeping.{AreOthersValid}
 use Rattle.vf_filestore.specs.Ranges.{AreOthersRanged}
 use Rattle.vf_store_commands.specs.Making.{users_alone}

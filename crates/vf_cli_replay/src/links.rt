@@ -4,7 +4,6 @@ ghost use Rattle.std.specs.Prelude.{◌≡◌, ◌∷◌, [], IfOk};
 ghost use Rattle.vf_base.specs.declared.events.ScriptEvent.TheVariants as script;
 ghost use Rattle.vf_cli_replay.specs.Running.{Begins, Comes, Running, Speaks, arrival_of, events_by, moment_of};
 ghost use Rattle.vf_cli_replay.specs.Standing.{HasCome, HasHappened, HasSpoken, Stands};
-ghost use Rattle.vf_responder.specs.Events.{event_meant};
 
 use crate::halt::{Halt, halt_of};
 use crate::hearing::{hear_all, put};
@@ -51,16 +50,9 @@ impl Links {
         match &line.act {
             Act::Arrive(kind) => self.arrive(alloc, link, *kind, text),
             Act::Octets { moment, octets } => {
-                let octets = octets.as_slice();
-                let moment = *moment;
-                let event = Event::Octets {
-                    link,
-                    moment,
-                    octets,
-                };
-                self.deliver(alloc, event, text)
+                self.come(alloc, link, *moment, octets.as_slice(), text)
             }
-            Act::End => self.deliver(alloc, Event::Ended { link }, text),
+            Act::End => self.end(alloc, link, text),
             Act::Said { moment, .. } => self.says(alloc, link, *moment, &line.act, text),
             Act::Check { moment } => self.says(alloc, link, *moment, &line.act, text),
             Act::Acknowledge { moment, .. } => self.says(alloc, link, *moment, &line.act, text),
@@ -82,7 +74,7 @@ impl Links {
         ensures limit { self.new.responder.store.journal.limit ≡ self.old.responder.store.journal.limit }
     {
         match kind {
-            LinkKind::Raw => self.deliver(alloc, Event::Arrived { link }, text),
+            LinkKind::Raw => self.arrived(alloc, link, text),
             LinkKind::Plain => self.call(alloc, link, false, text),
             LinkKind::Sync => self.call(alloc, link, true, text),
         }
@@ -100,7 +92,7 @@ impl Links {
             → IfOk result (HasHappened running (Comes (script.Arrived link) ∷ Begins link sync ∷ []) text.old.items self.old.responder.store.journal.limit self.new text.new.items) }
         ensures limit { self.new.responder.store.journal.limit ≡ self.old.responder.store.journal.limit }
     {
-        match self.deliver(alloc, Event::Arrived { link }, text)? {
+        match self.arrived(alloc, link, text)? {
             None => self.begin(alloc, link, sync, text),
             Some(halt) => Ok(Some(halt)),
         }
@@ -121,14 +113,7 @@ impl Links {
         let mut octets = Vec::new(alloc);
         let caller = Caller::new(alloc, sync, &mut octets)?;
         put(&mut self.callers, link, caller)?;
-        let octets = octets.as_slice();
-        let moment = first_moment();
-        let event = Event::Octets {
-            link,
-            moment,
-            octets,
-        };
-        self.deliver(alloc, event, text)
+        self.come(alloc, link, first_moment(), octets.as_slice(), text)
     }
 
     /// The calling end of a link says something, where there is one.
@@ -147,13 +132,7 @@ impl Links {
         let Some(octets) = self.speak(alloc, link, act)? else {
             return Ok(None);
         };
-        let octets = octets.as_slice();
-        let event = Event::Octets {
-            link,
-            moment,
-            octets,
-        };
-        self.deliver(alloc, event, text)
+        self.come(alloc, link, moment, octets.as_slice(), text)
     }
 
     /// The octets of what the calling end of a link says, where there is one.
@@ -171,18 +150,75 @@ impl Links {
         Ok(Some(octets))
     }
 
-    /// An event comes to the responder, and what it says is heard.
-    fn deliver(
+    /// A link arrives at the responder, and what that says is heard.
+    fn arrived(
         &mut self,
         alloc: Global,
-        event: Event<'_>,
+        link: u32,
         text: &mut Vec<u8>,
     ) -> Result<Option<Halt>, NoMemory>
         ensures comes { (running : Running) → Stands self.old running
-            → IfOk result (HasCome running (event_meant event.entry) text.old.items self.old.responder.store.journal.limit self.new text.new.items) }
+            → IfOk result (HasCome running (script.Arrived link) text.old.items self.old.responder.store.journal.limit self.new text.new.items) }
         ensures limit { self.new.responder.store.journal.limit ≡ self.old.responder.store.journal.limit }
     {
         let mut replies = Vec::new(alloc);
+        let event = Event::Arrived { link };
+        match self.responder.deliver(alloc, event, &mut replies) {
+            Ok(()) => {
+                hear_all(alloc, &mut self.callers, replies.as_slice(), text)?;
+                Ok(None)
+            }
+            Err(error) => {
+                let halt = halt_of(error)?;
+                Ok(Some(halt))
+            }
+        }
+    }
+
+    /// Octets come to the responder on a link.
+    fn come(
+        &mut self,
+        alloc: Global,
+        link: u32,
+        moment: Moment,
+        octets: &[u8],
+        text: &mut Vec<u8>,
+    ) -> Result<Option<Halt>, NoMemory>
+        ensures comes { (running : Running) → Stands self.old running
+            → IfOk result (HasCome running (script.Octets link moment octets.now) text.old.items self.old.responder.store.journal.limit self.new text.new.items) }
+        ensures limit { self.new.responder.store.journal.limit ≡ self.old.responder.store.journal.limit }
+    {
+        let mut replies = Vec::new(alloc);
+        let event = Event::Octets {
+            link,
+            moment,
+            octets,
+        };
+        match self.responder.deliver(alloc, event, &mut replies) {
+            Ok(()) => {
+                hear_all(alloc, &mut self.callers, replies.as_slice(), text)?;
+                Ok(None)
+            }
+            Err(error) => {
+                let halt = halt_of(error)?;
+                Ok(Some(halt))
+            }
+        }
+    }
+
+    /// A link has ended.
+    fn end(
+        &mut self,
+        alloc: Global,
+        link: u32,
+        text: &mut Vec<u8>,
+    ) -> Result<Option<Halt>, NoMemory>
+        ensures comes { (running : Running) → Stands self.old running
+            → IfOk result (HasCome running (script.Ended link) text.old.items self.old.responder.store.journal.limit self.new text.new.items) }
+        ensures limit { self.new.responder.store.journal.limit ≡ self.old.responder.store.journal.limit }
+    {
+        let mut replies = Vec::new(alloc);
+        let event = Event::Ended { link };
         match self.responder.deliver(alloc, event, &mut replies) {
             Ok(()) => {
                 hear_all(alloc, &mut self.callers, replies.as_slice(), text)?;

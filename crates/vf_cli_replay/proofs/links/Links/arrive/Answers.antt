@@ -11,6 +11,6 @@ returns-in-Raw-clause-happens c = λ running stands.
     let limit = c.args.self.now.responder.store.journal.limit in
     let text = c.args.text.now.items in
     let arrival = Comes (Arrived c.args.link) in
-    if_ok c.deliver.result _ (HasHappened running (arrival ∷ []) text limit c.deliver.new.self c.deliver.new.text.items)
-    (λ halt come. event_comes running running arrival (Arrived c.args.link) text limit c.deliver.new.self c.deliver.new.text.items halt (refl, refl) come)
-    (c.deliver.ensures.comes running stands)
+    if_ok c.arrived.result _ (HasHappened running (arrival ∷ []) text limit c.arrived.new.self c.arrived.new.text.items)
+    (λ halt come. event_comes running running arrival (Arrived c.args.link) text limit c.arrived.new.self c.arrived.new.text.items halt (refl, refl) come)
+    (c.arrived.ensures.comes running stands)

@@ -27,11 +27,11 @@ returns-clause-happens c = λ running stands is.
     let octets = c.in-Some.octets.items in
     let comes = comes_of running link act (end_on link running.ends) octets c.speak.new.self
     (subst (λ o. HasSpoken running link act (option_map (λ v. v.items) o) c.speak.new.self) c.in-Some.is spoken) in
-    let event : Octets link c.args.moment c.as_slice-octets.result.now ≡ Octets link (moment_of act) octets = λ i. Octets link (is i) (c.as_slice-octets.ensures.value i) in
+    let event : Octets link c.args.moment c.as_slice.result.now ≡ Octets link (moment_of act) octets = λ i. Octets link (is i) (c.as_slice.ensures.value i) in
     let same : c.speak.new.self.responder.store.journal.limit ≡ limit = ap (λ r. r.store.journal.limit) c.speak.ensures.responder in
-    if_ok c.deliver.result _ (HasHappened running (Speaks link act ∷ []) text limit c.deliver.new.self c.deliver.new.text.items)
+    if_ok c.come.result _ (HasHappened running (Speaks link act ∷ []) text limit c.come.new.self c.come.new.text.items)
     (λ halt come.
-    event_comes running comes.now (Speaks link act) (Octets link (moment_of act) octets) text limit c.deliver.new.self c.deliver.new.text.items halt comes.spoken
-    (subst (λ (n : ℕ). HasCome comes.now (Octets link (moment_of act) octets) text n c.deliver.new.self c.deliver.new.text.items halt) same
-    (subst (λ (e : ScriptEvent). HasCome comes.now e text c.speak.new.self.responder.store.journal.limit c.deliver.new.self c.deliver.new.text.items halt) event come)))
-    (c.deliver.ensures.comes comes.now comes.stands)
+    event_comes running comes.now (Speaks link act) (Octets link (moment_of act) octets) text limit c.come.new.self c.come.new.text.items halt comes.spoken
+    (subst (λ (n : ℕ). HasCome comes.now (Octets link (moment_of act) octets) text n c.come.new.self c.come.new.text.items halt) same
+    (subst (λ (e : ScriptEvent). HasCome comes.now e text c.speak.new.self.responder.store.journal.limit c.come.new.self c.come.new.text.items halt) event come)))
+    (c.come.ensures.comes comes.now comes.stands)

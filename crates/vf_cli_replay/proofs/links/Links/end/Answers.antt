@@ -1,16 +1,16 @@
 use Rattle.std.proofs.Common.{◌≡◌, ◌∙◌, ℕ, List, [], ap, subst, sym}
-use Rattle.vf_responder.specs.Events.{event_meant}
+use Rattle.vf_base.specs.declared.events.ScriptEvent.TheVariants.{Ended}
 use Rattle.vf_responder.specs.Represents.{Answers}
 use Rattle.vf_responder.specs.Run.{trail}
 use Rattle.vf_responder.specs.declared.event.Reply.{Reply}
 use Rattle.vf_cli_replay.specs.Hearing.{HasHeard}
 use Rattle.vf_cli_replay.specs.Running.{heard_all, joined}
 use Rattle.vf_cli_replay.proofs.Delivering.{comes_to_halt, comes_well}
-use Rattle.vf_cli_replay.proofs.links.Links.deliver.Goals as goal
+use Rattle.vf_cli_replay.proofs.links.Links.end.Goals as goal
 
 pub returns-in-Ok-clause-comes : goal.returns-in-Ok-clause-comes
 returns-in-Ok-clause-comes c = λ running stands.
-    let event = event_meant c.args.event in
+    let event = Ended c.args.link in
     let links = record { responder = c.deliver.new.self; callers = c.hear_all.new.callers } in
     let text = c.args.text.now.items in
     let told = c.deliver.new.replies.items in
@@ -23,7 +23,7 @@ returns-in-Ok-clause-comes c = λ running stands.
 
 pub returns-in-Err-clause-comes : goal.returns-in-Err-clause-comes
 returns-in-Err-clause-comes c = λ running stands.
-    let event = event_meant c.args.event in
+    let event = Ended c.args.link in
     let old = c.args.self.now.responder in
     let links = record { responder = c.deliver.new.self; callers = c.args.self.now.callers } in
     comes_to_halt running event c.args.text.now.items old.store.journal.limit old.store.disk.faults c.deliver.new.self.store.disk.faults c.in-Err.error c.in_ok-halt_of.halt old.store.disk links
