@@ -19,34 +19,91 @@ One has a line for each thing that happens, and under it, after `=`, what peers 
 What peers are told was written by hand, by the rules of the profile.
 """
 
-# A file of nine values that is created, opened, written and read, up to the check after the eighth of them.
-READ = """        1 AA0F810161A207800528C27B0503850105
+def strings(sign, first, count):
+    """Lines of so many strings of one octet, from this number on."""
+    return "".join(f"        {sign}1 0401{each:02X}\n" for each in range(first, first + count))
+
+
+# A file of nine strings that is created, opened, written and read, up to the check after the eighth of them.
+READ = f"""        1 AA0F810161A207800528C27B0503850105
         = 1 AB00
         1 B203800105
         = 1 B309A107800528C27B0503
         1 BF2103800102
-        1 040100
-        1 040101
-        1 040102
-        1 040103
-        1 040104
-        1 040105
-        1 040106
-        1 040107
-        1 040108
-        1 BF2200
+{strings("", 0, 9)}        1 BF2200
         1 BF2300
         = 1 BF2400
         1 BF2000
-        = 1 040100
-        = 1 040101
-        = 1 040102
-        = 1 040103
-        = 1 040104
-        = 1 040105
-        = 1 040106
-        = 1 040107
-        = 1 check 1"""
+{strings("= ", 0, 8)}        = 1 check 1"""
+
+# The same of twenty strings, in an open that can be recovered, where one check may be open.
+TWENTY = f"""
+        1 arrive sync
+        1 A007800200CF830101
+        = 1 A104810200CF
+        1 AA0F810161A207800528C27B0503850105
+        = 1 AB00
+        1 B206800105830105
+        = 1 B309A107800528C27B0503
+        1 BF2103800102
+{strings("", 0, 20)}        1 BF2200
+        1 BF2300
+        = 1 BF2400
+        1 BF2000
+{strings("= ", 0, 8)}        = 1 check 1
+"""
+
+RECORDS = ("        2 6000\n", "        2 6000\n        2 190142\n", "        2 6000\n        2 190143\n        2 190143\n", "        2 6000\n")
+
+
+def rewritten(count):
+    """Link 2 erases a file of records, and writes so many."""
+    written = f"""        2 BF21068001018101FF
+{"".join(RECORDS[:count])}        2 BF2200
+        2 BF2300
+        = 2 BF2400
+"""
+    return "        2 BE00\n        = 2 BF1F00\n" + (written if count else "")
+
+
+def shortened(place, count):
+    """Link 1 stands behind so many records when the file becomes shorter: no record is the current one or the next, and the
+    last one is the previous."""
+    previous = f"BD038101{count:02}" if count else "BD05A003800113"
+    return f"""{rewritten(place - 1)}        1 BC038001FF
+        = 1 BD038101{place:02}
+{rewritten(count)}        1 BC038001FC
+        = 1 BD05A003800113
+        1 BC038001FB
+        = 1 BD05A003800113
+        1 BF20068001FC810101
+        = 1 BF2205A003800113
+        1 BF2300
+        = 1 BF2405A003800113
+        1 BF20068001FB810100
+        = 1 BF2205A003800113
+        1 BF2300
+        = 1 BF2405A003800113
+        1 BC038001FA
+        = 1 {previous}
+"""
+
+
+# A write in an open that can be recovered: a string, a check after it, and another string.
+SECURED = """
+        1 arrive sync
+        1 A007800200CF830104
+        = 1 A107810200CF820104
+        1 AA0F810161A207800528C27B0503850104
+        = 1 AB00
+        1 B206800104830105
+        = 1 B309A107800528C27B0503
+        1 BF2103800102
+        1 0403616263
+        1 check
+        = 1 ack 1
+        1 0403646566
+"""
 
 CONVERSATIONS = {
     "unknown": """
@@ -332,6 +389,203 @@ CONVERSATIONS = {
         1 04027633
         1 BF2500
         = 1 BF2600
+        life lose
+    """,
+    # who has made a file, or selected it, holds it until it lets it go; then it is selected by another, and deleted
+    "held": """
+        1 arrive
+        1 A00380010F
+        = 1 A10381010F
+        1 AA0F810161A207800528C27B0503850120
+        = 1 AB00
+        2 arrive
+        2 A00380010F
+        = 2 A10381010F
+        2 A60B8001618101208203020000
+        = 2 A70BA009800110810105820101
+        1 AE03800101
+        = 1 AF05A103800161
+        1 A800
+        = 1 A900
+        2 A60B8001618101208203020000
+        = 2 A700
+        2 A800
+        = 2 A900
+        1 A607800161810200A0
+        = 1 A700
+        2 A60B8001618101208203020000
+        = 2 A70BA009800110810105820101
+        1 AC00
+        = 1 AD00
+        2 A60B8001618101208203020000
+        = 2 A705A00380010B
+    """,
+    # a file whose permitted actions are changed stays held, and one that is renamed is held by its new name alone
+    "renamed": """
+        1 arrive
+        1 A00380011F
+        = 1 A10381011F
+        1 AA0F810161A207800528C27B0503850160
+        = 1 AB00
+        2 arrive
+        2 A00380010F
+        = 2 A10381010F
+        1 B00381017F
+        = 1 B100
+        2 A60B8001618101208203020000
+        = 2 A70BA009800110810105820101
+        1 B003800162
+        = 1 B100
+        2 A60B8001618101208203020000
+        = 2 A705A00380010B
+        2 A60B8001628101208203020000
+        = 2 A70BA009800110810105820101
+        2 AA14810161A207800528C27B05038501208603020000
+        = 2 AB00
+    """,
+    # a docket follows a locate, and an erase makes a version and sets the position back
+    "located": """
+        1 arrive sync
+        1 A007800200CF830104
+        = 1 A107810200CF820104
+        1 AA0F810162A207800528C27B0502850111
+        = 1 AB00
+        1 B206800111830105
+        = 1 B309A107800528C27B0502
+        1 BC038001FF
+        = 1 BD03810101
+        life lose
+        1 arrive sync
+        1 A007800200CF830104
+        = 1 A107810200CF820104
+        1 BA06800105810101
+        = 1 BB03810101
+        1 BE00
+        = 1 BF1F00
+    """,
+    # a position behind the end, where another party makes the file shorter
+    "shortened": """
+        1 arrive
+        1 A00380010F
+        = 1 A10381010F
+        1 AA0F810161A207800528C27B0502850101
+        = 1 AB00
+        1 B203800101
+        = 1 B309A107800528C27B0502
+        2 arrive
+        2 A00380010F
+        = 2 A10381010F
+        2 A606800161810112
+        = 2 A700
+        2 B203800112
+        = 2 B309A107800528C27B0502
+""" + "".join(shortened(place, count) for place in range(2, 6) for count in range(place - 1)),
+    # an open that stands under another identity isn't recovered, and stays; closed it leaves no docket
+    "another": """
+        1 arrive sync
+        1 A007800200CF830104
+        = 1 A107810200CF820104
+        1 AA0F810161A207800528C27B0503850105
+        = 1 AB00
+        1 B206800105830105
+        = 1 B309A107800528C27B0503
+        2 arrive sync
+        2 A00C800200CF8103616E6E830104
+        = 2 A107810200CF820104
+        2 BA06800105810101
+        = 2 BB05A00380011B
+        1 B400
+        = 1 B500
+        life keep
+    """,
+    # a read goes on with each acknowledgement of its check, and ends in its docket
+    "acknowledged": TWENTY + f"""
+        1 ack 1
+{strings("= ", 8, 8)}        = 1 check 2
+        1 ack 2
+{strings("= ", 16, 4)}        = 1 BF2200
+        1 BF2300
+        = 1 BF2400
+        life lose
+    """,
+    # a read goes on after the point from which it is recovered; its checks have numbers of the new session
+    "resumed": TWENTY + f"""
+        1 ack 1
+{strings("= ", 8, 8)}        = 1 check 2
+        life lose
+        1 arrive sync
+        1 A007800200CF830101
+        = 1 A104810200CF
+        1 pass
+        1 BA09800105810102820101
+        = 1 BB098101028201018301FF
+{strings("= ", 8, 8)}        = 1 check 1
+        1 ack 1
+{strings("= ", 16, 4)}        = 1 BF2200
+        1 BF2300
+        = 1 BF2400
+    """,
+    # a read that is restarted at its begin, and abandoned
+    "abandoned": TWENTY + f"""
+        1 restart 1 BF2700
+        = 1 BF2800
+{strings("= ", 0, 8)}        = 1 check 1
+        1 BF2500
+        = 1 BF2600
+        life lose
+    """,
+    # a write is in its docket up to its check, from which it is recovered; cancelled then, it is performed up to there
+    "secured": SECURED + """
+        life lose
+        1 arrive sync
+        1 A007800200CF830104
+        = 1 A107810200CF820104
+        1 BA09800105810101820101
+        = 1 BB098101018201018301FF
+        1 0403676869
+        1 BF2500
+        = 1 BF2600
+    """,
+    # a recovery from the begin of a write takes what a check secured from its docket
+    "anew": SECURED + """
+        life lose
+        1 arrive sync
+        1 A007800200CF830104
+        = 1 A107810200CF820104
+        1 BA09800105810101820100
+        = 1 BB068101018301FF
+        life lose
+    """,
+    # a restart at the last check leaves what that secured in the docket, and what came after it is gone
+    "withdrawn": SECURED + """
+        1 restart 2 BF2703800101
+        = 1 BF2803800101
+        life lose
+        1 arrive sync
+        1 A007800200CF830104
+        = 1 A107810200CF820104
+        1 BA09800105810101820101
+        = 1 BB098101018201018301FF
+        1 BF2200
+        1 BF2300
+        = 1 BF2400
+        life keep
+    """,
+    # one at the begin takes it away too, so that the write is performed without any value
+    "emptied": SECURED + """
+        1 restart 2 BF2703800101
+        = 1 BF2803800101
+        1 restart 1 BF2700
+        = 1 BF2800
+        life lose
+        1 arrive sync
+        1 A007800200CF830104
+        = 1 A107810200CF820104
+        1 BA06800105810101
+        = 1 BB068101018301FF
+        1 BF2200
+        1 BF2300
+        = 1 BF2400
         life lose
     """,
     # a read whose file another party has changed isn't taken up again: versions 2 and 3

@@ -1,3 +1,6 @@
 mod Digits
 mod Split
 mod Messages
+mod Feeds
+mod Arriving
+mod Tellings

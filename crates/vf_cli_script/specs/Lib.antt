@@ -2,3 +2,4 @@ pub mod Words
 pub mod Statements
 pub mod Inputs
 pub mod Scripts
+pub mod Readings

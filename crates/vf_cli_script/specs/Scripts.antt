@@ -1,8 +1,9 @@
 -- A script (profile): lines, each of which ends with a line feed and says something. Users stand before the first incarnation;
 -- what happens on a link stands in an incarnation in which the link arrives, before or after that line.
-use Rattle.std.specs.Prelude.{◌≡◌, ℕ, ◌+◌, Bool, true, false, ◌&&◌, ◌||◌, not, is_none, nat_eq, nat_lt, List, [], ◌∷◌, ◌++◌, length, map, take, drop, Option, Some, None, Result, Ok, Err, if◌then◌else◌}
-use Rattle.std.specs.List.{list_any}
+use Rattle.std.specs.Prelude.{◌≡◌, ℕ, ◌+◌, Bool, true, false, ◌&&◌, not, find, is_none, is_some, nat_eq, nat_lt, List, [], ◌∷◌, ◌++◌, length, take, Option, Some, None, Result, Ok, Err, if◌then◌else◌}
+use Rattle.std.specs.List.{slice_split}
 use Rattle.std.specs.Map.{lookup}
+use Rattle.std.specs.Option.{option_map}
 use Rattle.vf_tables.specs.Entries.{is_user}
 use Rattle.vf_tables.specs.declared.limits.TheConstants.{MOST_USERS}
 use Rattle.vf_tables.specs.declared.user.User.{User}
@@ -17,38 +18,32 @@ use Rattle.vf_cli_script.specs.declared.line.Statement.TheVariants as says
 use Rattle.vf_cli_script.specs.declared.line.Stop.{Stop}
 use Rattle.vf_cli_script.specs.declared.script.Life.{Life}
 use Rattle.vf_cli_script.specs.declared.script.Script.{Script}
-use Rattle.vf_cli_script.specs.declared.script.TheConstants.{USUAL_LIMIT}
 use Rattle.vf_cli_script.specs.declared.script.Told.{Told}
 use Rattle.vf_cli_script.specs.declared.script.Told.TheVariants as told
+use Rattle.vf_cli_script.specs.declared.reading.TheConstants.{USUAL_LIMIT}
 use Rattle.vf_cli_script.specs.Statements.{statement_of}
 
--- LINES. One that has no line feed is outside the grammar, whatever its octets.
+-- LINES. What stands behind the last line feed is outside the grammar, unless it is nothing and the input isn't cut off there.
 abbrev pub is_feed : ℕ → Bool
 is_feed octet = nat_eq octet 10
 
--- the octets of a line so far, and what the lines from it on say
-abbrev pub statements_from : List ℕ → List ℕ → List (Option Statement)
-statements_from [] [] = []
-statements_from (octet ∷ line) [] = None ∷ []
-statements_from line (octet ∷ octets) =
-    if is_feed octet then statement_of line ∷ statements_from [] octets else statements_from (line ++ octet ∷ []) octets
+abbrev pub unended : (is_cut : Bool) → List ℕ → List (Option Statement)
+unended is_cut rest = if nat_eq (length rest) 0 && not is_cut then [] else None ∷ []
 
--- The first line that ends after so many octets is bad, and the last that counts.
-abbrev pub cut_off : List ℕ → List (Option Statement)
-cut_off [] = []
-cut_off (octet ∷ octets) = None ∷ []
+-- what lines say, and what stands behind the last one
+abbrev pub said_by : (is_cut : Bool) → List (List ℕ) → List (Option Statement)
+said_by is_cut [] = []
+said_by is_cut (rest ∷ []) = unended is_cut rest
+said_by is_cut (line ∷ other ∷ others) = statement_of line ∷ said_by is_cut (other ∷ others)
 
-abbrev pub ends_in_line : List ℕ → Bool
-ends_in_line [] = false
-ends_in_line (octet ∷ []) = not (is_feed octet)
-ends_in_line (octet ∷ other ∷ octets) = ends_in_line (other ∷ octets)
+-- An input is cut off after so many octets: the line that ends after them is bad.
+unfoldable pub statements_within : (limit : ℕ) → List ℕ → List (Option Statement)
+statements_within limit octets = said_by (nat_lt limit (length octets)) (slice_split is_feed (take limit octets))
 
 abbrev pub statements_in : List ℕ → List (Option Statement)
-statements_in octets =
-    let front = take INPUT_LIMIT octets in
-    statements_from [] front ++ (if ends_in_line front then [] else cut_off (drop INPUT_LIMIT octets))
+statements_in octets = statements_within INPUT_LIMIT octets
 
--- ARRIVALS up to the next incarnation, in their order
+-- ARRIVALS up to the next incarnation, in their order; the first one of a link counts
 abbrev pub arrival_of : ℕ → Act → List (ℕ × LinkKind) → List (ℕ × LinkKind)
 arrival_of link (acts.Arrive kind) later = (link, kind) ∷ later
 arrival_of link _ later = later
@@ -61,8 +56,8 @@ arrivals_of (Some (says.User user) ∷ later) = arrivals_of later
 arrivals_of (Some (says.Life stop) ∷ later) = []
 arrivals_of (Some (says.Link line) ∷ later) = arrival_of line.link line.act (arrivals_of later)
 
-abbrev pub kind_in : ℕ → List (ℕ × LinkKind) → Option LinkKind
-kind_in link arrivals = lookup (nat_eq link) arrivals
+abbrev pub kind_in : List (ℕ × LinkKind) → ℕ → Option LinkKind
+kind_in arrivals link = lookup (nat_eq link) arrivals
 
 -- WHAT HAPPENS on a link is something that its end can do. Links arrive by rising numbers.
 abbrev pub is_raw : LinkKind → Bool
@@ -79,59 +74,79 @@ suits_act link _ kind last = not (is_raw kind)
 abbrev pub suits : LinkLine → LinkKind → (last : ℕ) → Bool
 suits line kind last = suits_act line.link line.act kind last
 
-abbrev pub last_of : ℕ → Act → ℕ → ℕ
-last_of link (acts.Arrive kind) last = link
-last_of link _ last = last
+abbrev pub last_by : ℕ → Act → ℕ → ℕ
+last_by link (acts.Arrive kind) last = link
+last_by link _ last = last
 
--- A SCRIPT so far: its users, the incarnations that are over, the one that things happen in, the limit of those to come, the links
--- that arrive in that one, and the last that has
+abbrev pub last_of : LinkLine → (last : ℕ) → ℕ
+last_of line last = last_by line.link line.act last
+
+-- A SCRIPT so far: its users, the incarnations that are over, the one that things happen in, the limit of those to come, the end
+-- that a link arrives with in that one, and the last link that has arrived, or 0
 pub record Progress : Type 0 where
   pub users : List User
   pub lives : List Life
   pub life : Option Life
   pub limit : ℕ
-  pub arrivals : List (ℕ × LinkKind)
+  pub kind_of : ℕ → Option LinkKind
   pub last : ℕ
 
 abbrev pub begun : Progress
-begun = record { users = []; lives = []; life = None; limit = USUAL_LIMIT; arrivals = []; last = 0 }
+begun = record { users = []; lives = []; life = None; limit = USUAL_LIMIT; kind_of = λ link. None; last = 0 }
 
 abbrev pub lives_of : List Life → Option Life → List Life
 lives_of lives None = lives
 lives_of lives (Some life) = lives ++ life ∷ []
 
-abbrev pub with_user : Progress → User → Option Progress
-with_user so_far user =
-    if is_none so_far.life && nat_lt (length so_far.users) MOST_USERS && not (list_any (is_user user.identity) so_far.users)
-    then Some (record so_far { users = so_far.users ++ user ∷ [] }) else None
+-- A user comes before the first incarnation, no other has its name, and there are 256 of them at most.
+abbrev pub is_welcome : Progress → User → Bool
+is_welcome so_far user = is_none so_far.life && nat_lt (length so_far.users) MOST_USERS && is_none (find (is_user user.identity) so_far.users)
 
-abbrev pub with_line : Progress → LinkLine → Option LinkKind → Option Life → Option Progress
-with_line so_far line None life = None
-with_line so_far line (Some kind) None = None
-with_line so_far line (Some kind) (Some life) =
-    if suits line kind so_far.last
-    then Some (record so_far { life = Some (record life { lines = life.lines ++ line ∷ [] }); last = last_of line.link line.act so_far.last }) else None
+abbrev pub with_user : Progress → User → Option Progress
+with_user so_far user = if is_welcome so_far user then Some (record so_far { users = so_far.users ++ user ∷ [] }) else None
+
+-- an incarnation, before these statements
+abbrev pub with_life : Progress → Option Stop → List (Option Statement) → Progress
+with_life so_far stop later = record so_far {
+  lives = lives_of so_far.lives so_far.life;
+  life = Some (record { limit = so_far.limit; stop = stop; lines = [] });
+  kind_of = kind_in (arrivals_of later);
+  last = 0;
+}
+
+-- Something happens on a link within an incarnation in which the link arrives.
+abbrev pub is_apt_on : Option LinkKind → LinkLine → (last : ℕ) → Bool
+is_apt_on None line last = false
+is_apt_on (Some kind) line last = suits line kind last
+
+abbrev pub is_apt : Progress → LinkLine → Bool
+is_apt so_far line = is_some so_far.life && is_apt_on (so_far.kind_of line.link) line so_far.last
+
+abbrev pub with_last : LinkLine → Life → Life
+with_last line life = record life { lines = life.lines ++ line ∷ [] }
+
+abbrev pub with_line : Progress → LinkLine → Option Progress
+with_line so_far line =
+    if is_apt so_far line then Some (record so_far { life = option_map (with_last line) so_far.life; last = last_of line so_far.last }) else None
 
 -- what a line adds, before those that come later; nothing where it is bad
 abbrev pub with_statement : Progress → Option Statement → List (Option Statement) → Option Progress
 with_statement so_far None later = None
 with_statement so_far (Some (says.Limit limit)) later = Some (record so_far { limit = limit })
 with_statement so_far (Some (says.User user)) later = with_user so_far user
-with_statement so_far (Some (says.Life stop)) later = Some (record so_far {
-  lives = lives_of so_far.lives so_far.life;
-  life = Some (record { limit = so_far.limit; stop = stop; lines = [] });
-  arrivals = arrivals_of later;
-  last = 0;
-})
-with_statement so_far (Some (says.Link line)) later = with_line so_far line (kind_in line.link so_far.arrivals) so_far.life
+with_statement so_far (Some (says.Life stop)) later = Some (with_life so_far stop later)
+with_statement so_far (Some (says.Link line)) later = with_line so_far line
 
 -- the script, or the number of its first bad line, where so many lines come before these
 abbrev pub go_on : Option Progress → ℕ → (Progress → Result Script ℕ) → Result Script ℕ
 go_on None number later = Err number
 go_on (Some so_far) number later = later so_far
 
+abbrev pub script_of : Progress → Script
+script_of so_far = record { users = so_far.users; lives = lives_of so_far.lives so_far.life }
+
 unfoldable pub script_from : Progress → ℕ → List (Option Statement) → Result Script ℕ
-script_from so_far before [] = Ok (record { users = so_far.users; lives = lives_of so_far.lives so_far.life })
+script_from so_far before [] = Ok (script_of so_far)
 script_from so_far before (statement ∷ later) =
     go_on (with_statement so_far statement later) (before + 1) (λ so_far. script_from so_far (before + 1) later)
 
@@ -142,3 +157,7 @@ told_by octets = script_from begun 0 (statements_in octets)
 abbrev pub IsTold : Result Script ℕ → Told → Type 0
 IsTold meant (told.Script script) = meant ≡ Ok script
 IsTold meant (told.Bad number) = meant ≡ Err number
+
+abbrev pub IfScript : Told → Type 0 → Type 0
+IfScript (told.Script script) p = p
+IfScript (told.Bad number) p = Unit {0}

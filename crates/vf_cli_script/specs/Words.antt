@@ -1,7 +1,7 @@
 -- The words of a line of a script (profile), between which stands one space, and what a word spells.
 use Rattle.std.specs.Prelude.{◌≡◌, ◌<◌, ◌⊎◌, ℕ, ◌+◌, ◌*◌, ◌-◌, Bool, true, false, ◌&&◌, ◌||◌, not, nat_eq, nat_le, nat_lt, List, [], ◌∷◌, fold, length, map, Option, Some, None, Result, Ok, Err, if◌then◌else◌}
 use Rattle.std.specs.Cmp.Lexicographic.{pointwise}
-use Rattle.std.specs.List.{list_all}
+use Rattle.std.specs.List.{list_all, slice_split}
 use Rattle.hex.specs.Hex.{decode_of}
 use Rattle.hex.specs.declared.error.FromHexError.{FromHexError}
 
@@ -11,15 +11,9 @@ is_word one other = pointwise nat_eq one other
 abbrev pub is_space : ℕ → Bool
 is_space octet = nat_eq octet 32
 
--- an octet more at the begin of the first word
-abbrev pub octet_before : ℕ → List (List ℕ) → List (List ℕ)
-octet_before octet [] = (octet ∷ []) ∷ []
-octet_before octet (word ∷ words) = (octet ∷ word) ∷ words
-
--- the words of a line; a line that begins or ends with a space, or has two in a row, has words without octets
+-- what stands between the spaces of a line; a line that begins or ends with a space, or has two in a row, has words without octets
 abbrev pub words_of : List ℕ → List (List ℕ)
-words_of [] = [] ∷ []
-words_of (octet ∷ octets) = if is_space octet then [] ∷ words_of octets else octet_before octet (words_of octets)
+words_of line = slice_split is_space line
 
 -- NUMBERS are decimal digits without leading zeros.
 abbrev pub is_digit : ℕ → Bool

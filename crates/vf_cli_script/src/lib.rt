@@ -2,10 +2,13 @@
 //! that they make.
 #![tactic(auto)]
 
+mod arrivals;
 mod input;
 mod line;
+mod lines;
 mod numbers;
 mod pairs;
+mod reading;
 mod script;
 mod statement;
 mod words;

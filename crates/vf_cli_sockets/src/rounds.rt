@@ -2,7 +2,8 @@
 ghost use Rattle.std.specs.Prelude.{◌≡◌, ◌≤◌, [], IfOk, length};
 ghost use Rattle.vf_cli_sockets.specs.Heard.{MayCome};
 
-use crate::streams::{Heard, accept, end, hear, moment, send_all, sleep};
+use crate::streams::{Heard, accept, end, hear, moment, send_all};
+use crate::waking::Waking;
 use mio::net::{TcpListener, TcpStream};
 use vf_base::{Failed, LinkEvent, NoMemory};
 
@@ -47,7 +48,7 @@ impl Ended {
 }
 
 /// A port, and the streams that came to it, which are visited in rounds, each once. A round in which nothing came is idle, and
-/// sleeps for a millisecond.
+/// waits for a millisecond, or until something comes.
 ///
 /// A stream that is shut is closed once its peer has ended it too, or has been quiet for long: one that is closed over octets
 /// that weren't read may take what was sent last away from the peer.
@@ -55,6 +56,8 @@ impl Ended {
 pub(crate) struct Rounds {
     rt: HostRuntime,
     listener: Option<TcpListener>,
+    /// It watches the port and the streams.
+    waking: Waking,
     /// In the order of their numbers.
     streams: Vec<Stream>,
     /// In the order in which they were ended.
@@ -76,9 +79,15 @@ pub(crate) struct Rounds {
 impl Rounds {
     /// The first round, of at most so many that are idle in a row.
     pub(crate) fn new(rt: &HostRuntime, listener: Option<TcpListener>, most_idle: u64) -> Rounds {
+        let waking = Waking::new(rt);
+        let mut listener = listener;
+        if let Some(listener) = &mut listener {
+            waking.watch(listener);
+        }
         Rounds {
             rt: *rt,
             listener,
+            waking,
             streams: Vec::new(rt.alloc()),
             ended: Vec::new(rt.alloc()),
             buffer: Vec::new(rt.alloc()),
@@ -115,9 +124,10 @@ impl Rounds {
             return Ok(None);
         }
         self.streams.reserve(1)?;
-        let Some(socket) = accept(listener) else {
+        let Some(mut socket) = accept(listener) else {
             return Ok(None);
         };
+        self.waking.watch(&mut socket);
         let link = links + 1;
         self.streams.push_reserved(Stream { link, socket });
         Ok(Some(LinkEvent::Arrived { link }))
@@ -191,7 +201,7 @@ impl Rounds {
         self.pass_over();
         if self.quiet {
             self.idle = self.idle.saturating_add(1);
-            sleep(&self.rt);
+            self.waking.wait();
         }
         self.listened = false;
         self.place = 0;
@@ -241,10 +251,11 @@ impl Rounds {
 
     /// Ends the stream of a link, if it stands.
     pub(crate) fn shut(&mut self, link: u32) {
-        let Some(Stream { socket, .. }) = self.take(link) else {
+        let Some(Stream { mut socket, .. }) = self.take(link) else {
             return;
         };
         end(&socket);
+        self.waking.leave(&mut socket);
         if self.ended.len() < MOST_ENDED {
             let _kept = self.ended.push(Ended { socket, quiet: 0 });
         }

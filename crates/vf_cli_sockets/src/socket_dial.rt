@@ -1,9 +1,10 @@
 //! A dial over a real socket, which tells nothing of what is said and heard.
-ghost use Rattle.std.specs.Prelude.{◌≡◌, ◌≤◌, IfOk, None, false, is_some, length};
+ghost use Rattle.std.specs.Prelude.{◌≡◌, None, false, is_some};
 ghost use Rattle.vf_base.specs.Faults.{HasRisen, counted};
 
+use crate::ahead::Ahead;
 use crate::streams::pause;
-use std::io::{self, Read, Write};
+use std::io::{self, Write};
 use std::net::{Shutdown, TcpStream};
 use vf_base::{Dial, Failed};
 
@@ -16,6 +17,8 @@ pub struct SocketDial<'a> {
     /// The name or the address of the host, and the port.
     peer: Option<(&'a str, u16)>,
     stream: Option<TcpStream>,
+    /// What the stream gave already.
+    ahead: Ahead,
     /// The last connection wasn't had.
     was_refused: bool,
     lost: u64,
@@ -44,6 +47,7 @@ impl<'a> SocketDial<'a> {
             rt: *rt,
             peer,
             stream: None,
+            ahead: Ahead::new(rt.alloc()),
             was_refused: false,
             lost: 0,
             faults: 0,
@@ -77,16 +81,6 @@ fn connected(rt: &HostRuntime, host: &str, port: u16) -> io::Result<TcpStream> {
     Ok(stream)
 }
 
-/// Reads what comes next; a call that a signal broke off is made once more.
-fn read_next(stream: &mut TcpStream, into: &mut [u8]) -> io::Result<usize>
-    ensures { IfOk result (λ count. count ≤ length into.new) }
-{
-    match stream.read(into) {
-        Err(error) if error.kind() == io::ErrorKind::Interrupted => stream.read(into),
-        read => read,
-    }
-}
-
 impl Dial for SocketDial<'_> {
     ghost told = { λ dial. None };
 
@@ -108,6 +102,7 @@ impl Dial for SocketDial<'_> {
         match connected(&self.rt, host, port) {
             Ok(stream) => {
                 self.stream = Some(stream);
+                self.ahead.begin();
                 self.was_refused = false;
                 Ok(())
             }
@@ -122,7 +117,7 @@ impl Dial for SocketDial<'_> {
         let Some(stream) = &mut self.stream else {
             return Err(self.fail());
         };
-        match read_next(stream, into) {
+        match self.ahead.read(stream, into) {
             Ok(0) => {
                 self.lose();
                 Ok(0)

@@ -9,9 +9,9 @@ use vf_base::{Failed, LinkEvent, LinkFault, Links};
 
 /// Links over the streams that come to a port. They are numbered 1, 2, 3 .. in the order in which they are accepted.
 ///
-/// The port and the streams are visited in rounds, each once. A round in which nothing came is idle: it sleeps for a millisecond,
-/// and after the stated number of idle rounds in a row the peers are through. Where the port couldn't be had each call of
-/// `next` fails.
+/// The port and the streams are visited in rounds, each once. A round in which nothing came is idle: it waits for a millisecond,
+/// or until something comes, and after the stated number of idle rounds in a row the peers are through. Where the port couldn't
+/// be had each call of `next` fails.
 #[derive(Drop)]
 pub struct SocketLinks {
     rounds: Rounds,

@@ -25,10 +25,11 @@ use Rattle.vf_responder.specs.declared.error.ServeError.{ServeError}
 use Rattle.vf_responder.specs.declared.error.ServeError.TheVariants.{Respond, LinksFault, NoMemory}
 use Rattle.vf_responder.specs.declared.serving.Served.{Served}
 use Rattle.vf_incarnations.proofs.Answered.{event-to, events_are_answered, to-reached}
-use Rattle.vf_incarnations.specs.Incarnations.{Incarnation, Stop, answers, cut_short, left_by}
+use Rattle.vf_incarnations.proofs.Lives.{incarnations_are_serial}
+use Rattle.vf_incarnations.specs.Incarnations.{Incarnation, Incarnates, Stop, answers, cut_short, left_by}
 use Rattle.vf_incarnations.specs.Laws.{MayBegin}
 use Rattle.vf_incarnations.specs.Messages.{to_event, to_events}
-use Rattle.vf_incarnations.specs.Served.{EachMomentIsAStop, EndsSo, IsIncarnation, IsSentBy, ServingIncarnates, events_to}
+use Rattle.vf_incarnations.specs.Served.{EachMomentIsAStop, EndsSo, IsIncarnation, IsSentBy, IsSerial, ServingIncarnates, events_to}
 
 -- ---- the first of some answers
 
@@ -272,6 +273,9 @@ sent-so state events traffic stop sent = record {
 
 -- ---- the call
 
+is-serial : (incarnation : Incarnation) (state : State) → MayBegin state → IsSerial incarnation state
+is-serial incarnation state may = incarnations_are_serial (Incarnates incarnation ∷ []) state may
+
 -- it was through with all that came
 went-through : (state : State) (traffic : Traffic) (image : List ℕ)
     → RepresentsPast (length (run (lived traffic) (unheard state))) (unheard state) (run (lived traffic) (unheard state)) image
@@ -283,32 +287,34 @@ went-through state traffic image (count, most, represents) =
     let is : take count all ≡ all ++ [] = ap (take count) (sym (append-nil all)) ∙ so.1 ∙ ap (λ (none : List Answer). all ++ none) (take-none so.0) in
     left-is (record { events = lived traffic; stop = None }) state image (subst (λ (answers : List Answer). Represents image (tables_in (at_end begin answers))) is represents)
 
-through-is : (state : State) (result : Result Served ServeError) (traffic : Traffic) (image : List ℕ) → answered result traffic ≡ traffic.events → EndsSo result traffic.events None
-    → IsSent (unheard state) (answered result traffic) traffic
+through-is : (state : State) (result : Result Served ServeError) (traffic : Traffic) (image : List ℕ) → MayBegin state → answered result traffic ≡ traffic.events
+    → EndsSo result traffic.events None → IsSent (unheard state) (answered result traffic) traffic
     → RepresentsPast (length (run (lived_with (answered result traffic) traffic) (unheard state))) (unheard state) (run (lived traffic) (unheard state)) image
     → IsIncarnation state result traffic image
-through-is state result traffic image all ends sent left = record {
+through-is state result traffic image may all ends sent left = record {
   incarnation = record { events = lived traffic; stop = None };
   events = sym (ap (λ (events : List ScriptEvent). lived_with events traffic) all);
   ends = ends;
   sent = sent-so state traffic.events traffic None (subst (λ (events : List ScriptEvent). IsSent (unheard state) events traffic) all sent);
   left = went-through state traffic image
       (subst (λ (events : List ScriptEvent). RepresentsPast (length (run (lived_with events traffic) (unheard state))) (unheard state) (run (lived traffic) (unheard state)) image) all left);
+  serial = is-serial (record { events = lived traffic; stop = None }) state may;
 }
 
 -- it stopped within the last event that came, or before any
-stopped-is : (state : State) (error : JournalError) (traffic : Traffic) (image : List ℕ) (events : List ScriptEvent) → traffic.events ≡ events → IsReached state
+stopped-is : (state : State) (error : JournalError) (traffic : Traffic) (image : List ℕ) (events : List ScriptEvent) → traffic.events ≡ events → MayBegin state
     → IsSent (unheard state) (but_last events) traffic
     → RepresentsPast (length (run (lived_with (but_last events) traffic) (unheard state))) (unheard state) (run (lived_with events traffic) (unheard state)) image
     → IsIncarnation {T = Served} state (Err (Respond error)) traffic image
-stopped-is state error traffic image [] is reached sent (count, most, represents) = record {
+stopped-is state error traffic image [] is may sent (count, most, represents) = record {
   incarnation = record { events = []; stop = None };
   events = sym (ap (λ (events : List ScriptEvent). lived_with (but_last events) traffic) is);
   ends = is;
   sent = sent-so state [] traffic None sent;
   left = left-is (record { events = []; stop = None }) state image (subst (λ (answers : List Answer). Represents image (tables_in (at_end (unheard state) answers))) (take-none count) represents);
+  serial = is-serial (record { events = []; stop = None }) state may;
 }
-stopped-is state error traffic image (event ∷ events) is reached sent left =
+stopped-is state error traffic image (event ∷ events) is may sent left =
     let whole = event ∷ events in
     let front = but_last whole in
     let last = has-last event events in
@@ -316,7 +322,7 @@ stopped-is state error traffic image (event ∷ events) is reached sent left =
     let first = lived_with front traffic in
     let lived_is : lived_with whole traffic ≡ first ++ last.last ∷ lived_last.ends =
     ap (λ (events : List ScriptEvent). lived_with events traffic) last.is ∙ lived_last.is in
-    let at = within-last first last.last lived_last.ends state image lived_last.all reached
+    let at = within-last first last.last lived_last.ends state image lived_last.all may.reached
     (subst (λ (events : List ScriptEvent). RepresentsPast (length (run first (unheard state))) (unheard state) (run events (unheard state)) image) lived_is left) in
     record {
       incarnation = record { events = first; stop = Some (record { event = last.last; answers = at.answers }) };
@@ -324,6 +330,7 @@ stopped-is state error traffic image (event ∷ events) is reached sent left =
       ends = is ∙ last.is ∙ ap (λ (events : List ScriptEvent). but_last events ++ last.last ∷ []) (sym is);
       sent = sent-so state front traffic (Some (record { event = last.last; answers = at.answers })) sent;
       left = at.left;
+      serial = is-serial (record { events = first; stop = Some (record { event = last.last; answers = at.answers }) }) state may;
     }
 
 module _ {D : Type 0} (shown : D → Option (List ℕ)) (may_leave : D → List ℕ → Type 0) where
@@ -331,13 +338,13 @@ module _ {D : Type 0} (shown : D → Option (List ℕ)) (may_leave : D → List 
       → Serves shown may_leave (unheard state) disk result (Some traffic) → KeepsAnswered may_leave (unheard state) disk result (Some traffic) → may_leave disk image
       → IsIncarnation state result traffic image
   by-result state disk (Ok served) traffic image may serves keeps leaves =
-      through-is state (Ok served) traffic image refl refl serves.0 (keeps image leaves)
+      through-is state (Ok served) traffic image may refl refl serves.0 (keeps image leaves)
   by-result state disk (Err LinksFault) traffic image may serves keeps leaves =
-      through-is state (Err LinksFault) traffic image refl refl serves.0 (keeps image leaves)
+      through-is state (Err LinksFault) traffic image may refl refl serves.0 (keeps image leaves)
   by-result state disk (Err NoMemory) traffic image may serves keeps leaves =
-      through-is state (Err NoMemory) traffic image refl refl serves.0 (keeps image leaves)
+      through-is state (Err NoMemory) traffic image may refl refl serves.0 (keeps image leaves)
   by-result state disk (Err (Respond error)) traffic image may serves keeps leaves =
-      stopped-is state error traffic image traffic.events refl may.reached serves.0 (keeps image leaves)
+      stopped-is state error traffic image traffic.events refl may serves.0 (keeps image leaves)
 
   pub serving_incarnates : ServingIncarnates shown may_leave
   serving_incarnates state disk result None may serves keeps = absurd serves

@@ -12,8 +12,10 @@ use Rattle.vf_responder.specs.Serving.{unheard}
 use Rattle.vf_responder.specs.declared.error.ServeError.{ServeError}
 use Rattle.vf_responder.specs.declared.error.ServeError.TheVariants.{Respond}
 use Rattle.vf_responder.specs.declared.serving.Served.{Served}
-use Rattle.vf_incarnations.specs.Incarnations.{Incarnation, Stop, left_by, sent_by}
+use Rattle.vf_serial.specs.Laws.{EachUse, IsUsedSerially}
+use Rattle.vf_incarnations.specs.Incarnations.{Incarnation, Incarnates, Stop, left_by, sent_by}
 use Rattle.vf_incarnations.specs.Laws.{MayBegin}
+use Rattle.vf_incarnations.specs.Messages.{happenings}
 
 -- WHERE IT ENDED. Where the responder couldn't go on it stopped within the last event that came, or, where none had come, as the
 -- store was opened. Else it was through with all that came.
@@ -31,6 +33,10 @@ pub record IsSentBy (incarnation : Incarnation) (state : State) (traffic : Traff
   pub front : (link : ℕ) → IsFront (traffic.taken link) (octets_on link (sent_by incarnation state))
   pub shut : (link : ℕ) → has_note link traffic.shut ≡ is_shut link (sent_by incarnation state)
 
+-- SERIAL USE. In it each file all of whose open regimes isolate is used as if they had used it one after another.
+abbrev pub IsSerial : Incarnation → State → Type 0
+IsSerial incarnation state = EachUse (IsUsedSerially (left_by incarnation state).files) (happenings (Incarnates incarnation ∷ []) state) state
+
 -- The incarnation that a call was, of which a crash left this image: it answered the events whose replies were sent, with the
 -- ends of links on which a send failed, and the image represents what it left.
 pub record IsIncarnation {T : Type 0} (state : State) (result : Result T ServeError) (traffic : Traffic) (image : List ℕ) : Type 0 where
@@ -39,6 +45,7 @@ pub record IsIncarnation {T : Type 0} (state : State) (result : Result T ServeEr
   pub ends : EndsSo result traffic.events incarnation.stop
   pub sent : IsSentBy incarnation state traffic
   pub left : Represents image (tables_of (left_by incarnation state))
+  pub serial : IsSerial incarnation state
 
 -- So each image that a crash may leave once a call has ended is left by an incarnation, however it ended. Nothing is lost that was
 -- answered, and of the event in progress the first messages are there or none.

@@ -84,6 +84,12 @@ whole_over Open = refl
 whole_over Whole = refl
 whole_over Concluded = refl
 
+concluded_is : (phase : Phase) → is_concluded phase ≡ true → phase ≡ Concluded
+concluded_is New is = absurd cc
+concluded_is Open is = absurd cc
+concluded_is Whole is = absurd cc
+concluded_is Concluded is = refl
+
 either : (t : Bool) (a b : Saying) → (t ≡ true → a.sent.offered ≤ MOST_POINT) → b.sent.offered ≤ MOST_POINT → (if t then a else b).sent.offered ≤ MOST_POINT
 either true a b first second = first refl
 either false a b first second = second
@@ -203,7 +209,7 @@ module _ (old : List (List Element)) where
 
     good_concludes : (way : Way) (c : Conduct) (outcome : Option Diagnostic) → (way ≡ Get → is_over c.progress.phase ≡ true) → IsCore old way c.progress c.gathered → Good way (concludes c outcome).conduct
     good_concludes way c outcome whole core =
-        record { core = new_phase way c.progress c.gathered Concluded (number_of_outcome outcome) whole core; stage = tt }
+        record { core = new_phase way c.progress c.gathered Concluded (number_of_outcome outcome) whole core; stage = refl }
 
     -- a put sends its values
     good_sends : (s : Setting) (c : Conduct) (sent : Sent) → sent.offered ≤ MOST_POINT → IsCore old Put c.progress c.gathered → Good Put (sends_on given s c sent).conduct
@@ -312,14 +318,14 @@ module _ (old : List (List Element)) where
     good_recovered s c number point false last core = good_standing s c number last core
 
     -- the other end keeps nothing of it
-    forgets_by : (c : Conduct) (t : Bool) → IsCore old own c.progress c.gathered
+    forgets_by : (c : Conduct) (t : Bool) → (t ≡ true → c.progress.phase ≡ Concluded) → IsCore old own c.progress c.gathered
         → Good own (if t then step (terminate ∷ []) (waits (stages.Terminating (outcome_of c.progress.outcome)) c) else selects given (cuts 0 (progresses new_progress c))).conduct
-    forgets_by c true core = record { core = core; stage = tt }
-    forgets_by c false core = good_selects (cuts 0 (progresses new_progress c)) refl (cut own c.progress c.gathered 1 0 New 0 (omega arith) refl (omega arith) (omega arith) core)
+    forgets_by c true is core = record { core = core; stage = is refl }
+    forgets_by c false is core = good_selects (cuts 0 (progresses new_progress c)) refl (cut own c.progress c.gathered 1 0 New 0 (omega arith) refl (omega arith) (omega arith) core)
 
     good_not_recovered_by : (c : Conduct) (diagnostic : Diagnostic) (t : Bool) → IsCore old own c.progress c.gathered
         → Good own (if t then forgotten given c else step (terminate ∷ []) (refused_with diagnostic c)).conduct
-    good_not_recovered_by c diagnostic true core = forgets_by c (is_concluded c.progress.phase) core
+    good_not_recovered_by c diagnostic true core = forgets_by c (is_concluded c.progress.phase) (concluded_is c.progress.phase) core
     good_not_recovered_by c diagnostic false core = good_over own _ c core
 
     good_recovering : (s : Setting) (c : Conduct) → IsCore old own c.progress c.gathered → (message : Heard) → If (recovering given s c message)
@@ -408,15 +414,15 @@ module _ (old : List (List Element)) where
 
     -- ---- F-CLOSE, F-DESELECT and F-TERMINATE
 
-    good_closing : (c : Conduct) (outcome : Option Diagnostic) → IsCore old own c.progress c.gathered → (message : Heard) → If (closing c outcome message)
-    good_closing c outcome core (heard.Closed None) = record { core = core; stage = tt }
-    good_closing c outcome core (heard.Closed (Some diagnostic)) = good_over own _ c core
-    good_closing c outcome core message = tt
+    good_closing : (c : Conduct) (outcome : Option Diagnostic) → c.progress.phase ≡ Concluded → IsCore old own c.progress c.gathered → (message : Heard) → If (closing c outcome message)
+    good_closing c outcome concluded core (heard.Closed None) = record { core = core; stage = concluded }
+    good_closing c outcome concluded core (heard.Closed (Some diagnostic)) = good_over own _ c core
+    good_closing c outcome concluded core message = tt
 
-    good_deselecting : (c : Conduct) (outcome : Option Diagnostic) → IsCore old own c.progress c.gathered → (message : Heard) → If (deselecting c outcome message)
-    good_deselecting c outcome core (heard.Deselected None) = record { core = core; stage = tt }
-    good_deselecting c outcome core (heard.Deselected (Some diagnostic)) = good_over own _ c core
-    good_deselecting c outcome core message = tt
+    good_deselecting : (c : Conduct) (outcome : Option Diagnostic) → c.progress.phase ≡ Concluded → IsCore old own c.progress c.gathered → (message : Heard) → If (deselecting c outcome message)
+    good_deselecting c outcome concluded core (heard.Deselected None) = record { core = core; stage = concluded }
+    good_deselecting c outcome concluded core (heard.Deselected (Some diagnostic)) = good_over own _ c core
+    good_deselecting c outcome concluded core message = tt
 
     good_ended_so : (c : Conduct) (outcome : Option Diagnostic) → IsCore old own c.progress c.gathered → Good own (ended_so outcome c)
     good_ended_so c None core = good_over own _ c core
@@ -437,8 +443,8 @@ module _ (old : List (List Element)) where
     good_rows s c number (stages.Sending sent) message is at sayable core here = good_sending s c sent at here.0 here.1 core message
     good_rows s c number stages.Receiving message is at sayable core here = good_receiving c at here core message sayable
     good_rows s c number (stages.Received diagnostic) message is at sayable core here = good_received c diagnostic here.1 core message
-    good_rows s c number (stages.Closing outcome) message is at sayable core here = good_closing c outcome core message
-    good_rows s c number (stages.Deselecting outcome) message is at sayable core here = good_deselecting c outcome core message
+    good_rows s c number (stages.Closing outcome) message is at sayable core here = good_closing c outcome here core message
+    good_rows s c number (stages.Deselecting outcome) message is at sayable core here = good_deselecting c outcome here core message
     good_rows s c number (stages.Terminating outcome) message is at sayable core here = good_terminating c outcome core message
     good_rows s c number (stages.Over how) message is at sayable core here = tt
 

@@ -107,7 +107,7 @@ leads_stages tables activity count (elements ∷ pieces) task meant good gets co
 -- ---- valid tables stay so
 
 -- the tests of tables, with those of their tasks apart
-is_valid_by : (tables : Tables) (tasks : List Task) → is_valid tables ≡ true
+pub is_valid_by : (tables : Tables) (tasks : List Task) → is_valid tables ≡ true
     → all_differ are_apart tasks ≡ true → nat_le (length tasks) MOST_TASKS ≡ true → list_all is_valid_task tasks ≡ true → is_valid (record tables { tasks = tasks }) ≡ true
 is_valid_by tables tasks valid differ few good =
     let users = all_differ (λ (user : User). is_user user.identity) tables.users in
@@ -146,7 +146,7 @@ pub record AreTasks (tables : Tables) : Type 0 where
   pub few : nat_le (length tables.tasks) MOST_TASKS ≡ true
   pub good : list_all is_valid_task tables.tasks ≡ true
 
-are_tasks : (tables : Tables) → is_valid tables ≡ true → AreTasks tables
+pub are_tasks : (tables : Tables) → is_valid tables ≡ true → AreTasks tables
 are_tasks tables valid =
     let c = list_all is_valid_file tables.files in
     let d = list_all (is_valid_docket tables.files) tables.dockets in

@@ -22,6 +22,7 @@ use Rattle.vf_tables.specs.declared.change.Change.{Change}
 use Rattle.vf_tables.specs.declared.limits.TheConstants.{MOST_POINT}
 use Rattle.vf_tables.specs.declared.tables.Tables.{Tables}
 use Rattle.vf_tables.specs.declared.task.Phase.{Phase}
+use Rattle.vf_tables.specs.declared.task.Phase.TheVariants.{Concluded}
 use Rattle.vf_tables.specs.declared.task.Task as kept
 use Rattle.vf_tables.specs.declared.task.Way.{Way}
 use Rattle.vf_tables.specs.declared.task.Way.TheVariants.{Get, Put}
@@ -47,7 +48,7 @@ is_within_file elements =
     list_all is_element elements && nat_le (octets_of_unit elements) MOST_FILE_OCTETS && nat_le (length elements) MOST_FILE_PARTS
 
 -- How far a task has come goes with what is waited for: it isn't at its end before it is opened, nor while a get receives,
--- and it is after the data of a get; and a put numbers its checks within their range.
+-- it is after the data of a get, and it is concluded from F-CLOSE on; and a put numbers its checks within their range.
 abbrev pub IsAtStage : Way → (is_resumed : Bool) → Phase → Stage → Type 0
 IsAtStage way is_resumed phase stages.Associating = is_resumed ≡ false → is_over phase ≡ false
 IsAtStage way is_resumed phase stages.Selecting = is_over phase ≡ false
@@ -55,6 +56,9 @@ IsAtStage way is_resumed phase stages.Opening = is_over phase ≡ false
 IsAtStage way is_resumed phase (stages.Sending sent) = (way ≡ Put) × (sent.offered ≤ MOST_POINT)
 IsAtStage way is_resumed phase stages.Receiving = (way ≡ Get) × (is_over phase ≡ false)
 IsAtStage way is_resumed phase (stages.Received diagnostic) = (way ≡ Get) × (is_over phase ≡ true)
+IsAtStage way is_resumed phase (stages.Closing outcome) = phase ≡ Concluded
+IsAtStage way is_resumed phase (stages.Deselecting outcome) = phase ≡ Concluded
+IsAtStage way is_resumed phase (stages.Terminating outcome) = phase ≡ Concluded
 IsAtStage way is_resumed phase stage = Unit {0}
 
 -- The task as it stands may be kept, also after what may come next.

@@ -104,7 +104,7 @@ impl Initiator {
         let mut sent = Vec::new(alloc);
         self.take_all(alloc, piece, &mut sent)?;
         self.conduct.put_changes(alloc, &self.given, mark, changes)?;
-        out.extend_from_slice(sent.as_slice())?;
+        append_all(sent, out)?;
         Ok(self.doing())
     }
 
@@ -288,6 +288,19 @@ fn gathered_of(alloc: Global, plan: &Plan, kept: Option<&KeptTask>) -> Result<Ga
         None => Gathered::of(alloc, &[]),
         Some(task) => Gathered::of(alloc, task.staged.as_slice()),
     }
+}
+
+/// Appends octets; where there are none yet they aren't copied.
+fn append_all(octets: Vec<u8>, out: &mut Vec<u8>) -> Result<(), NoMemory>
+    ensures all { OnOk result (out.new.items ≡ out.old.items ++ octets.items) }
+    ensures memory { OnErr result (out.new.items ≡ out.old.items) }
+{
+    if out.is_empty() {
+        *out = octets;
+        return Ok(());
+    }
+    out.extend_from_slice(octets.as_slice())?;
+    Ok(())
 }
 
 /// Sends requests in their order, each where it may be sent.

@@ -25,6 +25,31 @@ drop_after from place old new same le =
 pub part_after : (from place count : ℕ) (old new : List ℕ) → drop from new ≡ drop from old → from ≤ place → part new place count ≡ part old place count
 part_after from place count old new same le = ap (λ (octets : List ℕ). take count octets) (drop_after from place old new same le)
 
+-- a part from some octet on
+pub part_from : (image : List ℕ) (place count from : ℕ) → from ≤ count → drop from (part image place count) ≡ part image (place + from) (count - from)
+part_from image place count from le =
+    let back : from + (count - from) ≡ count = omega arith in
+    ap (λ (n : ℕ). drop from (take n (drop place image))) (sym back) ∙ drop-take from (count - from) (drop place image) ∙ ap (λ (l : List ℕ). take (count - from) l) (drop-drop from place image)
+
+-- the octets of a block that stand from a later place on
+pub begins_on : (image block : List ℕ) (place from next : ℕ) → block ≡ part image place (length block) → from ≤ length block → next ≡ place + from → drop from block ≡ part image next (length block - from)
+begins_on image block place from next is le there =
+    ap (λ (l : List ℕ). drop from l) is ∙ part_from image place (length block) from le ∙ ap (λ (n : ℕ). part image n (length block - from)) (sym there)
+
+-- some of the octets that begin a list begin it too
+prefix : (list : List ℕ) (many count : ℕ) → take count (take many list) ≡ take (length (take count (take many list))) list
+prefix list many count =
+    let first = take count (take many list) in
+    let rest = drop count (take many list) ++ drop many list in
+    let whole : list ≡ first ++ rest = sym (take-append-drop many list) ∙ ap (λ (l : List ℕ). l ++ drop many list) (sym (take-append-drop count (take many list))) ∙ append_assoc first (drop count (take many list)) (drop many list) in
+    sym (ap (λ (l : List ℕ). take (length first) l) whole ∙ take_at first rest (length first) refl)
+
+-- the octets of a record that stand in a block from its gate on
+pub begun_part : (image octets : List ℕ) (gate count : ℕ) → octets ≡ part image gate (length octets) → 5 ≤ length octets → take count (drop 5 octets) ≡ part image (gate + 5) (length (take count (drop 5 octets)))
+begun_part image octets gate count is long =
+    let there : drop 5 octets ≡ part image (gate + 5) (length octets - 5) = ap (λ (l : List ℕ). drop 5 l) is ∙ part_from image gate (length octets) 5 long in
+    ap (λ (l : List ℕ). take count l) there ∙ prefix (drop (gate + 5) image) (length octets - 5) count ∙ ap (λ (l : List ℕ). part image (gate + 5) (length (take count l))) (sym there)
+
 -- parts that follow one another
 pub parts_joined : (image : List ℕ) (place count more : ℕ) → part image place count ++ part image (place + count) more ≡ part image place (count + more)
 parts_joined image place count more =

@@ -1,5 +1,5 @@
 -- What stands at the start of octets that begin with a gate, told by a block of them.
-use Rattle.std.proofs.Common.{◌≡◌, ◌≢◌, ℕ, suc, ◌+◌, ◌<◌, ◌≤◌, List, [], ◌∷◌, ◌++◌, length, get_or, take, drop, None, Some, refl, sym, ◌∙◌, ap, arith, take-append-drop}
+use Rattle.std.proofs.Common.{◌≡◌, ◌≢◌, ℕ, suc, ◌+◌, ◌-◌, ◌<◌, ◌≤◌, List, [], ◌∷◌, ◌++◌, length, get_or, take, drop, None, Some, refl, sym, ◌∙◌, ap, arith, length-drop, take-append-drop}
 use Rattle.std.proofs.lemmas.List.{drop-drop}
 use Rattle.std.specs.Prelude.{option_map}
 use Rattle.vf_journal.specs.Layout.{length_named, part}
@@ -55,3 +55,9 @@ pub record_read : (image item : List ℕ) (gate count : ℕ) (rest : List ℕ) �
 record_read image item gate count rest is read =
     let same : take count (drop 5 (drop gate image)) ≡ item = ap (λ (l : List ℕ). take count l) (drop-drop 5 gate image) ∙ sym read in
     rw is (ap Some (sym same))
+
+-- octets from a later one of a block on, of which the first stand at a place
+pub begins_there : (image octets block : List ℕ) (gate from size : ℕ) → length image ≡ size → octets ≡ drop from block → drop from block ≡ part image gate (length block - from) → BeginsWith octets (size - gate) (drop gate image)
+begins_there image octets block gate from size size_is is begins =
+    let count : length octets ≡ length block - from = ap length is ∙ length-drop from block in
+    (is ∙ begins ∙ ap (λ (n : ℕ). take n (drop gate image)) (sym count), length-drop gate image ∙ ap (λ (n : ℕ). n - gate) size_is)

@@ -7,6 +7,7 @@ use Rattle.vf_journal.specs.Records.{first_record, octets_of, records_in}
 use Rattle.std.specs.Prelude.{option_map}
 use Rattle.vf_journal.specs.Reading.{BeginsWith, StandsFrom, Takes, with_records}
 use Rattle.vf_journal.specs.JournalState.{IsPlaced, area_of, with_record}
+use Rattle.vf_journal.specs.Layout.{part}
 use Rattle.vf_journal.proofs.Counts.{octets_push, placed_more}
 use Rattle.vf_journal.proofs.Gates.{first_rest, reads_none, reads_some}
 
@@ -142,6 +143,25 @@ pub with_records_placed : (area : Area) (taken : List (List ℕ)) → IsPlaced a
 with_records_placed area [] placed bound = placed
 with_records_placed area (item ∷ taken) placed bound = with_records_placed (with_record area (length item)) taken (placed_more area (length item) placed (omega arith)) (omega arith)
 
+-- the block wasn't at its end
+pub taking_inside : (block : List ℕ) (count : ℕ) (area : Area) (old : List (List ℕ)) (rest : List ℕ) (left : ℕ) (now : Area) (new : List (List ℕ)) → Taking block count area old rest left now new → now.end < area.end + length block
+taking_inside block count area old rest left now new taking =
+    let size = ap length taking.rest_is ∙ length-drop (octets_of taking.taken) block in
+    let end = ap (λ (a : Area). a.end) taking.counts in
+    omega (arith, size, end, taking.some, with_records_end area taking.taken)
+
+-- records that are taken from a block, of those that stand from a place on
+pub takes_stands : (shown : Option (List ℕ)) (total place : ℕ) (block : List ℕ) → ((image : List ℕ) → shown ≡ Some image → length image ≡ total) → ((image : List ℕ) → shown ≡ Some image → block ≡ part image place (length block))
+    → (old new : List (List ℕ)) (area found : Area) (more : Bool) → Takes (BeginsWith block (total - place)) old new (total - place) area found more → Takes (StandsFrom shown place) old new (total - place) area found more
+takes_stands shown total place block size begins old new area found more takes = record {
+  taken = takes.taken;
+  records = takes.records;
+  counts = takes.counts;
+  bound = takes.bound;
+  reads = λ all (image, shows, is).
+      takes.reads all (begins image shows ∙ ap (λ (l : List ℕ). take (length block) l) (sym is), ap length is ∙ length-drop place image ∙ ap (λ (n : ℕ). n - place) (size image shows));
+}
+
 none_octets : (taken : List (List ℕ)) → octets_of taken ≡ 0 → taken ≡ []
 none_octets [] is = refl
 none_octets (item ∷ taken) is = absurd (omega arith)
@@ -180,6 +200,18 @@ takes_grow IsAll count old new area found more takes = let end = ap (λ (a : Are
 pub takes_placed : (IsAll : List ℕ → Type 0) (count : ℕ) (old new : List (List ℕ)) (area found : Area) (more : Bool) → (takes : Takes IsAll old new count area found more) → IsPlaced area → area.end + count ≤ greatest_length + 1 → IsPlaced found
 takes_placed IsAll count old new area found more takes placed bound =
     subst IsPlaced (sym takes.counts) (with_records_placed area takes.taken placed (omega (arith, takes.bound)))
+
+-- the records of a block, and those after them
+pub block_more : (shown told : Option (List ℕ)) → told ≡ shown → (size : ℕ) (old mid new : List (List ℕ)) (area found further : Area) (more : Bool) → 0 < area.end
+    → Takes (StandsFrom shown (area.end - 1)) old mid (size - (area.end - 1)) area found true → Takes (StandsFrom told (found.end - 1)) mid new (size - (found.end - 1)) found further more
+    → Takes (StandsFrom shown (area.end - 1)) old new (size - (area.end - 1)) area further more
+block_more shown told same size old mid new area found further more some first second =
+    let end = takes_grow (StandsFrom shown (area.end - 1)) (size - (area.end - 1)) old mid area found true first in
+    takes_joined (StandsFrom shown (area.end - 1)) (StandsFrom told (found.end - 1)) old mid new (size - (area.end - 1)) (size - (found.end - 1)) area found further more first
+    (λ all (image, shows, is).
+    let place : area.end - 1 + octets_of first.taken ≡ found.end - 1 = omega (arith, end) in
+    (image, same ∙ shows, ap (λ (l : List ℕ). drop (octets_of first.taken) l) is ∙ drop-drop (octets_of first.taken) (area.end - 1) image ∙ ap (λ (n : ℕ). drop n image) place))
+    (omega (arith, end, first.bound)) second
 
 -- the records of an area, some more of them
 pub area_more : (shown told : Option (List ℕ)) → told ≡ shown → (start size : ℕ) → start < size → (old mid new : List (List ℕ)) (area found : Area) (more : Bool)

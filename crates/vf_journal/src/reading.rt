@@ -94,6 +94,7 @@ pub(crate) fn take_records(
     requires placed { IsPlaced area }
     requires bound { area.end + left ≤ greatest_length + 1 }
     ensures taken { IfOk result (λ found. Takes (BeginsWith block.now left) records.old.items records.new.items left area found.0 found.1) }
+    ensures inside { IfOk result (λ found. found.0.end < area.end + length block.now) }
     ensures kept { OnErr result (take (length records.old.items) records.new.items ≡ records.old.items) }
 {
     let mut rest = block;
@@ -143,24 +144,27 @@ fn append_part<D: Disk>(
     Ok(())
 }
 
-/// So many octets of a disk, from a place on, read in blocks: no octet is set before it is read.
+/// So many octets of a disk, from a place on, of which the first are there: the others are read in blocks, and none is set
+/// before it is read.
 fn read_octets<D: Disk>(
-    alloc: Global,
     disk: &mut D,
     block: &mut [u8],
     at: u64,
     count: u64,
+    begun: Vec<u8>,
 ) -> Result<Octets, JournalError>
     requires block { 0 < size_of block.old }
     requires place { at + count ≤ D.size disk.old }
     requires fits { at + count < 2 ^ 64 }
     requires count { count < 2 ^ 32 }
+    requires begun { size_of begun.items ≤ count }
+    requires first { (image : List ℕ) → D.shown disk.old ≡ Some image → begun.items ≡ part image at (size_of begun.items) }
     ensures octets { (image : List ℕ) → D.shown disk.old ≡ Some image → IfOk result (λ octets. octets ≡ part image at count) }
     ensures count { IfOk result (λ octets. size_of octets ≡ count) }
     ensures looks { IsLookedAt D.shown D.size D.may_leave D.moment D.left_since D.plan D.state D.lack_count (is_fault result) disk.old disk.new }
     ensures causes { ReadCauses (D.fault_count disk.old) (D.fault_count disk.new) result }
 {
-    let mut octets = Vec::with_capacity(alloc, count as usize)?;
+    let mut octets = begun;
     while (octets.len() as u64) < count {
         append_part(disk, block, at, count, &mut octets)?;
     }
@@ -193,49 +197,93 @@ fn read_record<D: Disk>(
     let Some(count) = record_length(&head, left) else {
         return Ok(None);
     };
-    let record = read_octets(alloc, disk, block, gate + 5, u64::from(count))?;
+    let room = Vec::with_capacity(alloc, count as usize)?;
+    let record = read_octets(disk, block, gate + 5, u64::from(count), room)?;
     Ok(Some(record))
 }
 
-/// Reads the next block of an area of a disk of so many octets, from the closing gate of the area so far on, and takes
-/// its whole records. Answers the area with them, and whether the block ended first.
-fn take_block<D: Disk>(
+/// Room for a record of so many octets, with the first of them, which stand after its gate and its length.
+fn begin_record(alloc: Global, octets: &[u8], count: usize) -> Result<Vec<u8>, NoMemory>
+    requires { 5 ≤ length octets.now }
+    ensures { IfOk result (λ begun. begun.items ≡ take count (drop 5 octets.now)) }
+{
+    let mut begun = Vec::with_capacity(alloc, count)?;
+    let (_, there) = octets.split_at(5);
+    let many = there.len().min(count);
+    begun.extend_from_slice(&there[..many])?;
+    Ok(begun)
+}
+
+/// The record after the gate at a place of a disk of so many octets, of which the first are those of a block from some
+/// octet on: the rest of it is read.
+fn read_begun<D: Disk>(
     alloc: Global,
     disk: &mut D,
     block: &mut [u8],
+    from: usize,
+    gate: u64,
     length: u64,
-    area: Area,
-    records: &mut Vec<Octets>,
-) -> Result<(Area, bool), JournalError>
-    requires block { 0 < size_of block.old }
+) -> Result<Option<Octets>, JournalError>
+    requires from { from + 5 ≤ size_of block.old }
+    requires within { gate + (size_of block.old - from) ≤ length }
+    requires begins { (image : List ℕ) → D.shown disk.old ≡ Some image → drop from block.old ≡ part image gate (size_of block.old - from) }
     requires length { length ≡ D.size disk.old }
-    requires bound { length ≤ greatest_length }
-    requires end { area.end ≤ length }
-    requires placed { IsPlaced area }
-    ensures taken { IfOk result (λ found. Takes (StandsFrom (D.shown disk.old) (area.end - 1)) records.old.items records.new.items (length - (area.end - 1)) area found.0 found.1) }
-    ensures kept { OnErr result (take (size_of records.old.items) records.new.items ≡ records.old.items) }
+    ensures found { (image : List ℕ) → D.shown disk.old ≡ Some image → IfOk result (λ found. found ≡ option_map (λ item. item.0) (first_record (drop gate image))) }
+    ensures bound { IfOk result (λ found. IfSome found (λ item. gate + size_of item + 6 ≤ length)) }
     ensures looks { IsLookedAt D.shown D.size D.may_leave D.moment D.left_since D.plan D.state D.lack_count (is_fault result) disk.old disk.new }
     ensures causes { ReadCauses (D.fault_count disk.old) (D.fault_count disk.new) result }
 {
-    let gate = area.end - 1;
-    let left = length - gate;
-    let count = left.min(block.len() as u64) as usize;
-    read_at(disk, gate, &mut block[..count])?;
-    let (found, more) = take_records(alloc, &block[..count], left, area, records)?;
-    Ok((found, more))
+    let (_, there) = block.split_at(from);
+    let Some(count) = record_length(there, length - gate) else {
+        return Ok(None);
+    };
+    let begun = begin_record(alloc, there, count as usize)?;
+    let record = read_octets(disk, block, gate + 5, u64::from(count), begun)?;
+    Ok(Some(record))
 }
 
-/// Takes the next record of an area of a disk of so many octets by itself. Answers the area with it, and whether there
-/// was one.
-fn take_alone<D: Disk>(
+/// The same, where the block may have fewer octets of it than tell its length.
+fn read_next<D: Disk>(
     alloc: Global,
     disk: &mut D,
     block: &mut [u8],
+    from: usize,
+    gate: u64,
+    length: u64,
+) -> Result<Option<Octets>, JournalError>
+    requires block { 0 < size_of block.old }
+    requires from { from ≤ size_of block.old }
+    requires gate { gate < length }
+    requires within { gate + (size_of block.old - from) ≤ length }
+    requires begins { (image : List ℕ) → D.shown disk.old ≡ Some image → drop from block.old ≡ part image gate (size_of block.old - from) }
+    requires length { length ≡ D.size disk.old }
+    ensures found { (image : List ℕ) → D.shown disk.old ≡ Some image → IfOk result (λ found. found ≡ option_map (λ item. item.0) (first_record (drop gate image))) }
+    ensures bound { IfOk result (λ found. IfSome found (λ item. gate + size_of item + 6 ≤ length)) }
+    ensures looks { IsLookedAt D.shown D.size D.may_leave D.moment D.left_since D.plan D.state D.lack_count (is_fault result) disk.old disk.new }
+    ensures causes { ReadCauses (D.fault_count disk.old) (D.fault_count disk.new) result }
+{
+    if block.len() - from < 5 {
+        read_record(alloc, disk, block, gate, length)
+    } else {
+        read_begun(alloc, disk, block, from, gate, length)
+    }
+}
+
+/// Takes the next record of an area of a disk of so many octets, whose first octets are those of a block from some octet
+/// on. Answers the area with it, and whether there was one.
+fn take_cut<D: Disk>(
+    alloc: Global,
+    disk: &mut D,
+    block: &mut [u8],
+    from: usize,
     length: u64,
     area: Area,
     records: &mut Vec<Octets>,
 ) -> Result<(Area, bool), JournalError>
     requires block { 0 < size_of block.old }
+    requires from { from ≤ size_of block.old }
+    requires within { area.end - 1 + (size_of block.old - from) ≤ length }
+    requires begins { (image : List ℕ) → D.shown disk.old ≡ Some image → drop from block.old ≡ part image (area.end - 1) (size_of block.old - from) }
     requires length { length ≡ D.size disk.old }
     requires bound { length ≤ greatest_length }
     requires end { area.end ≤ length }
@@ -246,7 +294,7 @@ fn take_alone<D: Disk>(
     ensures looks { IsLookedAt D.shown D.size D.may_leave D.moment D.left_since D.plan D.state D.lack_count (is_fault result) disk.old disk.new }
     ensures causes { ReadCauses (D.fault_count disk.old) (D.fault_count disk.new) result }
 {
-    let Some(record) = read_record(alloc, disk, block, area.end - 1, length)? else {
+    let Some(record) = read_next(alloc, disk, block, from, area.end - 1, length)? else {
         return Ok((area, false));
     };
     let count = record.len() as u64;
@@ -254,8 +302,42 @@ fn take_alone<D: Disk>(
     Ok((area.with(count), true))
 }
 
-/// Takes the whole records of the next block, or else the one record that is longer than a block. Answers the area
-/// with them, and whether more may follow.
+/// Takes the whole records of a block, which has the octets of a disk of so many from the closing gate of an area on, and
+/// then the record that ends behind the block. Answers the area with them, and whether more may follow.
+fn take_block<D: Disk>(
+    alloc: Global,
+    disk: &mut D,
+    block: &mut [u8],
+    length: u64,
+    area: Area,
+    records: &mut Vec<Octets>,
+) -> Result<(Area, bool), JournalError>
+    requires block { 0 < size_of block.old }
+    requires within { area.end - 1 + size_of block.old ≤ length }
+    requires begins { (image : List ℕ) → D.shown disk.old ≡ Some image → block.old ≡ part image (area.end - 1) (size_of block.old) }
+    requires length { length ≡ D.size disk.old }
+    requires bound { length ≤ greatest_length }
+    requires end { area.end ≤ length }
+    requires placed { IsPlaced area }
+    ensures taken { IfOk result (λ found. Takes (StandsFrom (D.shown disk.old) (area.end - 1)) records.old.items records.new.items (length - (area.end - 1)) area found.0 found.1) }
+    ensures goes_on { IfOk result (λ found. IsTrue found.1 → area.end < found.0.end) }
+    ensures kept { OnErr result (take (size_of records.old.items) records.new.items ≡ records.old.items) }
+    ensures looks { IsLookedAt D.shown D.size D.may_leave D.moment D.left_since D.plan D.state D.lack_count (is_fault result) disk.old disk.new }
+    ensures causes { ReadCauses (D.fault_count disk.old) (D.fault_count disk.new) result }
+{
+    let left = length - (area.end - 1);
+    let (found, more) = take_records(alloc, block, left, area, records)?;
+    if !more {
+        return Ok((found, false));
+    }
+    let from = (found.end - area.end) as usize;
+    let (found, more) = take_cut(alloc, disk, block, from, length, found, records)?;
+    Ok((found, more))
+}
+
+/// Reads the next block of an area of a disk of so many octets, from the closing gate of the area so far on, and takes its
+/// records, of the last one also what stands behind the block: at most four octets of a block are read again. Answers the
+/// area with them, and whether more may follow.
 fn take_more<D: Disk>(
     alloc: Global,
     disk: &mut D,
@@ -275,14 +357,10 @@ fn take_more<D: Disk>(
     ensures looks { IsLookedAt D.shown D.size D.may_leave D.moment D.left_since D.plan D.state D.lack_count (is_fault result) disk.old disk.new }
     ensures causes { ReadCauses (D.fault_count disk.old) (D.fault_count disk.new) result }
 {
-    let (found, more) = take_block(alloc, disk, block, length, area, records)?;
-    if !more {
-        return Ok((found, false));
-    }
-    if area.end < found.end {
-        return Ok((found, true));
-    }
-    let (found, more) = take_alone(alloc, disk, block, length, area, records)?;
+    let gate = area.end - 1;
+    let count = (length - gate).min(block.len() as u64) as usize;
+    read_at(disk, gate, &mut block[..count])?;
+    let (found, more) = take_block(alloc, disk, &mut block[..count], length, area, records)?;
     Ok((found, more))
 }
 

@@ -1,5 +1,5 @@
 //! The top call over objects in memory, from its words, its disk and its input to what it prints, its status and what the
-//! disk then holds: worked dialogues, and commands over a store.
+//! disk then holds: worked dialogues, faults of the disk, the input and the output, and stops of the disk.
 #![tactic(auto)]
 
 #[cfg(test)]
@@ -7,18 +7,14 @@ mod call;
 #[cfg(test)]
 mod commands;
 #[cfg(test)]
-mod contents;
-#[cfg(test)]
 mod dialogues;
 #[cfg(test)]
 mod faults;
-#[cfg(test)]
-mod management;
 #[cfg(test)]
 mod rows;
 #[cfg(test)]
 mod sips;
 #[cfg(test)]
-mod tasks;
+mod stops;
 #[cfg(test)]
 mod words;

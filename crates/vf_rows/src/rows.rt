@@ -22,17 +22,11 @@ pub(crate) fn row_of(line: &str) -> Option<Row<'_>> {
     })
 }
 
-/// Appends lines that end with `/`.
-pub(crate) fn push_lines(text: &str, lines: &mut Vec<u8>) -> Result<(), NoMemory> {
-    for octet in text.as_bytes() {
-        lines.push(if *octet == b'/' { b'\n' } else { *octet })?;
-    }
-    Ok(())
-}
-
 /// Lines that end with `/`.
 pub(crate) fn lines_of(alloc: Global, text: &str) -> Result<Vec<u8>, NoMemory> {
     let mut lines = Vec::new(alloc);
-    push_lines(text, &mut lines)?;
+    for octet in text.as_bytes() {
+        lines.push(if *octet == b'/' { b'\n' } else { *octet })?;
+    }
     Ok(lines)
 }

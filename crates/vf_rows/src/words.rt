@@ -1,98 +1,8 @@
-//! Which words are outside the grammar, and what the others want.
-use crate::call::{call, only, words_of};
+//! What words want. Those outside the grammar stand in `checks/statuses.check`.
+use crate::call::words_of;
 use std::alloc::Global;
-use std::test::Fail;
-use vf_base::{NoMemory, SliceSource};
-use vf_cli::{WordsError, wanted};
-
-/// A line each; the first has no words.
-const OUTSIDE: &str = "
---
-serve
-Dialogue
-dialogues
-dialogue x
-dialogue --
-dialogue --port=1
-dialogue --store=s
-init
-init s
-init --store
-init --store=
-init --store=-s
-init --store -s
-init --store --
-init --store s t
-init --store=s --store=s
-init --store s --store=s
-init --store=--store=s
-init --Store=s
-init --path=s
-init --path s
-init --store=s --port=1
-init -- --store=s
-init --store=\u{7f}
-init --store=\u{e9}
---store=s init
-list
-list --
-lists --store=s
-dockets
-dockets --store=s --activity=1
-drop --store=s
-drop --activity=1
-drop --store=s --activity=0
-drop --store=s --activity=2147483648
-drop --store=s --user=u
-drop --store=s --activity=1 --password=p
-put --name=
-put --store=s --host=h --port=1 --name=a
-put --store=s --host=h --port=0 --name=a --user=u
-put --store=s --host=h --port=65536 --name=a --user=u
-put --store=s --host=h --port=01 --name=a --user=u
-put --store=s --host=h --port=1 --name=a --user=u --kind=4
-put --store=s --host=h --port=1 --name=a --user=u --kind=0
-put --store=s --host=h --port=1 --name=a --user=u --activity=0
-put --store=s --host=h --port=1 --name=a --user=u --activity=2147483648
-put --store=s --host=h --port=1 --name=a --user=u --tries=101
-put --store=s --host=h --port=1 --name=a --user=u --every=10001
-put --store=s --host=h --port=1 --name=a --user=u --every=0
-put --store=s --host=h --port=1 --name=a --user=u --idle=1
-put --store=s --host=h --port=1 --name=a --user=u --name=b
-get --store=s --host=h --port=1 --user=u
-generate --store=s --number=0
-generate --store=s --number=0 --count=0
-generate --store=s --number=0 --count=1001
-generate --store=s --number=00 --count=1
-generate --store=s --number=4294967296 --count=1
-generate --store=s --number=0x --count=1
-serve --store=s --port=1 --idle=0
-";
-
-#[test]
-fn words_outside_the_grammar(rt: HostRuntime) -> Result<(), Fail> {
-    let mut count = 0_u32;
-    for words in OUTSIDE.lines() {
-        assert!(rt; is_usage(rt.alloc(), words)?, "{words}");
-        assert!(rt; prints_usage(rt.alloc(), words)?, "{words}");
-        count = count.saturating_add(1);
-    }
-    assert_eq!(rt; count, 61);
-    Ok(())
-}
-
-/// Whether the words are outside the grammar.
-fn is_usage(alloc: Global, words: &str) -> Result<bool, NoMemory> {
-    let given = words_of(alloc, words)?;
-    Ok(wanted(alloc, &given).is_err_and(|error| error == WordsError::Usage))
-}
-
-/// Whether a call with the words says so. Its input isn't read: the first read would fail.
-fn prints_usage(alloc: Global, words: &str) -> Result<bool, NoMemory> {
-    let mut input = SliceSource::new(b"A2", only(alloc, 1)?);
-    let found = call(alloc, words, &mut input, Vec::new(alloc))?;
-    Ok(found.status == 2 && found.octets.as_slice() == b"usage\n".as_slice())
-}
+use vf_base::NoMemory;
+use vf_cli::wanted;
 
 #[test]
 fn what_dialogue_wants(rt: HostRuntime) -> Result<(), NoMemory> {
@@ -118,7 +28,7 @@ fn what_commands_over_a_store_want(rt: HostRuntime) -> Result<(), NoMemory> {
 }
 
 /// Each with its words: they are within the grammar, and want this host and this port, or none.
-const WITHIN: [(&str, &str, u16); 8] = [
+const WITHIN: [(&str, &str, u16); 9] = [
     ("put --store=s --host=h --port=1 --name=a --user=u", "h", 1),
     (
         "get --store=s --host=h.i --port=65535 --name=a --user=u --password=p --kind=1 --tries=0",
@@ -133,6 +43,7 @@ const WITHIN: [(&str, &str, u16); 8] = [
     ("generate --store s --number 4294967295 --count 1000", "", 0),
     ("generate --store s --number 0 --count 1", "", 0),
     ("dockets --store s", "", 0),
+    ("replay", "", 0),
     ("drop --user u --activity 2147483647 --store s", "", 0),
     ("serve --store s --port 80 --idle 1000000000", "", 80),
 ];

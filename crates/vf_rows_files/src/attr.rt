@@ -1,6 +1,6 @@
 use std::alloc::Global;
 use std::test::Fail;
-use vf_attr::{AccessError, AttributeChange, File, Stamp, change, may};
+use vf_attr::{AttributeChange, File, Stamp, change};
 use vf_base::{
     Actions, BaseError, Constraint, Contents, Element, FaduId, Moment, Name, NoMemory, Octets, Oid,
     Sequence, Term, Terms,
@@ -9,74 +9,6 @@ use vf_tree::Tree;
 
 /// A term: whom it speaks of, what it grants, and the password that it needs; a dash where it has none.
 type Row = (&'static str, u8, &'static str);
-
-/// Some lists of terms.
-fn list(which: u8) -> &'static [Row] {
-    match which {
-        0 => &[],
-        1 => &[("ann", 1, "pw")],
-        2 => &[("ann", 1, "pw"), ("-", 2, "-")],
-        3 => &[("ann", 1, "pw"), ("ann", 1, "pv"), ("bob", 2, "-")],
-        _ => &[("-", 1, "")],
-    }
-}
-
-/// The diagnostic of the answer, 0 where the actions are granted.
-fn answer(alloc: Global, which: u8, who: &str, given: &str, actions: u8) -> Result<u8, BaseError> {
-    let file = file(alloc, list(which))?;
-    let who = Name::of(alloc, who.as_bytes())?;
-    let given = password_of(alloc, given)?;
-    let answer = may(&file, &who, given.as_ref(), Actions { value: actions });
-    Ok(number_of(answer))
-}
-
-fn number_of(answer: Result<(), AccessError>) -> u8 {
-    match answer {
-        Ok(()) => 0,
-        Err(AccessError::NotPermitted) => 13,
-        Err(AccessError::Denied) => 14,
-        Err(AccessError::BadPassword) => 15,
-    }
-}
-
-/// Who may do what: the list of terms, the identity, the password that is given, the actions, and the diagnostic. An
-/// empty password is a password, to which an empty one alone is equal.
-#[test]
-fn terms_grant_actions(rt: HostRuntime) -> Result<(), Fail> {
-    let table = [
-        (1, "ann", "pw", 1, 0),
-        (1, "ann", "pv", 1, 15),
-        (1, "ann", "", 1, 15),
-        (1, "ann", "-", 1, 15),
-        (1, "bob", "pw", 1, 14),
-        (1, "ann", "pw", 32, 14),
-        (1, "ann", "pv", 33, 14),
-        (1, "bob", "-", 0, 0),
-        (1, "bob", "-", 128, 13),
-        (1, "ann", "pw", 129, 13),
-        (0, "bob", "-", 3, 0),
-        (0, "bob", "-", 127, 0),
-        (0, "bob", "-", 128, 13),
-        (2, "ann", "pw", 3, 0),
-        (2, "ann", "pv", 3, 15),
-        (2, "ann", "-", 2, 0),
-        (2, "bob", "-", 2, 0),
-        (2, "bob", "-", 3, 14),
-        (3, "ann", "pv", 1, 0),
-        (3, "ann", "pw", 1, 0),
-        (3, "ann", "pw", 3, 14),
-        (4, "ann", "", 1, 0),
-        (4, "ann", "pw", 1, 15),
-        (4, "ann", "-", 1, 15),
-    ];
-    for (which, who, given, actions, number) in table {
-        assert!(rt;
-            answer(rt.alloc(), which, who, given, actions)? == number,
-            "{actions}"
-        );
-    }
-    Ok(())
-}
 
 /// No attribute, or each of them; `others` is its own.
 fn wanted(alloc: Global, all: bool, others: u16) -> Result<AttributeChange, BaseError> {
@@ -107,7 +39,7 @@ fn leaves(
     terms: usize,
     stamped: bool,
 ) -> Result<bool, BaseError> {
-    let mut file = file(alloc, list(1))?;
+    let mut file = file(alloc, &[("ann", 1, "pw")])?;
     let bob = Name::of(alloc, b"bob")?;
     let moment = Moment::of(7)?;
     let made = change(alloc, &mut file, &bob, moment, change_wanted).is_ok();

@@ -1,10 +1,8 @@
-//! Tests of public calls of the file model: trees, document types, attributes, transfers and locks.
+//! Tests of public calls of the file model: trees, attributes, transfers and locks.
 #![tactic(auto)]
 
 #[cfg(test)]
 mod attr;
-#[cfg(test)]
-mod doctype;
 #[cfg(test)]
 mod locks;
 #[cfg(test)]

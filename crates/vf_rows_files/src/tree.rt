@@ -1,4 +1,5 @@
-//! The tables of the actions, each entry tried. Units of a file are its first three of: no string, `B`, `C` twice.
+//! The table of the actions, each entry tried; what is located and read is tried by `checks/rows/records.txt`. Units of a file are its
+//! first three of: no string, `B`, `C` twice.
 
 use std::alloc::Global;
 use std::process::Abort;
@@ -21,67 +22,10 @@ const IDENTITIES: [FaduId; 12] = [
     FaduId::Number(4),
 ];
 
-const CONTEXTS: [Context; 4] = [Context::HA, Context::FA, Context::UA, Context::US];
-
-/// Each identity at each position of files of 0 to 3 units of both constraint sets, in each context and to each action.
+/// Each identity to each action, in files of 0 to 3 units of both constraint sets.
 #[test]
-fn all_answers_follow_the_table(rt: HostRuntime) -> Result<(), Fail> {
-    let alloc = rt.alloc();
-    assert_positions(&rt, alloc)?;
-    assert_whole_reads(&rt, alloc)?;
-    assert_actions(&rt, alloc)
-}
-
-/// What locate answers in a file of so many units at a position, to each identity in turn, and what a read then shows.
-fn assert_positions(rt: &impl Abort, alloc: Global) -> Result<(), Fail> {
-    let table = [
-        (0, 0, "01----------"),
-        (0, 1, "01----------"),
-        (0, 2, "01----------"),
-        (0, 3, "01----------"),
-        (0, 4, "01----------"),
-        (0, 5, "01----------"),
-        (1, 0, "0211-1--1---"),
-        (1, 1, "02111---1---"),
-        (1, 2, "0211--1-1---"),
-        (1, 3, "0211--1-1---"),
-        (1, 4, "0211--1-1---"),
-        (1, 5, "0211--1-1---"),
-        (2, 0, "0312-1--12--"),
-        (2, 1, "031212--12--"),
-        (2, 2, "03122-1-12--"),
-        (2, 3, "0312--2-12--"),
-        (2, 4, "0312--2-12--"),
-        (2, 5, "0312--2-12--"),
-        (3, 0, "0413-1--123-"),
-        (3, 1, "041312--123-"),
-        (3, 2, "0413231-123-"),
-        (3, 3, "04133-2-123-"),
-        (3, 4, "0413--3-123-"),
-        (3, 5, "0413--3-123-"),
-    ];
-    for (units, position, answers) in table {
-        let tree = flat(rt, alloc, units)?;
-        let plain = unstructured(rt, alloc, units)?;
-        for (id, answer) in IDENTITIES.iter().zip(answers.as_bytes()) {
-            let id = *id;
-            assert_eq!(rt;
-                letter(tree.locate(position, id)),
-                *answer,
-                "at {units} {position}"
-            );
-            assert_eq!(rt; plain.locate(position, id), Err(TreeError::Outside));
-            for context in CONTEXTS {
-                let heard = read(alloc, &tree, position, id, context)?;
-                let wanted = flat_read(units, id, *answer, context);
-                assert!(rt;
-                    heard.as_slice() == wanted.as_bytes(),
-                    "at {units} {position}"
-                );
-            }
-        }
-    }
-    Ok(())
+fn all_actions_follow_the_table(rt: HostRuntime) -> Result<(), Fail> {
+    assert_actions(&rt, rt.alloc())
 }
 
 /// What the actions leave: the position, and the strings of the file.
@@ -106,32 +50,6 @@ fn assert_actions(rt: &impl Abort, alloc: Global) -> Result<(), Fail> {
                 ["o", "-", "-", "-"]
             };
             assert_acts(rt, alloc, &plain, id, answers)?;
-        }
-    }
-    Ok(())
-}
-
-/// An unstructured file is read whole from any position, and by its strings alone.
-fn assert_whole_reads(rt: &impl Abort, alloc: Global) -> Result<(), Fail> {
-    for (units, strings) in [(0, "0"), (1, "0"), (2, "B0"), (3, "CC0")] {
-        let tree = unstructured(rt, alloc, units)?;
-        assert!(rt; tree.size() == strings.len() as u64 - 1);
-        for id in IDENTITIES {
-            let whole = id == FaduId::Begin || id == FaduId::First;
-            for context in CONTEXTS {
-                let taken = context == Context::UA || context == Context::US;
-                let wanted = if !taken {
-                    "c"
-                } else if whole {
-                    strings
-                } else {
-                    "-"
-                };
-                for position in 0..6 {
-                    let heard = read(alloc, &tree, position, id, context)?;
-                    assert!(rt; heard.as_slice() == wanted.as_bytes(), "at {position}");
-                }
-            }
         }
     }
     Ok(())
@@ -214,26 +132,6 @@ fn act(
             Ok(tree.extend(alloc, id, unit))
         }
         _ => Ok(tree.erase(alloc, id)),
-    }
-}
-
-/// What a read of a sequential flat file shows, in the form of `read`, where locate gives this answer.
-fn flat_read(units: u32, id: FaduId, answer: u8, context: Context) -> &'static str {
-    let shown = match (id, units, answer) {
-        (FaduId::Begin, 0, _) => ["rex0", "0", "0"],
-        (FaduId::Begin, 1, _) => ["redx0", "d0", "0"],
-        (FaduId::Begin, 2, _) => ["reddBx0", "ddB0", "B0"],
-        (FaduId::Begin, _, _) => ["reddBdCCx0", "ddBdCC0", "BCC0"],
-        (FaduId::End, _, _) | (_, _, b'-') => ["-", "-", "-"],
-        (_, _, b'1') => ["d1", "d1", "1"],
-        (_, _, b'2') => ["dB2", "dB2", "B2"],
-        _ => ["dCC3", "dCC3", "CC3"],
-    };
-    match context {
-        Context::HA => shown[0],
-        Context::FA => shown[1],
-        Context::UA => shown[2],
-        Context::US => "c",
     }
 }
 

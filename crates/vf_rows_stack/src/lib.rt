@@ -1,7 +1,9 @@
 //! Tests of public calls of the stack: what octets tell and what answers them, what is sent, and what two ends tell each
-//! other.
+//! other; and of the calling end that a script keeps over it.
 #![tactic(auto)]
 
+#[cfg(test)]
+mod caller;
 #[cfg(test)]
 mod end;
 #[cfg(test)]

@@ -1,29 +1,18 @@
-//! The commands over a store, on a disk in memory.
+//! The commands over a store, on a disk in memory, where calls of it, of the input or of the output fail. What else they print and
+//! leave is tried by `checks/commands.check`.
 use std::alloc::Global;
 use std::test::Fail;
-use vf_base::{Name, SliceSource, VecSink};
+use vf_base::{SliceSource, VecSink};
 use vf_disk::{CrashForm, MemoryDisk};
-use vf_store_commands::{KeptEntry, dockets, drop_kept, init, list};
+use vf_store_commands::{init, list};
 
-/// A store of empty tables.
-const NEW: &[u8] = b"FTAMJNL1\0\0\0\x02\0\0\0\0\0\0\0\0\0\0\0\0!\0\0\0\0\0\0\0!\0";
-
-/// The same with a record that puts the user `ann` with the password `pw`.
+/// A store with a record that puts the user `ann` with the password `pw`.
 const OF_ANN: &[u8] =
     b"FTAMJNL1\0\0\0\x02\0\0\0\0\0\0\0\0\0\0\0\0!\0\0\0\0\0\0\0!\x01\0\0\0\x0F\0\0\0\x01\x01\0\x03ann\x01\0\x02pw\0";
 
 /// A store of two files, `b` with the string `hi` and `a` without any, in this order.
 const OF_FILES: &[u8] =
     b"FTAMJNL1\0\0\0\x02\0\0\0\0\0\0\0\0\0\0\0\0!\0\0\0\0\0\0\0!\x01\0\0\0b\0\0\0\x02\x02\0\x01b\xFF\x03\x1B\0\x01\0\0\0\0\0\0\0\0\0\0\08\xBB\x0C\0\0\x03ann\0\0\0\0\0\0\x02\0\0\0\x01\0\0\0\x01\0\0\0\x02hi\x02\0\x01a\xFF\x03\x1B\0\x01\0\0\0\0\0\0\0\0\0\0\0\0\0\0\0\0\x03ann\0\0\0\0\0\0\x01\0\0\0\x01\0\0\0\0\0";
-
-/// A store of the file `a`, a docket of `ann` on it with activity 7, and a task with activity 7 that gets it.
-const OF_DOCKET: &[u8] =
-    b"FTAMJNL1\0\0\0\x02\0\0\0\0\0\0\0\0\0\0\0\0!\0\0\0\0\0\0\0!\x01\0\0\0\x87\0\0\0\x03\x02\0\x01a\xFF\x03\x19\0\0\0\0\0\0\0\0\0\0\0\0\0\0\0\0\0\0\x03ann\0\0\0\0\0\0\x01\0\0\0\x01\0\0\0\0\x05\0\x03ann\0\0\0\x07\0\x01a\x01\x01\0\0\0\0\0\0\0\x01\0\0\0\0\0\0\0\0\x01\0\0\0\0\0\0\0\0\0\0\0\0\0\0\0\0\0\0\0\0\0\0\0\0\0\x09\0\0\0\x07\x01\x03\0\0\0@\0\x01a\0\x03ann\0\0\0\x01\0\0\0\0\0\0\0\0";
-
-/// The lines of that docket and that task.
-const DOCKET_LINE: &[u8] = b"docket\tann\t7\tidle\t1\t0\ta\n";
-
-const TASK_LINE: &[u8] = b"task\t7\tget\t1\t0\ta\n";
 
 /// What a call printed, its status, and its disk.
 #[derive(Drop)]
@@ -69,96 +58,6 @@ fn listed(alloc: Global, disk: MemoryDisk, writes: Vec<u64>) -> Done {
 fn on(alloc: Global, octets: &[u8]) -> Result<MemoryDisk, Fail> {
     let disk = MemoryDisk::of(alloc, octets, Vec::new(alloc))?;
     Ok(disk)
-}
-
-/// `init` on a disk with these octets.
-fn initialized_on(alloc: Global, octets: &[u8], input: &str) -> Result<Done, Fail> {
-    let disk = on(alloc, octets)?;
-    Ok(initialized(alloc, disk, input, Vec::new(alloc), Vec::new(alloc)))
-}
-
-/// `list` on a disk with these octets.
-fn listed_on(alloc: Global, octets: &[u8]) -> Result<Done, Fail> {
-    let disk = on(alloc, octets)?;
-    Ok(listed(alloc, disk, Vec::new(alloc)))
-}
-
-/// A disk, the input, the status, what is printed, and what the disk then holds.
-const INITIALIZED: [(&[u8], &str, u8, &str, &[u8]); 12] = [
-    (b"", "ann\tpw\n", 0, "users 1\n", OF_ANN),
-    (b"", "ann\tpw", 0, "users 1\n", OF_ANN),
-    (b"", "", 0, "users 0\n", NEW),
-    (b"", "\n", 11, "bad line 1\n", b""),
-    (b"", "ann\t\n", 11, "bad line 1\n", b""),
-    (b"", "\tpw\n", 11, "bad line 1\n", b""),
-    (b"", "ann\n\nbob\n", 11, "bad line 2\n", b""),
-    (b"", "ann\nbob\nann\tpw\n", 11, "bad line 3\n", b""),
-    (b"", "ann\r\n", 11, "bad line 1\n", b""),
-    (b"x", "ann\n", 8, "not a store 0\n", b"x"),
-    (NEW, "ann\n", 8, "not a store 0\n", NEW),
-    (OF_ANN, "\n", 8, "not a store 0\n", OF_ANN),
-];
-
-#[test]
-fn init_makes_a_store_of_the_users_of_its_lines(rt: HostRuntime) -> Result<(), Fail> {
-    let alloc = rt.alloc();
-    for (before, input, status, printed, after) in INITIALIZED {
-        let done = initialized_on(alloc, before, input)?;
-        let is_right = done.ends(status, printed.as_bytes()) && done.leaves(after);
-        assert!(rt; is_right, "{input}");
-    }
-    Ok(())
-}
-
-/// A disk, and what `list` prints of it with which status.
-const LISTED: [(&[u8], u8, &str); 6] = [
-    (NEW, 0, ""),
-    (OF_ANN, 0, ""),
-    (
-        OF_FILES,
-        0,
-        "ftam-3\t0\t1\t19700101000000Z\ta\nftam-3\t2\t2\t20000229000000Z\tb\n",
-    ),
-    (b"", 8, "not a store 0\n"),
-    (b"FTAMJNL1\0\0\0\x01\0\0\0\0\0", 8, "not a store 11\n"),
-    (b"FTAMJNL1\0\0\0\x02\0\0\0\0\0", 8, "not a store 17\n"),
-];
-
-#[test]
-fn list_prints_the_files_by_their_names(rt: HostRuntime) -> Result<(), Fail> {
-    let alloc = rt.alloc();
-    for (octets, status, printed) in LISTED {
-        let done = listed_on(alloc, octets)?;
-        let is_right = done.ends(status, printed.as_bytes()) && done.leaves(octets);
-        assert!(rt; is_right, "{printed}");
-    }
-    Ok(())
-}
-
-/// Whether `list` of octets is no store at this place.
-fn is_none_at(alloc: Global, octets: &[u8], place: usize) -> Result<bool, Fail> {
-    let line = format!(in alloc; "not a store {place}\n")?;
-    let done = listed_on(alloc, octets)?;
-    Ok(done.ends(8, line.as_bytes()))
-}
-
-/// Whether `list` of octets prints nothing.
-fn is_empty(alloc: Global, octets: &[u8]) -> Result<bool, Fail> {
-    let done = listed_on(alloc, octets)?;
-    Ok(done.ends(0, b""))
-}
-
-/// An image that is cut is no store until its last gate is there, and is told by its length, except for the places of anchors.
-#[test]
-fn list_of_a_store_that_is_cut_anywhere(rt: HostRuntime) -> Result<(), Fail> {
-    let alloc = rt.alloc();
-    for count in 0..NEW.len() {
-        assert!(rt; is_none_at(alloc, &NEW[..count], count)?, "{count}");
-    }
-    for count in NEW.len()..OF_ANN.len() {
-        assert!(rt; is_empty(alloc, &OF_ANN[..count])?, "{count}");
-    }
-    Ok(())
 }
 
 fn only(alloc: Global, number: u64) -> Result<Vec<u64>, Fail> {
@@ -251,96 +150,5 @@ fn a_stop_leaves_no_store_or_none_of_the_users_or_all(rt: HostRuntime) -> Result
         assert!(rt; done.status == status, "{call}");
         assert!(rt; leaves_a_store(alloc, &done, call)?, "{call}");
     }
-    Ok(())
-}
-
-/// Lines of 256 users.
-fn all_users(alloc: Global) -> Result<String, Fail> {
-    let mut input = String::new(alloc);
-    for number in 0..256 {
-        input.push_str(format!(in alloc; "user{number}\n")?.as_str())?;
-    }
-    Ok(input)
-}
-
-/// Whether `init` of these lines ends so.
-fn ends_so(alloc: Global, input: &str, status: u8, printed: &[u8]) -> Result<bool, Fail> {
-    let done = initialized_on(alloc, b"", input)?;
-    Ok(done.ends(status, printed))
-}
-
-#[test]
-fn the_257th_user_is_a_bad_line(rt: HostRuntime) -> Result<(), Fail> {
-    let alloc = rt.alloc();
-    let mut input = all_users(alloc)?;
-    assert!(rt; ends_so(alloc, input.as_str(), 0, b"users 256\n")?);
-    input.push_str("one more\n")?;
-    assert!(rt; ends_so(alloc, input.as_str(), 11, b"bad line 257\n")?);
-    Ok(())
-}
-
-/// `dockets` on a disk, and the disk.
-fn told(alloc: Global, disk: MemoryDisk) -> Done {
-    let mut out = VecSink::new(alloc, Vec::new(alloc));
-    let (disk, status) = dockets(alloc, disk, &mut out);
-    Done { out, status, disk }
-}
-
-/// `drop` on a disk: of the docket of a user with activity 7, or of the task.
-fn dropped(alloc: Global, disk: MemoryDisk, user: Option<&[u8]>) -> Result<Done, Fail> {
-    let kept = match user {
-        Some(user) => KeptEntry::Docket {
-            identity: Name::of(alloc, user)?,
-            activity: 7,
-        },
-        None => KeptEntry::Task { activity: 7 },
-    };
-    let mut out = VecSink::new(alloc, Vec::new(alloc));
-    let (disk, status) = drop_kept(alloc, kept, disk, &mut out);
-    Ok(Done { out, status, disk })
-}
-
-/// Whether it is dropped, and these lines are left; gives the disk.
-fn leaves_lines(
-    alloc: Global,
-    disk: MemoryDisk,
-    user: Option<&[u8]>,
-    left: &[u8],
-) -> Result<(bool, MemoryDisk), Fail> {
-    let drops = dropped(alloc, disk, user)?;
-    let is_dropped = drops.ends(0, b"dropped\n");
-    let Done { disk, .. } = drops;
-    let told = told(alloc, disk);
-    let is_left = told.ends(0, left);
-    let Done { disk, .. } = told;
-    Ok((is_dropped && is_left, disk))
-}
-
-#[test]
-fn dockets_prints_dockets_and_tasks(rt: HostRuntime) -> Result<(), Fail> {
-    let alloc = rt.alloc();
-    let told_all = told(alloc, on(alloc, OF_DOCKET)?);
-    assert!(rt; told_all.ends(0, &[DOCKET_LINE, TASK_LINE].concat(alloc)?));
-    assert!(rt; told_all.leaves(OF_DOCKET));
-    assert!(rt; told(alloc, on(alloc, b"")?).ends(8, b"not a store 0\n"));
-    Ok(())
-}
-
-#[test]
-fn drop_takes_a_docket_or_a_task_away(rt: HostRuntime) -> Result<(), Fail> {
-    let alloc = rt.alloc();
-    let (is_left, disk) = leaves_lines(alloc, on(alloc, OF_DOCKET)?, Some(b"ann"), TASK_LINE)?;
-    assert!(rt; is_left);
-    let (is_left, _disk) = leaves_lines(alloc, disk, None, b"")?;
-    assert!(rt; is_left);
-    Ok(())
-}
-
-#[test]
-fn drop_of_what_is_not_there(rt: HostRuntime) -> Result<(), Fail> {
-    let alloc = rt.alloc();
-    let done = dropped(alloc, on(alloc, OF_DOCKET)?, Some(b"bob"))?;
-    assert!(rt; done.ends(1, b"refused 27\n") && done.leaves(OF_DOCKET));
-    assert!(rt; dropped(alloc, on(alloc, b"FTAM")?, None)?.ends(8, b"not a store 4\n"));
     Ok(())
 }

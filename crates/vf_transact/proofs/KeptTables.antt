@@ -16,7 +16,8 @@ use Rattle.vf_tables.specs.declared.tables.Tables.{Tables}
 use Rattle.vf_tables.specs.declared.task.Task.{Task}
 use Rattle.vf_tables.specs.declared.task.Way.{Way}
 use Rattle.vf_tables.specs.declared.user.User.{User}
-use Rattle.vf_transact.proofs.NewTasks.{good_found, valid_parts}
+use Rattle.vf_initiator.proofs.TaskChanges.{are_tasks}
+use Rattle.vf_transact.proofs.NewTasks.{good_found}
 
 module _ {A : Type 0} (p : A → Bool) where
   front : (xs ys : List A) → list_all p (xs ++ ys) ≡ true → list_all p xs ≡ true
@@ -58,4 +59,4 @@ keepable tables activity task kept found =
     let staged = all_pieces tables.tasks (back is_in_range rows pieces fifth) in
     both (is_plan task.plan && are_pieces task.staged) (is_valid_task task)
     (both (is_plan task.plan) (are_pieces task.staged) (good_found m (λ (task : Task). is_plan task.plan) task tables.tasks found plans) (good_found m (λ (task : Task). are_pieces task.staged) task tables.tasks found staged))
-    (good_found m is_valid_task task tables.tasks found (valid_parts tables valid).tasks)
+    (good_found m is_valid_task task tables.tasks found (are_tasks tables valid).good)

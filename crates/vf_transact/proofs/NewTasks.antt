@@ -2,8 +2,7 @@
 use Rattle.std.proofs.Common.{◌≡◌, ℕ, suc, Bool, true, false, ◌&&◌, not, nat_eq, nat_le, if◌then◌else◌, List, [], ◌∷◌, length, find, refl, sym, ap, subst, ◌∙◌, arith, Option, None, Some}
 use Rattle.std.specs.List.{list_all}
 use Rattle.std.proofs.lemmas.Bool.Decides.{nat_tests}
-use Rattle.vf_attr.specs.declared.file.File.{File}
-use Rattle.vf_initiator.proofs.TaskChanges.{Leads, leads_none, leads_stage, with_one}
+use Rattle.vf_initiator.proofs.TaskChanges.{Leads, are_tasks, is_valid_by, leads_none, leads_stage, with_one}
 use Rattle.vf_initiator.proofs.TaskEntries.{all_put, are_apart, both, first_of, second_of}
 use Rattle.vf_initiator.specs.Assignments.{given_of}
 use Rattle.vf_initiator.specs.Keepable.{LeadTo, are_pieces, is_keepable, with_kept}
@@ -12,18 +11,15 @@ use Rattle.vf_initiator.specs.declared.plan.Plan.{Plan}
 use Rattle.vf_initiator.specs.declared.plan.Task as tasks
 use Rattle.vf_initiator.specs.declared.plan.Task.TheVariants as ways
 use Rattle.vf_tables.specs.Changes.{after, after_all, staged_for}
-use Rattle.vf_tables.specs.Entries.{is_docket, is_file, is_task, is_user, put, task_of}
+use Rattle.vf_tables.specs.Entries.{is_task, put, task_of}
 use Rattle.vf_tables.specs.Fitting.{all_fit, fits, is_activity, is_plan, is_sayable, is_within}
-use Rattle.vf_tables.specs.Sums.{octets_of_files}
-use Rattle.vf_tables.specs.Validity.{all_differ, are_within, exclude, have_keys, is_valid, is_valid_docket, is_valid_file, is_valid_task}
+use Rattle.vf_tables.specs.Validity.{all_differ, is_valid, is_valid_task}
 use Rattle.vf_tables.specs.declared.change.Change.{Change}
 use Rattle.vf_tables.specs.declared.change.Change.TheVariants.{PutTask, StageTask}
-use Rattle.vf_tables.specs.declared.docket.Docket.{Docket}
-use Rattle.vf_tables.specs.declared.limits.TheConstants.{MOST_DOCKETS, MOST_EVERY, MOST_FILES, MOST_FILESTORE_OCTETS, MOST_POINT, MOST_TASKS, MOST_TRANSFERS, MOST_USERS}
+use Rattle.vf_tables.specs.declared.limits.TheConstants.{MOST_EVERY, MOST_POINT, MOST_TASKS, MOST_TRANSFERS}
 use Rattle.vf_tables.specs.declared.tables.Tables.{Tables}
 use Rattle.vf_tables.specs.declared.task.Plan as kept
 use Rattle.vf_tables.specs.declared.task.Task.{Task}
-use Rattle.vf_tables.specs.declared.user.User.{User}
 use Rattle.vf_transact.specs.Starting.{keeping_under}
 
 -- ---- an entry that is put where none was meant
@@ -70,78 +66,17 @@ module _ (activity : ℕ) (task : Task) (of : task.plan.activity ≡ activity) w
 
 -- ---- tables stay valid with a task more
 
--- what valid tables say of their tasks, and of all else
-pub record Valid (tables : Tables) : Type 0 where
-  pub keys : (all_differ (λ (user : User). is_user user.identity) tables.users && all_differ (λ (file : File). is_file file.name) tables.files
-      && all_differ (λ (docket : Docket). is_docket docket.regime.identity docket.regime.activity) tables.dockets) ≡ true
-  pub differ : all_differ are_apart tables.tasks ≡ true
-  pub few : (nat_le (length tables.users) MOST_USERS && nat_le (length tables.files) MOST_FILES && nat_le (length tables.dockets) MOST_DOCKETS) ≡ true
-  pub some : nat_le (length tables.tasks) MOST_TASKS ≡ true
-  pub octets : nat_le (octets_of_files tables.files) MOST_FILESTORE_OCTETS ≡ true
-  pub files : list_all is_valid_file tables.files ≡ true
-  pub dockets : list_all (is_valid_docket tables.files) tables.dockets ≡ true
-  pub exclusive : all_differ exclude tables.dockets ≡ true
-  pub tasks : list_all is_valid_task tables.tasks ≡ true
-
-pub valid_parts : (tables : Tables) → is_valid tables ≡ true → Valid tables
-valid_parts tables valid =
-    let a = have_keys tables in
-    let b = are_within tables in
-    let c = list_all is_valid_file tables.files in
-    let d = list_all (is_valid_docket tables.files) tables.dockets in
-    let e = all_differ exclude tables.dockets in
-    let to_e = first_of (a && b && c && d && e) (list_all is_valid_task tables.tasks) valid in
-    let to_d = first_of (a && b && c && d) e to_e in
-    let to_c = first_of (a && b && c) d to_d in
-    let keys = first_of a b (first_of (a && b) c to_c) in
-    let within = second_of a b (first_of (a && b) c to_c) in
-    let three = nat_le (length tables.users) MOST_USERS && nat_le (length tables.files) MOST_FILES && nat_le (length tables.dockets) MOST_DOCKETS in
-    let tasks = nat_le (length tables.tasks) MOST_TASKS in
-    let octets = nat_le (octets_of_files tables.files) MOST_FILESTORE_OCTETS in
-    record {
-      keys = first_of _ (all_differ are_apart tables.tasks) keys;
-      differ = second_of _ (all_differ are_apart tables.tasks) keys;
-      few = first_of three tasks (first_of (three && tasks) octets within);
-      some = second_of three tasks (first_of (three && tasks) octets within);
-      octets = second_of (three && tasks) octets within;
-      files = second_of (a && b) c to_c;
-      dockets = second_of (a && b && c) d to_d;
-      exclusive = second_of (a && b && c && d) e to_e;
-      tasks = second_of (a && b && c && d && e) (list_all is_valid_task tables.tasks) valid;
-    }
-
-pub valid_of : (tables : Tables) → Valid tables → is_valid tables ≡ true
-valid_of tables v =
-    let a = have_keys tables in
-    let b = are_within tables in
-    let c = list_all is_valid_file tables.files in
-    let d = list_all (is_valid_docket tables.files) tables.dockets in
-    let e = all_differ exclude tables.dockets in
-    let three = nat_le (length tables.users) MOST_USERS && nat_le (length tables.files) MOST_FILES && nat_le (length tables.dockets) MOST_DOCKETS in
-    let tasks = nat_le (length tables.tasks) MOST_TASKS in
-    let keys : a ≡ true = both _ (all_differ are_apart tables.tasks) v.keys v.differ in
-    let within : b ≡ true = both (three && tasks) (nat_le (octets_of_files tables.files) MOST_FILESTORE_OCTETS) (both three tasks v.few v.some) v.octets in
-    both (a && b && c && d && e) (list_all is_valid_task tables.tasks) (both (a && b && c && d) e (both (a && b && c) d (both (a && b) c (both a b keys within) v.files) v.dockets) v.exclusive) v.tasks
-
 fewer : (count count' most : ℕ) → count' ≡ suc count → nat_le most count ≡ false → nat_le count' most ≡ true
 fewer count count' most more room = grind (arith, nat_tests)
 
 pub valid_new : (tables : Tables) (activity : ℕ) (task : Task) → is_valid tables ≡ true → task_of activity tables ≡ None → nat_le MOST_TASKS (length tables.tasks) ≡ false → task.plan.activity ≡ activity → is_valid_task task ≡ true
     → is_valid (with_one activity task tables) ≡ true
 valid_new tables activity task valid none room of good =
-    let v = valid_parts tables valid in
     let m = is_task activity in
-    valid_of (with_one activity task tables) (record {
-      keys = v.keys;
-      differ = differ_new activity task of tables.tasks none v.differ;
-      few = v.few;
-      some = fewer (length tables.tasks) (length (put m task tables.tasks)) MOST_TASKS (length_new m task tables.tasks none) room;
-      octets = v.octets;
-      files = v.files;
-      dockets = v.dockets;
-      exclusive = v.exclusive;
-      tasks = all_put m is_valid_task task tables.tasks good v.tasks;
-    })
+    let are = are_tasks tables valid in
+    is_valid_by tables (put m task tables.tasks) valid (differ_new activity task of tables.tasks none are.differ)
+    (fewer (length tables.tasks) (length (put m task tables.tasks)) MOST_TASKS (length_new m task tables.tasks none) room)
+    (all_put m is_valid_task task tables.tasks good are.good)
 
 -- ---- the changes of a new task
 

@@ -31,7 +31,8 @@ use Rattle.std.specs.List.{list_all}
 use Rattle.vf_transact.proofs.Found.{HasRoom, IsFound, has_room, is_found, kept_is}
 use Rattle.vf_transact.proofs.Kept.{found, going_on}
 use Rattle.vf_transact.proofs.KeptTables.{keepable}
-use Rattle.vf_transact.proofs.NewTasks.{good_found, new_leads, valid_parts}
+use Rattle.vf_initiator.proofs.TaskChanges.{are_tasks}
+use Rattle.vf_transact.proofs.NewTasks.{good_found, new_leads}
 use Rattle.vf_transact.specs.Connecting.{KeepsAs, KeepsUnder}
 use Rattle.vf_transact.specs.Conversation.{tables_at, tables_under, talk_begun}
 use Rattle.vf_transact.specs.Starting.{BeginsNew, IsPlanned, IsTakenUp, TakenUp, TakesUp, are_words, elements_for, is_activity_wanted, is_of, is_same_way, kept_in, keeping_under, plan_of, taken_up, taken_up_new, taken_up_of, taken_up_with, taken_with, task_by, way_of}
@@ -114,7 +115,7 @@ stands_by same words tables task (Some activity) is found valid =
     let plan = plan_of words [] in
     let m = is_task activity in
     let own = is_own words task activity (found_meant m task tables.tasks found.0) found.1 in
-    let good = good_found m is_valid_task task tables.tasks found.0 (valid_parts tables valid).tasks in
+    let good = good_found m is_valid_task task tables.tasks found.0 (are_tasks tables valid).good in
     at_some plan (Some task) tables activity is
     ∙ ap (λ (t : Task). with_kept activity (Some t) tables) (same plan task activity own good)
     ∙ ap (λ (tasks : List Task). record tables { tasks = tasks }) (put_same m task tables.tasks found.0)

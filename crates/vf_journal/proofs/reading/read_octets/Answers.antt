@@ -7,7 +7,7 @@ use Rattle.vf_journal.proofs.reading.read_octets.Goals as goal
 
 pub returns-in_err-append_part-clause-looks : goal.returns-in_err-append_part-clause-looks
 returns-in_err-append_part-clause-looks g c =
-    let p = err_from_is_err_and c.from_residual-in_err-append_part.result c.from_residual-in_err-append_part.ensures.1 in
+    let p = err_from_is_err_and c.from_residual.result c.from_residual.ensures.1 in
     rw (p.1, p.2) (looked_then g.D.Disk.shown g.D.Disk.size g.D.Disk.may_leave g.D.Disk.moment g.D.Disk.left_since g.D.Disk.plan g.D.Disk.state g.D.Disk.lack_count c.args.disk.now c.loop-disk.disk c.append_part.new.disk (is_fault {T = Unit {0}} (Err c.in_err-append_part.field-0.0)) c.loop-disk.invariant.looked c.in_err-append_part.ensures.looks)
 
 pub loop-disk-preserved : goal.loop-disk-preserved

@@ -3,24 +3,24 @@ use Rattle.vf_serial.proofs.rows.random_runs_compute.Goals as goal
 
 pub returns : goal.returns
 returns c = record {
-  isolated_15 = refl;
-  places_15 = refl;
-  orders_15 = refl;
-  units_15 = refl;
-  isolated_459 = refl;
-  places_459 = refl;
-  orders_459 = refl;
-  units_459 = refl;
-  isolated_524 = refl;
-  places_524 = refl;
-  orders_524 = refl;
-  units_524 = refl;
-  isolated_781 = refl;
-  places_781 = refl;
-  orders_781 = refl;
-  units_781 = refl;
-  isolated_1734 = refl;
-  places_1734 = refl;
-  orders_1734 = refl;
-  units_1734 = refl;
+  isolated_247 = refl;
+  places_247 = refl;
+  orders_247 = refl;
+  units_247 = refl;
+  isolated_348 = refl;
+  places_348 = refl;
+  orders_348 = refl;
+  units_348 = refl;
+  isolated_1288 = refl;
+  places_1288 = refl;
+  orders_1288 = refl;
+  units_1288 = refl;
+  isolated_1651 = refl;
+  places_1651 = refl;
+  orders_1651 = refl;
+  units_1651 = refl;
+  isolated_1779 = refl;
+  places_1779 = refl;
+  orders_1779 = refl;
+  units_1779 = refl;
 }
