@@ -1,9 +1,5 @@
 -- Values of data elements that are no longer than the limit of values are within its limits: none is deep.
-<<<<<<< HEAD
-use Rattle.std.proofs.Common.{◌≡◌, ◌<◌, ◌≤◌, ◌⊎◌, ℕ, Bool, true, false, List, Option, Some, None, length, arith, inl, inr}
-=======
 use Rattle.std.proofs.Common.{◌≤◌, true, false, Some, None, length, arith, inl, inr}
->>>>>>> 7a66bff673d8c0a19017eea61307feef543b4b2b
 use Rattle.vf_base.specs.declared.element.Element.{Element}
 use Rattle.vf_base.specs.declared.element.Element.TheVariants.{Descriptor, Enter, Exit, Text, Binary}
 use Rattle.vf_base.specs.declared.limits.TheConstants.{MOST_VALUE_OCTETS}

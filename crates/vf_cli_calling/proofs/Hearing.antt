@@ -1,14 +1,7 @@
 -- What a calling end hears: octets one by one, few at once, and any number of them.
-<<<<<<< HEAD
-use Rattle.std.proofs.Common.{◌≡◌, ◌<◌, ◌≤◌, ◌⊎◌, ℕ, suc, ◌+◌, Bool, true, false, List, [], ◌∷◌, ◌++◌, Option, Some, None, length, take, drop, get_or, refl, sym, ap, subst, ◌∙◌, append_assoc, append-nil, arith, inl, inr, drop-cons}
-use Rattle.std.specs.Prelude.{if◌then◌else◌}
-use Rattle.std.proofs.Math.ListN.{drop_of_length-le}
-use Rattle.std.proofs.lemmas.List.{take-append-drop}
-=======
 use Rattle.std.proofs.Common.{◌≡◌, ◌<◌, ◌≤◌, ◌⊎◌, ℕ, suc, ◌+◌, Bool, true, false, List, [], ◌∷◌, ◌++◌, Option, Some, None, length, drop, get_or, refl, sym, ap, subst, ◌∙◌, append_assoc, append-nil, arith, inl, inr, drop-cons}
 use Rattle.std.specs.Prelude.{if◌then◌else◌}
 use Rattle.std.proofs.Math.ListN.{drop_of_length-le}
->>>>>>> 7a66bff673d8c0a19017eea61307feef543b4b2b
 use Rattle.vf_session.specs.declared.units.TokenSide.{TokenSide}
 use Rattle.vf_session.specs.declared.units.TokenSide.TheVariants.{Initiator}
 use Rattle.vf_stack.specs.Association.{Association, is_ended}
@@ -21,10 +14,7 @@ use Rattle.vf_tpkt.specs.Wanting.{lacking}
 use Rattle.vf_cli_calling.specs.Calling.{Calling, Heard, hearing, noted, noted_at, octet_heard, point_of, preceded, told}
 use Rattle.vf_cli_calling.specs.Lines.{heard_line}
 use Rattle.vf_cli_calling.specs.Represents.{Hears, Represents, Tells}
-<<<<<<< HEAD
-=======
 use Rattle.vf_cli_calling.specs.declared.base.Base.{Base}
->>>>>>> 7a66bff673d8c0a19017eea61307feef543b4b2b
 use Rattle.vf_cli_calling.specs.declared.caller.Caller.{Caller}
 
 abbrev heard_nothing : Calling → Heard
@@ -91,29 +81,6 @@ few_heard link calling (octet ∷ later) (inr last) =
     subst (λ (a : Association). (later ≡ []) ⊎ (is_ended a.exchange.ending ≡ true)) (sym (told_stays link (received calling fed) fed.indications)) last.last in
     heard_last link heard later over ∙ ap (λ (f : Fed). heard_as link calling f) (sym last.whole)
 
-<<<<<<< HEAD
-pub heard_few : (link : ℕ) (caller caller' caller'' : Caller) (calling : Calling) (octets : List ℕ) (indications : List Indication) (answers text text' : List ℕ)
-    → Represents caller calling → length octets ≤ lacking caller.stack.transport.packet
-    → FewTellLast caller.stack calling.association octets → TellsRead Initiator calling.association octets
-    → Feeds (octets_received (side_of caller.stack) calling.association octets) [] [] caller'.stack indications answers → IsSame caller.stack.exchange caller'.stack.exchange
-    → caller'.sync ≡ caller.sync → caller'.base ≡ caller.base
-    → ((now : Calling) → Represents caller' now → AreRead indications → Hears (told link now indications) text caller'' text')
-    → Hears (hearing link calling octets) text caller'' text'
-heard_few link caller caller' caller'' calling octets indications answers text text' is few law read feeds same sync base tells =
-    let a : Association = calling.association in
-    let fed : Fed = octets_received Initiator a octets in
-    let f : Feeds fed [] [] caller'.stack indications answers =
-    subst (λ (s : TokenSide). Feeds (octets_received s a octets) [] [] caller'.stack indications answers) is.side feeds in
-    let lasts : TellsLast Initiator a octets = subst (λ (s : TokenSide). TellsLast s a octets) is.side (law is.association few) in
-    let now : Represents caller' (received calling fed) =
-    record { association = f.represents; side = same.0 ∙ is.side; offer = same.1 ∙ is.offer; sync = sync ∙ is.sync; base = base ∙ is.base } in
-    let were_read : AreRead indications = subst AreRead (sym f.indications) read.0 in
-    let heard : Hears (told link (received calling fed) indications) text caller'' text' = tells (received calling fed) now were_read in
-    let told_so : told link (received calling fed) indications ≡ hearing link calling octets =
-    ap (λ (i : List Indication). told link (received calling fed) i) f.indications ∙ sym (few_heard link calling octets lasts) in
-    subst (λ (h : Heard). Hears h text caller'' text') told_so heard
-
-=======
 pub heard_few : (link : ℕ) (caller caller' caller'' : Caller) (calling : Calling) (octets : List ℕ) (before indications slice : List Indication) (answers answers' text text' : List ℕ)
     → Represents caller calling → length octets ≤ lacking caller.stack.transport.packet
     → FewTellLast caller.stack calling.association octets → TellsRead Initiator calling.association octets → before ≡ []
@@ -143,7 +110,6 @@ pub tells_so : (link : ℕ) (caller' : Caller) (now : Calling) (indication : Ind
 tells_so link caller' now indication text text' is e =
     record { line_is = e ∙ ap (λ (b : Base). text ++ heard_line link b indication) is.base; represents = is }
 
->>>>>>> 7a66bff673d8c0a19017eea61307feef543b4b2b
 -- ---- from indication to indication
 
 -- Some of them were told, and those that are left tell the rest.

@@ -1,21 +1,11 @@
 -- What a calling end says: requests, messages, and messages one after another.
 use Rattle.std.proofs.Common.{◌≡◌, ◌<◌, ◌≤◌, ℕ, suc, ◌+◌, Bool, true, false, List, [], ◌∷◌, ◌++◌, Option, Some, None, length, drop, get_or, refl, sym, ap, subst, ◌∙◌, append_assoc, append-nil, arith, inl, inr, drop-cons}
-<<<<<<< HEAD
-=======
 use Rattle.std.specs.Option.{option_map}
->>>>>>> 7a66bff673d8c0a19017eea61307feef543b4b2b
 use Rattle.std.specs.Prelude.{if◌then◌else◌}
 use Rattle.std.proofs.Math.ListN.{drop_of_length-le}
 use Rattle.vf_elements.specs.declared.message.Message.{Message}
 use Rattle.vf_session.specs.declared.units.TokenSide.{TokenSide}
 use Rattle.vf_session.specs.declared.units.TokenSide.TheVariants.{Initiator}
-<<<<<<< HEAD
-use Rattle.vf_stack.specs.Represents.{IsSame, Represents as IsStackOf, offer_of, side_of}
-use Rattle.vf_stack.specs.Sending.{May, octets_sent}
-use Rattle.vf_stack.specs.Sends.{Sends as IsSentBy}
-use Rattle.vf_stack.specs.declared.request.Request.{Request}
-use Rattle.vf_cli_calling.specs.Calling.{Calling, MaySend, Says, SaysAll, SaysRequest, Sends, SendsOne, begins_transfer, begun_by, noted_at, request_of, with_base, with_sent}
-=======
 use Rattle.vf_stack.specs.Represents.{IsSame, offer_of, side_of}
 use Rattle.vf_stack.specs.Sending.{May, octets_sent}
 use Rattle.vf_stack.specs.Sends.{Sends as IsSentBy}
@@ -23,7 +13,6 @@ use Rattle.vf_stack.specs.declared.request.Request.{Request}
 use Rattle.vf_stack.specs.declared.request.Request.TheVariants.{Acknowledge}
 use Rattle.vf_cli_calling.specs.Bases.{serial_of}
 use Rattle.vf_cli_calling.specs.Calling.{Calling, MaySend, Says, SaysAcknowledgement, SaysAll, SaysRequest, Sends, SendsOne, begins_transfer, begun_by, noted_at, request_of, with_base, with_sent}
->>>>>>> 7a66bff673d8c0a19017eea61307feef543b4b2b
 use Rattle.vf_cli_calling.specs.Represents.{Asks, Represents, Speaks}
 use Rattle.vf_cli_calling.specs.declared.base.Base.{Base}
 use Rattle.vf_cli_calling.specs.declared.caller.Caller.{Caller}
@@ -92,32 +81,6 @@ said_by caller calling message request out caller' out' is e asked =
     let by_base : request_of calling.sync caller.base message ≡ request_of calling.sync calling.base message = ap (λ (b : Base). request_of calling.sync b message) is.base in
     subst (λ (r : Option Request). Asked calling message r out caller' out') (e ∙ (by_sync ∙ by_base)) asked
 
-<<<<<<< HEAD
-pub says_none : (caller : Caller) (calling : Calling) (message : Message) (out : List ℕ) → Represents caller calling
-    → None ≡ request_of caller.sync caller.base message → Speaks (Says calling message) out caller out
-says_none caller calling message out is e =
-    said_by caller calling message None out caller out is e (says_nothing (SaysRequest calling message None) caller calling out is (refl, refl))
-
-pub says_left : (caller caller' : Caller) (calling : Calling) (message : Message) (request : Request) (out out' : List ℕ) → Represents caller calling
-    → Some request ≡ request_of caller.sync caller.base message → Asks calling request out caller' out' false → Speaks (Says calling message) out caller' out'
-says_left caller caller' calling message request out out' is e asks =
-    said_by caller calling message (Some request) out caller' out' is e
-    (record { octets = []; later = calling; says = inr (asks.0, refl, refl); represents = asks.2; sent = asks.1 ∙ sym (append-nil out) })
-
-pub says_sent : (caller caller' caller'' : Caller) (calling : Calling) (message : Message) (request : Request) (out out' : List ℕ) → Represents caller calling
-    → Some request ≡ request_of caller.sync caller.base message → Asks calling request out caller' out' true
-    → ((now : Calling) → Represents caller' now → Represents caller'' (begun_by now message)) → Speaks (Says calling message) out caller'' out'
-says_sent caller caller' caller'' calling message request out out' is e asks begins =
-    said_by caller calling message (Some request) out caller'' out' is e
-    (record {
-      octets = octets_sent Initiator calling.association request;
-      later = begun_by (with_sent calling request) message;
-      says = inl (asks.0, refl, refl);
-      represents = begins (with_sent calling request) asks.2;
-      sent = asks.1;
-    })
-
-=======
 pub says_none : (caller : Caller) (calling : Calling) (message : Message) (found : Option Request) (out : List ℕ) → Represents caller calling
     → found ≡ request_of caller.sync caller.base message → found ≡ None → Speaks (Says calling message) out caller out
 says_none caller calling message found out is e none =
@@ -154,7 +117,6 @@ acknowledges caller calling point serial out caller' out' is e speaks =
     let same : serial ≡ serial_of calling.base point = e ∙ ap (λ (b : Base). serial_of b point) is.base in
     subst (λ (s : Option ℕ). Speaks (Sends calling (option_map (λ (serial : ℕ). Acknowledge serial) s)) out caller' out') same speaks
 
->>>>>>> 7a66bff673d8c0a19017eea61307feef543b4b2b
 -- ---- a transfer that begins
 
 pub begun_so : (caller : Caller) (b : Bool) (calling : Calling) (message : Message) → b ≡ begins_transfer message
@@ -195,11 +157,7 @@ says_one calling messages out caller out' caller' out'' message rest before one 
       sent = next.sent ∙ (ap (λ (o : List ℕ). o ++ next.octets) before.sent ∙ append_assoc out before.octets next.octets);
       onward = λ more after says.
           subst (λ (o : List ℕ). SaysAll calling messages o after) (sym (append_assoc before.octets next.octets more))
-<<<<<<< HEAD
-          (before.onward (next.octets ++ more) after (next.octets, more, next.later, (next.says, says, refl)));
-=======
           (before.onward (next.octets ++ more) after (next.octets, more, next.later, next.says, says, refl));
->>>>>>> 7a66bff673d8c0a19017eea61307feef543b4b2b
     }
 
 -- the same of a message at its place

@@ -1,9 +1,5 @@
 -- Which calling ends one represents, and what its calls owe for each of them.
-<<<<<<< HEAD
-use Rattle.std.specs.Prelude.{◌≡◌, ℕ, Bool, true, false, List, [], ◌∷◌, ◌++◌}
-=======
 use Rattle.std.specs.Prelude.{◌≡◌, ℕ, Bool, true, false, List, ◌++◌}
->>>>>>> 7a66bff673d8c0a19017eea61307feef543b4b2b
 use Rattle.vf_session.specs.declared.units.TokenSide.TheVariants.{Initiator}
 use Rattle.vf_stack.specs.Represents.{Represents as IsStackOf, offer_of, side_of}
 use Rattle.vf_stack.specs.Sending.{octets_sent}

@@ -62,14 +62,6 @@ impl Caller {
     fn say(&mut self, alloc: Global, message: &Message, out: &mut Vec<u8>) -> Result<(), NoMemory>
         ensures { (calling : Calling) → Represents self.old calling → OnOk result (Speaks (Says calling message.now) out.old.items self.new out.new.items) }
     {
-<<<<<<< HEAD
-        let Some(request) = request_of(alloc, self.sync, self.base, message)? else {
-            return Ok(());
-        };
-        if self.send(alloc, &request, out)? {
-            self.begin_by(message);
-        }
-=======
         let found = request_of(alloc, self.sync, self.base, message)?;
         let Some(request) = found else {
             return Ok(());
@@ -79,7 +71,6 @@ impl Caller {
             return Ok(());
         }
         self.begin_by(message);
->>>>>>> 7a66bff673d8c0a19017eea61307feef543b4b2b
         Ok(())
     }
 
@@ -88,12 +79,8 @@ impl Caller {
         ensures { (calling : Calling) → Represents self.old calling → OnOk result (Speaks (SaysCheck calling) out.old.items self.new out.new.items) }
     {
         let serial = self.stack.next_serial();
-<<<<<<< HEAD
-        self.offer(alloc, &Request::Check { serial }, out)
-=======
         self.offer(alloc, &Request::Check { serial }, out)?;
         Ok(())
->>>>>>> 7a66bff673d8c0a19017eea61307feef543b4b2b
     }
 
     /// Acknowledges the checks of its last transfer up to this one, where it may. Without memory the calling end is only to be
@@ -107,62 +94,33 @@ impl Caller {
         ensures { (calling : Calling) → Represents self.old calling → OnOk result (Speaks (SaysAcknowledgement calling point) out.old.items self.new out.new.items) }
     {
         match self.base.serial_of(point) {
-<<<<<<< HEAD
-            Some(serial) => self.offer(alloc, &Request::Acknowledge { serial }, out),
-=======
             Some(serial) => {
                 self.offer(alloc, &Request::Acknowledge { serial }, out)?;
                 Ok(())
             }
->>>>>>> 7a66bff673d8c0a19017eea61307feef543b4b2b
             None => Ok(()),
         }
     }
 
     /// Restarts its last transfer after this check, where it may (ISO 8571-3, F-RESTART). Without memory the calling end is
     /// only to be dropped.
-<<<<<<< HEAD
-    pub fn restart(
-        &mut self,
-        alloc: Global,
-        point: u32,
-        out: &mut Vec<u8>,
-    ) -> Result<(), NoMemory>
-        ensures { (calling : Calling) → Represents self.old calling → OnOk result (Speaks (SaysRestart calling point) out.old.items self.new out.new.items) }
-    {
-        self.say(alloc, &Message::Pdu(Pdu::RestartRequest { point }), out)
-=======
     pub fn restart(&mut self, alloc: Global, point: u32, out: &mut Vec<u8>) -> Result<(), NoMemory>
         ensures { (calling : Calling) → Represents self.old calling → OnOk result (Speaks (SaysRestart calling point) out.old.items self.new out.new.items) }
     {
         self.say(alloc, &Message::Pdu(Pdu::RestartRequest { point }), out)?;
         Ok(())
->>>>>>> 7a66bff673d8c0a19017eea61307feef543b4b2b
     }
 
     /// Passes the token, where it may (ISO 8327, give tokens). Without memory the calling end is only to be dropped.
     pub fn pass(&mut self, alloc: Global, out: &mut Vec<u8>) -> Result<(), NoMemory>
         ensures { (calling : Calling) → Represents self.old calling → OnOk result (Speaks (SaysPass calling) out.old.items self.new out.new.items) }
     {
-<<<<<<< HEAD
-        self.offer(alloc, &Request::Pass, out)
-    }
-
-    /// Sends a request where it may.
-    fn offer(
-        &mut self,
-        alloc: Global,
-        request: &Request,
-        out: &mut Vec<u8>,
-    ) -> Result<(), NoMemory>
-=======
         self.offer(alloc, &Request::Pass, out)?;
         Ok(())
     }
 
     /// Sends a request where it may.
     fn offer(&mut self, alloc: Global, request: &Request, out: &mut Vec<u8>) -> Result<(), NoMemory>
->>>>>>> 7a66bff673d8c0a19017eea61307feef543b4b2b
         ensures { (calling : Calling) → Represents self.old calling → OnOk result (Speaks (SendsOne calling request.now) out.old.items self.new out.new.items) }
     {
         let _sent = self.send(alloc, request, out)?;
@@ -224,12 +182,8 @@ impl Caller {
         let mut told = Vec::new(alloc);
         let mut answers = Vec::new(alloc);
         self.stack.feed(octets, &mut told, &mut answers)?;
-<<<<<<< HEAD
-        self.tell_all(alloc, link, told.as_slice(), text)
-=======
         self.tell_all(alloc, link, told.as_slice(), text)?;
         Ok(())
->>>>>>> 7a66bff673d8c0a19017eea61307feef543b4b2b
     }
 
     /// Appends the lines of what was heard.
@@ -258,26 +212,17 @@ impl Caller {
         ensures { (calling : Calling) → Represents self.old calling → IsRead indication.now → OnOk result (Tells link (noted calling indication.now) indication.now text.old.items self.new text.new.items) }
     {
         self.note(indication);
-<<<<<<< HEAD
-        append_heard(alloc, link, self.base, indication, text)
-=======
         append_heard(alloc, link, self.base, indication, text)?;
         Ok(())
->>>>>>> 7a66bff673d8c0a19017eea61307feef543b4b2b
     }
 
     /// Notes the base of a transfer that goes on after a recovery.
     fn note(&mut self, indication: &Indication)
         ensures { (calling : Calling) → Represents self.old calling → Represents self.new (noted calling indication.now) }
     {
-<<<<<<< HEAD
-        if let Some(point) = point_of(indication) {
-            self.begin(point);
-=======
         match point_of(indication) {
             Some(point) => self.begin(point),
             None => {}
->>>>>>> 7a66bff673d8c0a19017eea61307feef543b4b2b
         }
     }
 

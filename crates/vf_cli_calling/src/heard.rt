@@ -1,17 +1,9 @@
 //! The lines that tell what a calling end hears.
-<<<<<<< HEAD
-ghost use Rattle.std.specs.Prelude.{◌≡◌, ◌↔◌, ◌++◌, IsTrue, OnOk, length, nat_lt};
-ghost use Rattle.vf_ber.specs.Limits.{IsTooLarge};
-ghost use Rattle.vf_ber.specs.Spelling.{spell};
-ghost use Rattle.vf_ber.specs.Views.{tree_of};
-ghost use Rattle.vf_elements.specs.ElementValue.{IsWritable, value as element_value};
-=======
 ghost use Rattle.std.specs.Prelude.{◌≡◌, ◌↔◌, ◌++◌, IsTrue, OnOk, length, nat_lt, true};
 ghost use Rattle.vf_ber.specs.Limits.{IsTooLarge};
 ghost use Rattle.vf_ber.specs.Spelling.{spell};
 ghost use Rattle.vf_ber.specs.Views.{tree_of};
 ghost use Rattle.vf_elements.specs.ElementValue.{IsNamed, IsWritable, value as element_value};
->>>>>>> 7a66bff673d8c0a19017eea61307feef543b4b2b
 ghost use Rattle.vf_pdu.specs.PduMeaning.{IsInRange};
 ghost use Rattle.vf_pdu.specs.PduValue.{value};
 ghost use Rattle.vf_stack.specs.Ranges.{IsRead, IsReadItem, IsReadMaybe};
@@ -20,11 +12,7 @@ ghost use Rattle.vf_cli_calling.specs.Lines.{element_line, heard_line, item_line
 use crate::base::Base;
 use crate::lines::{append_ack, append_check, append_reply};
 use std::alloc::Global;
-<<<<<<< HEAD
-use vf_base::{Element, MOST_VALUE_OCTETS, NoMemory};
-=======
 use vf_base::{Element, MOST_VALUE_OCTETS, Name, NoMemory};
->>>>>>> 7a66bff673d8c0a19017eea61307feef543b4b2b
 use vf_ber::{Value, WriteError};
 use vf_pdu::{Boxed, Pdu};
 use vf_stack::{Indication, Item};
@@ -116,10 +104,6 @@ fn is_writable(element: &Element) -> bool
     ensures { IsTrue result ↔ IsWritable element.now }
 {
     match element {
-<<<<<<< HEAD
-        Element::Text { class, .. } => matches!(class, 22 | 25 | 26 | 27),
-        _ => true,
-=======
         Element::Descriptor { name, .. } => is_named(name),
         Element::Enter => true,
         Element::Exit => true,
@@ -139,7 +123,6 @@ fn is_named(name: &Option<Name>) -> bool
             true
         }
         None => true,
->>>>>>> 7a66bff673d8c0a19017eea61307feef543b4b2b
     }
 }
 
@@ -163,15 +146,7 @@ fn put_pdu(alloc: Global, pdu: &Pdu, octets: &mut Vec<u8>) -> Result<(), NoMemor
 }
 
 /// Appends the octets of a data element in its canonical spelling.
-<<<<<<< HEAD
-fn put_element(
-    alloc: Global,
-    element: &Element,
-    octets: &mut Vec<u8>,
-) -> Result<(), NoMemory>
-=======
 fn put_element(alloc: Global, element: &Element, octets: &mut Vec<u8>) -> Result<(), NoMemory>
->>>>>>> 7a66bff673d8c0a19017eea61307feef543b4b2b
     requires writable { IsWritable element.now }
     requires short { IsTooLarge (element_value element.now) → ⊥ }
     ensures { OnOk result (octets.new.items ≡ octets.old.items ++ spell (element_value element.now)) }
