@@ -18,7 +18,7 @@ use Rattle.vf_tables.specs.Validity.{is_valid}
 use Rattle.vf_tables.specs.declared.change.Change.{Change}
 use Rattle.vf_tables.specs.declared.tables.Tables.{Tables}
 use Rattle.vf_tables.specs.declared.user.User.{User}
-use Rattle.vf_store_commands.proofs.Bools.{first_of}
+use Rattle.vf_cli_replay.proofs.Bools.{first_of}
 use Rattle.vf_cli_replay.proofs.Serving.{store_leaves}
 use Rattle.vf_cli_replay.specs.Disks.{Keeps, may_leave, shown}
 use Rattle.vf_cli_replay.specs.Users.{AreGood}

@@ -1,3 +1,4 @@
+pub mod Bools
 pub mod CallerEnds
 pub mod Replies
 pub mod Going

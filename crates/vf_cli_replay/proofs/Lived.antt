@@ -27,7 +27,7 @@ opened_goes None life state lived goes = goes
 opened_goes (Some stop) life state lived goes = inl goes
 
 opened_stops : (stop : Option Stop) (life : Life) (state : State) (lived : Lived) → IsSome stop → StopsWithin life state lived → LivesOpened stop life state lived
-opened_stops None life state lived asked stops = absurd asked
+opened_stops None life state lived asked stops = absurd cc
 opened_stops (Some stop) life state lived asked stops = inr stops
 
 -- all events were answered

@@ -57,7 +57,7 @@ opens_later None image plan looks = refl
 opens_later (Some stop) image plan looks = sym (first_call stop.call) ∙ neither (nat_le (max stop.call 1) 1) false looks.0
 
 pub stops_at_once : (stop : Option Stop) (image : List ℕ) (plan : Option StopPlan) → SyncsAndLooks (Some (plan_of stop image)) plan true → IsSome stop → at_once stop ≡ true
-stops_at_once None image plan looks asked = absurd asked
+stops_at_once None image plan looks asked = absurd cc
 stops_at_once (Some stop) image plan looks asked =
     ⊎_elim (λ first. sym (first_call stop.call) ∙ or_none (nat_le (max stop.call 1) 1) first.0)
     (λ later.

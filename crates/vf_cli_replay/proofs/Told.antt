@@ -18,7 +18,7 @@ use Rattle.vf_cli_script.specs.declared.script.Script.{Script}
 use Rattle.vf_disk.specs.declared.crash_form.CrashForm.{CrashForm}
 use Rattle.vf_filestore.specs.Keeping.{AreOthersValid}
 use Rattle.vf_filestore.specs.Ranges.{AreOthersRanged}
-use Rattle.vf_store_commands.proofs.Bools.{all_push, both_true, first_of, not_true, second_of}
+use Rattle.vf_cli_replay.proofs.Bools.{all_push, both_true, first_of, not_true, second_of}
 use Rattle.vf_store_commands.specs.Making.{users_alone}
 use Rattle.vf_tables.specs.Entries.{is_user}
 use Rattle.vf_tables.specs.Fitting.{is_in_range, is_short}

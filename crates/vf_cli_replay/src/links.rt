@@ -162,8 +162,10 @@ impl Links {
         ensures limit { self.new.responder.store.journal.limit ≡ self.old.responder.store.journal.limit }
     {
         let mut replies = Vec::new(alloc);
-        let event = Event::Arrived { link };
-        match self.responder.deliver(alloc, event, &mut replies) {
+        match self
+            .responder
+            .deliver(alloc, Event::Arrived { link }, &mut replies)
+        {
             Ok(()) => {
                 hear_all(alloc, &mut self.callers, replies.as_slice(), text)?;
                 Ok(None)
@@ -218,8 +220,10 @@ impl Links {
         ensures limit { self.new.responder.store.journal.limit ≡ self.old.responder.store.journal.limit }
     {
         let mut replies = Vec::new(alloc);
-        let event = Event::Ended { link };
-        match self.responder.deliver(alloc, event, &mut replies) {
+        match self
+            .responder
+            .deliver(alloc, Event::Ended { link }, &mut replies)
+        {
             Ok(()) => {
                 hear_all(alloc, &mut self.callers, replies.as_slice(), text)?;
                 Ok(None)
