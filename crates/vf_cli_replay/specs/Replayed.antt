@@ -12,8 +12,8 @@ use Rattle.vf_store_commands.specs.Listing.{IsInOrder, file_lines}
 use Rattle.vf_cli_replay.specs.Living.{LiveOn, Lived, episodes_of, lines_of}
 
 -- how many files there are, and the line of each in the order of their names
-abbrev pub files_lines : List File → List ℕ
-files_lines files = codes "files " ++ (decimal (length files) ++ (line_feed ∷ file_lines files))
+abbrev pub files_lines : (files sorted : List File) → List ℕ
+files_lines files sorted = codes "files " ++ (decimal (length files) ++ (line_feed ∷ file_lines sorted))
 
 -- a filestore of the users of a script, and of nothing else
 abbrev pub begun_by : Script → State
@@ -25,9 +25,9 @@ pub record IsReplayed (script : Script) (printed : List ℕ) : Type 0 where
   pub all : List Lived
   pub live : LiveOn (begun_by script) script.lives all
   pub one_run : AreOneRun (episodes_of all) (begun_by script)
-  pub files : List File
-  pub order : IsInOrder (after_all (episodes_of all) (begun_by script)).files files
-  pub lines : printed ≡ lines_of all ++ files_lines files
+  pub sorted : List File
+  pub order : IsInOrder (after_all (episodes_of all) (begun_by script)).files sorted
+  pub lines : printed ≡ lines_of all ++ files_lines (after_all (episodes_of all) (begun_by script)).files sorted
 
 -- WHAT IS PRINTED. Nothing is, where the input fails or memory is wanting; a script with a bad line isn't run.
 abbrev pub PrintsScript : Script → (status : ℕ) → Option (List ℕ) → Option (List ℕ) → Type 0

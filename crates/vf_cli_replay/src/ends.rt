@@ -99,14 +99,14 @@ pub(crate) fn append_files(
     disk: MemoryDisk,
     text: &mut Vec<u8>,
 ) -> Result<(), NoMemory>
-    ensures { (state : State) → Keeps disk state → OnOk result ((files : List FileMeant) × (IsInOrder state.files files × (text.new.items ≡ text.old.items ++ files_lines files))) }
+    ensures { (state : State) → Keeps disk state → OnOk result ((sorted : List FileMeant) × (IsInOrder state.files sorted × (text.new.items ≡ text.old.items ++ files_lines state.files sorted))) }
 {
     let store = opened(alloc, disk)?;
     append_files_of(alloc, store.tables().files.as_slice(), text)
 }
 
 fn append_files_of(alloc: Global, files: &[File], text: &mut Vec<u8>) -> Result<(), NoMemory>
-    ensures { OnOk result ((sorted : List FileMeant) × (IsInOrder files.now sorted × (text.new.items ≡ text.old.items ++ files_lines sorted))) }
+    ensures { OnOk result ((sorted : List FileMeant) × (IsInOrder files.now sorted × (text.new.items ≡ text.old.items ++ files_lines files.now sorted))) }
 {
     let head = files_head(alloc, files.len())?;
     let lines = text_of_files(alloc, files)?;

@@ -18,7 +18,7 @@ returns c = λ good.
       all = have.all;
       live = have.live;
       one_run = incarnations_are_one_run (episodes_of have.all) state keeps.begins;
-      files = files.0;
+      sorted = files.0;
       order = files.1.0;
-      lines = files.1.1 ∙ ap (λ (t : List ℕ). t ++ files_lines files.0) (have.lines ∙ ap (λ (t : List ℕ). t ++ lines_of have.all) c.new-text.ensures.items);
+      lines = files.1.1 ∙ ap (λ (t : List ℕ). t ++ files_lines (after_all (episodes_of have.all) state).files files.0) (have.lines ∙ ap (λ (t : List ℕ). t ++ lines_of have.all) c.new-text.ensures.items);
     }
