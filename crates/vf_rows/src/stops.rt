@@ -35,12 +35,13 @@ fn stage_of(printed: &[u8]) -> Option<usize> {
 
 #[test]
 fn each_stop_of_generate_leaves_a_stage(rt: HostRuntime) -> Result<(), Fail> {
-    let mut stage = 0;
+    let mut stage = 0_usize;
     for calls in 0..200_u32 {
         let found = stopped_after(rt.alloc(), calls)?;
         let next = stage_of(found.octets.as_slice());
-        if calls > 0 && next == Some(stage + 1) {
-            stage += 1;
+        let later = stage.saturating_add(1);
+        if calls > 0 && next == Some(later) {
+            stage = later;
         }
         assert!(rt; next == Some(stage), "{calls}");
         if found.status == 0 {
