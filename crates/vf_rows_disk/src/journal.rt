@@ -67,12 +67,14 @@ fn lies(alloc: Global, row: &Appended) -> Result<bool, JournalError> {
     Ok(is_new && answer == row.answer && disk.octets() == row.octets && stands)
 }
 
-/// What is planned for a record of ten octets, when one of all tables has 2,000, with a limit.
+/// What is planned for a record of ten octets, when one of all tables has 2,000, with a limit, and what appending it
+/// without a switch answers.
 #[derive(Clone, Copy)]
 struct Planned {
     limit: u64,
     switch: Option<u64>,
     end: u64,
+    append: Result<(), JournalError>,
 }
 
 const PLANNED: [Planned; 2] = [
@@ -80,11 +82,16 @@ const PLANNED: [Planned; 2] = [
         limit: 100_000,
         switch: Some(6064),
         end: 8085,
+        append: Ok(()),
     },
     Planned {
         limit: 6070,
         switch: None,
         end: 6079,
+        append: Err(JournalError::Full {
+            length: 6079,
+            limit: 6070,
+        }),
     },
 ];
 
@@ -106,14 +113,17 @@ fn of_six_records(alloc: Global) -> Result<MemoryDisk, JournalError> {
     Ok(disk)
 }
 
-/// Whether the journal on the disk has six records of a thousand octets, a switch is due, and it is planned as told.
+/// Whether the journal on the disk has six records of a thousand octets, a switch is due, and it is planned and a record
+/// appended as told.
 fn plans(alloc: Global, disk: &MemoryDisk, row: &Planned) -> Result<bool, JournalError> {
     let mut disk = disk.copy(alloc)?;
     let mut records = Vec::new(alloc);
-    let journal = Journal::open(alloc, &mut disk, row.limit, &mut records)?;
+    let mut journal = Journal::open(alloc, &mut disk, row.limit, &mut records)?;
     let placing = journal.plan(10, 2000);
     let placed = placing.switch == row.switch && placing.end == row.end && journal.is_due(10);
-    Ok(placed && records.len() == 6 && records.iter().all(|record| record.len() == 1000))
+    let stands = records.len() == 6 && records.iter().all(|record| record.len() == 1000);
+    let answer = append(alloc, &mut journal, &mut disk, &[7; 10]);
+    Ok(placed && stands && answer == row.append)
 }
 
 /// Octets that are no journal: the place, what is found there, and what is expected.
