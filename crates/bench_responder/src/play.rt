@@ -88,7 +88,16 @@ fn put_played<D: Disk + Drop>(
     out: &mut Vec<u8>,
 ) -> Result<(), Fault> {
     let mut responder = opened(alloc, disk)?;
-    let said = play(alloc, &mut responder, streams)?;
+    put_play(alloc, &mut responder, streams, out)
+}
+
+fn put_play<D: Disk>(
+    alloc: Global,
+    responder: &mut Responder<D>,
+    streams: Streams<'_>,
+    out: &mut Vec<u8>,
+) -> Result<(), Fault> {
+    let said = play(alloc, responder, streams)?;
     let files = &responder.tables().files;
     put_number(alloc, "said ", said, " ", out)?;
     put_number(

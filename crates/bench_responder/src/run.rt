@@ -55,8 +55,8 @@ fn created_with(alloc: Global, users: Changes) -> Result<MemoryDisk, Fault> {
     with_changes(alloc, disk, users)
 }
 
-/// The same disk, of which calls fail by a plan.
-fn planned(alloc: Global, disk: MemoryDisk, plan: Plan) -> Result<MemoryDisk, Fault> {
+/// A disk of the same octets, of which calls fail by a plan.
+fn planned(alloc: Global, disk: &MemoryDisk, plan: Plan) -> Result<MemoryDisk, Fault> {
     let failing = listed(alloc, plan.disk)?;
     let mut disk = MemoryDisk::of(alloc, disk.octets(), failing)?;
     if plan.stop > 0 {
@@ -91,6 +91,29 @@ fn play<D: Disk>(
     put_tables(alloc, responder.tables(), out)
 }
 
+/// The disk, where all was told.
+pub fn given_back<D: Drop>(told: Result<(), Fault>, disk: D) -> Result<D, Fault> {
+    match told {
+        Ok(()) => Ok(disk),
+        Err(fault) => Err(fault),
+    }
+}
+
+/// Appends the tables where they are told first, and what comes of the life.
+fn put_life<D: Disk>(
+    alloc: Global,
+    responder: &mut Responder<D>,
+    life: &Life,
+    later: bool,
+    seed: u64,
+    out: &mut Vec<u8>,
+) -> Result<(), Fault> {
+    if later {
+        put_tables(alloc, responder.tables(), out)?;
+    }
+    play(alloc, responder, life, seed, out)
+}
+
 /// A life through the responder, which gives the disk back. One that is later than another first tells the tables.
 fn deliver_life<D: Disk + Drop>(
     alloc: Global,
@@ -100,18 +123,14 @@ fn deliver_life<D: Disk + Drop>(
     seed: u64,
     out: &mut Vec<u8>,
 ) -> Result<D, Fault> {
-    let mut responder = match Responder::open(alloc, disk, life.plan.limit) {
-        Ok(responder) => responder,
-        Err((disk, error)) => {
-            put_error(alloc, error, out)?;
-            return Ok(disk);
+    match Responder::open(alloc, disk, life.plan.limit) {
+        Ok(responder) => {
+            let mut responder = responder;
+            let told = put_life(alloc, &mut responder, life, later, seed, out);
+            given_back(told, responder.close())
         }
-    };
-    if later {
-        put_tables(alloc, responder.tables(), out)?;
+        Err((disk, error)) => given_back(put_error(alloc, error, out), disk),
     }
-    play(alloc, &mut responder, life, seed, out)?;
-    Ok(responder.close())
 }
 
 fn change_life(alloc: Global, life: &mut Life, change: Change<'_>) -> Result<(), Fault> {
@@ -123,6 +142,22 @@ fn change_life(alloc: Global, life: &mut Life, change: Change<'_>) -> Result<(),
     Ok(())
 }
 
+/// The disk on which a first life begins.
+fn first_disk(alloc: Global, life: &mut Life) -> Result<MemoryDisk, Fault> {
+    let users = replace(&mut life.users, Changes::new(alloc));
+    let disk = created_with(alloc, users)?;
+    planned(alloc, &disk, life.plan)
+}
+
+/// Whether a first life goes through `serve`.
+fn is_served(way: &str) -> Result<bool, Fault> {
+    match way {
+        "deliver" => Ok(false),
+        "serve" => Ok(true),
+        _ => Err(Fault::Line),
+    }
+}
+
 fn first_life(
     alloc: Global,
     words: &str,
@@ -131,16 +166,25 @@ fn first_life(
     out: &mut Vec<u8>,
 ) -> Result<MemoryDisk, Fault> {
     let (way, words) = words.split_once(' ').unwrap_or((words, ""));
+    let served = is_served(way)?;
     let mut life = Life::of(alloc, words)?;
     change_life(alloc, &mut life, change)?;
-    let users = replace(&mut life.users, Changes::new(alloc));
-    let disk = created_with(alloc, users)?;
-    let disk = planned(alloc, disk, life.plan)?;
-    match way {
-        "deliver" => deliver_life(alloc, disk, &life, false, seed, out),
-        "serve" => serve_life(alloc, disk, life, out),
-        _ => Err(Fault::Line),
+    let disk = first_disk(alloc, &mut life)?;
+    if served {
+        return serve_life(alloc, disk, life, out);
     }
+    deliver_life(alloc, disk, &life, false, seed, out)
+}
+
+/// The disk that a crash leaves, of which calls fail by a plan.
+fn crashed(
+    alloc: Global,
+    disk: MemoryDisk,
+    form: CrashForm,
+    plan: Plan,
+) -> Result<MemoryDisk, Fault> {
+    let left = disk.crash(form)?;
+    planned(alloc, &left, plan)
 }
 
 fn later_life(
@@ -151,10 +195,10 @@ fn later_life(
     out: &mut Vec<u8>,
 ) -> Result<MemoryDisk, Fault> {
     let (form, words) = words.split_once(' ').unwrap_or((words, ""));
+    let form = form_of(form)?;
     let life = Life::of(alloc, words)?;
-    let disk = disk.crash(form_of(form)?)?;
-    let disk = planned(alloc, disk, life.plan)?;
     put(out, "/ ")?;
+    let disk = crashed(alloc, disk, form, life.plan)?;
     deliver_life(alloc, disk, &life, true, seed, out)
 }
 

@@ -7,6 +7,7 @@ ghost use Rattle.vf_base.specs.declared.events.ScriptEvent.{ScriptEvent as Scrip
 
 use crate::deliver::{put_error, put_sent};
 use crate::life::{Life, listed};
+use crate::run::given_back;
 use bench_base::{Fault, put, put_number};
 use std::alloc::Global;
 use vf_base::{ScriptEvent, ScriptLinks};
@@ -98,6 +99,16 @@ fn put_answer(
     }
 }
 
+fn put_served(
+    alloc: Global,
+    links: &ScriptLinks,
+    answer: Result<Served, ServeError>,
+    out: &mut Vec<u8>,
+) -> Result<(), Fault> {
+    put_traffic(alloc, links, out)?;
+    put_answer(alloc, answer, out)
+}
+
 /// Serves the links of a life, appends what came of it, and gives the disk back.
 pub fn serve_life<D: Disk + Drop>(
     alloc: Global,
@@ -108,7 +119,5 @@ pub fn serve_life<D: Disk + Drop>(
     let limit = life.plan.limit;
     let mut links = links_of(alloc, life)?;
     let (disk, answer) = serve(alloc, &mut links, disk, limit);
-    put_traffic(alloc, &links, out)?;
-    put_answer(alloc, answer, out)?;
-    Ok(disk)
+    given_back(put_served(alloc, &links, answer, out), disk)
 }

@@ -26,7 +26,7 @@ pub(crate) struct Ends {
 }
 
 impl Ends {
-    /// A new connection.
+    /// A new connection, on which nothing has come yet.
     pub(crate) fn dial(
         alloc: Global,
         plan: Plan,
@@ -35,19 +35,26 @@ impl Ends {
     ) -> Result<Ends, Fail> {
         let mut sent = Vec::new(alloc);
         let initiator = Initiator::begin(alloc, plan, kept, &mut sent)?;
-        let mut ends = Ends {
-            initiator,
-            peer: Stack::called(alloc)?,
-            pieces,
-            doing: Doing::Going,
-            changes: Sequence::new(alloc),
-            sent,
-            told: String::new(alloc),
-        };
-        let answers = ends.deliver(alloc)?;
-        ends.take(alloc, answers.as_slice())?;
-        ends.deliver(alloc)?;
-        Ok(ends)
+        match Stack::called(alloc) {
+            Ok(peer) => Ok(Ends {
+                initiator,
+                peer,
+                pieces,
+                doing: Doing::Going,
+                changes: Sequence::new(alloc),
+                sent,
+                told: String::new(alloc),
+            }),
+            Err(error) => Err(Fail::from(error)),
+        }
+    }
+
+    /// The request for the connection comes to the other end, and its answer back.
+    pub(crate) fn connect(&mut self, alloc: Global) -> Result<(), Fail> {
+        let answers = self.deliver(alloc)?;
+        self.take(alloc, answers.as_slice())?;
+        let _answers = self.deliver(alloc)?;
+        Ok(())
     }
 
     /// What the initiator has sent comes to the other end, which answers so.

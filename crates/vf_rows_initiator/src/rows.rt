@@ -4,7 +4,7 @@ use crate::ends::{Ends, keep};
 use crate::tasks::plan_of;
 use std::alloc::Global;
 use std::test::Fail;
-use vf_initiator::Plan;
+use vf_initiator::{KeptTask, Plan};
 use vf_tables::Tables;
 
 /// Three strings, a check behind every second one, without an activity.
@@ -243,19 +243,33 @@ impl Rows {
         Ok(())
     }
 
-    /// A new connection: the first one of the task, or one after another that broke.
-    fn dial(&mut self, alloc: Global) -> Result<(), Fail> {
+    /// The task is kept before its first connection.
+    fn keep(&mut self, alloc: Global) -> Result<(), Fail> {
+        match &self.plan {
+            Some(plan) => keep(alloc, plan, &mut self.tables),
+            None => Ok(()),
+        }
+    }
+
+    /// The ends of the task's first connection, or of one after another that broke.
+    fn next_ends(&mut self, alloc: Global) -> Result<Option<Ends>, Fail> {
         if let Some(plan) = self.plan.take() {
-            keep(alloc, &plan, &mut self.tables)?;
-            self.ends = Some(Ends::dial(alloc, plan, None, self.pieces)?);
-            return Ok(());
+            return dialled(alloc, plan, None, self.pieces);
         }
-        if let Some(ends) = self.ends.take() {
-            let plan = ends.broke();
-            let kept = self.tables.task(7);
-            self.ends = Some(Ends::dial(alloc, plan, kept, self.pieces)?);
+        match self.ends.take() {
+            Some(ends) => dialled(alloc, ends.broke(), self.tables.task(7), self.pieces),
+            None => Ok(None),
         }
-        Ok(())
+    }
+
+    /// A new connection.
+    fn dial(&mut self, alloc: Global) -> Result<(), Fail> {
+        self.keep(alloc)?;
+        self.ends = self.next_ends(alloc)?;
+        match &mut self.ends {
+            Some(ends) => ends.connect(alloc),
+            None => Ok(()),
+        }
     }
 
     /// A row of a connection.
@@ -287,19 +301,29 @@ impl Rows {
     }
 }
 
-/// Rows with what comes of them.
-fn run(alloc: Global, rows: &str, pieces: usize) -> Result<String, Fail> {
-    let mut run = Rows::new(alloc, pieces)?;
-    for row in rows.lines() {
-        run.row(alloc, row)?;
+fn dialled(
+    alloc: Global,
+    plan: Plan,
+    kept: Option<&KeptTask>,
+    pieces: usize,
+) -> Result<Option<Ends>, Fail> {
+    match Ends::dial(alloc, plan, kept, pieces) {
+        Ok(ends) => Ok(Some(ends)),
+        Err(fault) => Err(fault),
     }
-    Ok(run.text)
 }
 
-/// Rows come out as they stand, so many octets at a time.
-fn stand(alloc: Global, rows: &str, pieces: usize) -> Result<(), Fail> {
-    let found = run(alloc, rows, pieces)?;
-    for (line, expected) in found.as_str().lines().zip(rows.lines()) {
+/// Appends what comes of rows.
+fn run(alloc: Global, rows: &str, all: &mut Rows) -> Result<(), Fail> {
+    for row in rows.lines() {
+        all.row(alloc, row)?;
+    }
+    are_same(all.text.as_str(), rows)
+}
+
+/// Whether what came of rows is as they stand.
+fn are_same(found: &str, rows: &str) -> Result<(), Fail> {
+    for (line, expected) in found.lines().zip(rows.lines()) {
         if line != expected {
             return Err(Fail::new(line));
         }
@@ -308,6 +332,12 @@ fn stand(alloc: Global, rows: &str, pieces: usize) -> Result<(), Fail> {
         return Err(Fail::new("another number of lines"));
     }
     Ok(())
+}
+
+/// Rows come out as they stand, so many octets at a time.
+fn stand(alloc: Global, rows: &str, pieces: usize) -> Result<(), Fail> {
+    let mut all = Rows::new(alloc, pieces)?;
+    run(alloc, rows, &mut all)
 }
 
 #[test]
