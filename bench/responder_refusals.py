@@ -538,6 +538,40 @@ REFUSALS = {
         = 1 shut
         life lose
     """,
+    # a cancel performs what stands before the last check where that isn't refused, whatever comes after it
+    "a cancel": arrives_in_sync(1) + """
+        1 AA0F810161A207800528C27B0503850104
+        = 1 AB00
+        1 B206800104830107
+        = 1 B309A107800528C27B0503
+        1 BF2103800102
+        1 160141                                                # no element of a binary file
+        1 check
+        = 1 ack 1
+        1 BF2500
+        = 1 BF2600
+        1 BF2103800103                                          # extension isn't in the mode
+        1 0401AA
+        1 check
+        = 1 ack 2
+        1 BF2500
+        = 1 BF2600
+        1 BF2103800102
+        1 0401BB
+        1 check
+        = 1 ack 3
+        1 BF2205A00380010B                                      # the peer gives it up, and then cancels it
+        1 BF2500
+        = 1 BF2600
+        1 BF2103800102
+        1 0401CC
+        1 check
+        = 1 ack 4
+        1 160141
+        1 BF2500
+        = 1 BF2600
+        life lose
+    """,
     # requests for which the token or a unit lacks, and restarts of another number
     "an abort of a session": arrives_in_sync(1) + """
         1 AA0C810161A207800528C27B0503
