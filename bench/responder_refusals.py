@@ -517,7 +517,8 @@ REFUSALS = {
         = 3 BF2400
         life lose
     """,
-    # the answer to a cancel has no number behind the last check, and nothing is performed; a restart takes that check back first
+    # the answer to a cancel has no number behind the last check, and nothing is performed; a restart takes that check back first, and
+    # always has an answer, whose number is its own
     "no number for a cancel": arrives_in_sync(1, first=999_999) + f"""
         1 AA0F810161A207800528C27B0503850104
         = 1 AB00
