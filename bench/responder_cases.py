@@ -1,5 +1,5 @@
 """Peers of a responder, and lines for bench/responders: those that stand in crates/bench_responder, with the worked
-conversations of responder_conversations.py in them, and lines at random.
+conversations of responder_conversations.py and responder_refusals.py in them, and lines at random.
 """
 
 import random
@@ -8,17 +8,33 @@ from collections import Counter
 import stack_user_data as upper
 from responder_conversations import BEFORE, CONVERSATIONS, HOSTILE, LOST, OTHER, STANDS
 from responder_model import *  # all names of it are used as if they stood here
+from responder_refusals import REFUSALS
 
 runs = script("filestore")
 
 # ---- peers
 
 
+class Calling(End):
+    """A calling end whose session begins with a number, which is 1 of an end of this profile."""
+
+    def __init__(self, sync, first):
+        super().__init__("I", sync)
+        self.first = first
+
+    def unit_of(self, word):
+        unit = super().unit_of(word)
+        return unit._replace(serial=self.first) if unit and unit.letter == "C" else unit
+
+    def may(self, unit):
+        return super().may(unit._replace(serial=1) if unit.letter == "C" else unit)
+
+
 class Peer:
     """A calling end, and what it was told that was looked at."""
 
-    def __init__(self, sync):
-        self.end, self.sync = End("I", sync), sync
+    def __init__(self, sync, first=1):
+        self.end, self.sync = Calling(sync, int(first)), sync
         self.words = self.counted = 0  # how many words that it was told were taken, and how many counted
 
     def says(self, words):
@@ -107,9 +123,10 @@ class Talk:
         if words == "end":
             yield from self.comes("-", link)
         elif words.split()[0] in ("arrive", "listen"):
-            self.peers[link] = peer = Peer(words.endswith("sync"))
+            way, *session = words.split()
+            self.peers[link] = peer = Peer(bool(session), *session[1:])
             yield from self.comes("+", link)
-            if words != "listen":
+            if way == "arrive":
                 yield from self.comes("<", link, peer.end.sent)
         else:
             octets = self.peers[link].says(words)
@@ -119,8 +136,8 @@ class Talk:
     def plays(self, text):
         """The lines of a conversation, of which each must tell what stands under it."""
         told, wanted, at = [], [], ""
-        for line in [*text.strip().splitlines(), ""]:
-            line = line.strip()
+        for line in [*(line for line in text.splitlines() if line.strip()), ""]:
+            line = line.partition("#")[0].strip()
             if line.startswith("= "):
                 link, _, words = line[2:].partition(" ")
                 wanted.append((int(link), words))
@@ -168,6 +185,24 @@ def in_turn(first, second, count):
     return " ".join(words)
 
 
+def in_pieces(octets, count):
+    """A link on which octets come in pieces of so many, of which each is asked for anew."""
+    words = ["+1"]
+    while octets:
+        piece = octets[: count()]
+        octets = octets[len(piece) :]
+        words.append(f"1<{piece.hex().upper()}")
+    return " ".join(words)
+
+
+def served(lines):
+    """A session, and the conversation of links that share a file."""
+    octets, draw = octets_of_link(lines["session"], 1), random.Random(7)
+    for count in (lambda: len(octets), lambda: 1, lambda: draw.randint(1, 40)):
+        yield f"serve {in_pieces(octets, count)} / lose"
+    yield f"serve {lines['shared'].removeprefix('deliver ')} / lose"
+
+
 def standing_rows():
     """64 links stand, and a 65th and a 66th are shut; where one of them has ended there is room for one."""
     arrivals = " ".join(f"+{link}" for link in range(1, 67))
@@ -189,15 +224,22 @@ def rows():
     yield heading("worked conversations, cut anywhere")
     lines = {name: line_of(text) for name, text in CONVERSATIONS.items()}
     yield from (f"cut {line}" for line in lines.values())
+    yield heading("what is refused beside other parties, dockets and users and in a session, and which refusal of two")
+    yield from map(line_of, REFUSALS.values())
     yield heading("a session that is broken after each of its octets, the same with a check and a recovery, and two that read")
     yield from (f"fronts {lines[name]}" for name in ("session", "recovered", "shared", "read"))
     yield heading("octets that are at fault")
     yield from (f"cut {line_of(text)}" for text in HOSTILE.values())
     yield heading("data of 1,048,576 octets, and of one octet more")
-    associated = "deliver " + Talk().plays(f"1 arrive\n1 A00380010F\n= 1 A10381010F")
-    for start in (f"deliver +1 1<{CR}", associated):
-        most, more = too_long(start)
+    associated = Talk().plays(f"1 arrive\n1 A00380010F\n= 1 A10381010F")
+    for start in (f"+1 1<{CR}", associated):
+        most, more = too_long(f"deliver {start}")
         yield from (most, f"{most} {more}")
+    yield heading("the same octets at fault through serve, and data of one octet more")
+    yield from (f"serve {Talk().plays(text)} / lose" for text in HOSTILE.values())
+    yield from (" ".join(too_long(f"serve {start}")) for start in (f"+1 1<{CR}", associated))
+    yield heading("two conversations through serve, the one whole, octet by octet and in pieces at random")
+    yield from served(lines)
     yield heading("a store that is full: its first record ends at 89, and behind an area that is made before it at 99")
     created = line_of(f"1 arrive\n1 A00380010F\n= 1 A10381010F\n1 AA0C810161A207800528C27B0503\n= 1 AB00")
     yield from (created.replace("deliver", f"deliver limit={limit}") + " / lose" for limit in (89, 88))

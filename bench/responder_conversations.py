@@ -2,7 +2,8 @@
 
 One has a line for each thing that happens, and under it, after `=`, what peers are told:
 
-    1 arrive          a link, whose peer connects; `arrive sync` where it proposes sync in its association
+    1 arrive          a link, whose peer connects; `arrive sync` where it proposes sync in its association, `arrive sync 9` where
+                      its session begins with number 9
     1 listen          a link whose peer sends nothing by itself
     1 A603800161      the peer sends a PDU or a data element, in its own carriage
     1 check           it sends a check; `ack 2` acknowledges a number, `restart 2 BF2700` restarts at one, `pass` passes the token
@@ -16,7 +17,7 @@ One has a line for each thing that happens, and under it, after `=`, what peers 
     = 1 A10381010F    a peer is told a PDU or an element; `check 1`, `ack 1`; `bare` is an abort without a PDU
     = 1 shut          the link is shut
 
-What peers are told was written by hand, by the rules of the profile.
+What stands behind `#` is a note. What peers are told was written by hand, by the rules of the profile.
 """
 
 def strings(sign, first, count):
