@@ -7,7 +7,7 @@ use Rattle.vf_filestore.specs.State.{State}
 use Rattle.vf_filestore.specs.Tables.{tables_of}
 use Rattle.vf_incarnations.specs.Laws.{MayBegin}
 use Rattle.vf_incarnations.specs.Served.{Incarnated}
-use Rattle.vf_responder.specs.Served.{IsThrough, KeepsAnswered, Refuses, ServeCauses, Serves, untold}
+use Rattle.vf_responder.specs.Served.{FullServed, IsThrough, KeepsAnswered, Refuses, ServeCauses, Serves, untold}
 use Rattle.vf_responder.specs.Serving.{IsBegun, Serving}
 use Rattle.vf_responder.specs.declared.error.ServeError.{ServeError}
 use Rattle.vf_responder.specs.declared.error.ServeError.TheVariants.{Respond, LinksFault, NoMemory}
@@ -48,6 +48,8 @@ pub record ServesLinks {D : Type 0} (shown : D → Option (List ℕ)) (may_leave
       → IsBegun tables serving → Serves shown may_leave serving after answer told'
   pub keeps : (left : List ScriptEvent) (image : List ℕ) (tables : Tables) (serving : Serving) → told ≡ Some (untold left) → shown before ≡ Some image → Represents image tables
       → ((image : List ℕ) → may_leave before image → Represents image tables) → IsBegun tables serving → KeepsAnswered may_leave serving after answer told'
+  pub full : (left : List ScriptEvent) (image : List ℕ) (tables : Tables) (serving : Serving) → told ≡ Some (untold left) → shown before ≡ Some image → Represents image tables
+      → IsBegun tables serving → FullServed store_limit serving after answer told'
   pub ends : IfOk answer (λ served. IsThrough turns' through')
   pub incarnates : (left : List ScriptEvent) (image : List ℕ) (state : State) → told ≡ Some (untold left) → shown before ≡ Some image → Represents image (tables_of state)
       → ((image : List ℕ) → may_leave before image → Represents image (tables_of state)) → MayBegin state → Incarnated may_leave state after answer told'

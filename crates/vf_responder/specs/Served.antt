@@ -14,6 +14,7 @@ use Rattle.vf_store.specs.Represented.{Represents}
 use Rattle.vf_tables.specs.declared.tables.Tables.{Tables}
 use Rattle.vf_responder.specs.Along.{RepresentsAlong, RepresentsPast}
 use Rattle.vf_responder.specs.Answers.{at_end, spoken_in}
+use Rattle.vf_responder.specs.Full.{AtFull, IsFullAfter}
 use Rattle.vf_responder.specs.Run.{run, tables_in}
 use Rattle.vf_responder.specs.Serving.{Serving}
 use Rattle.vf_responder.specs.declared.event.Reply.{Reply}
@@ -131,6 +132,24 @@ Refuses image result = refused_in result ≡ refusal image
 -- A GOOD END, also where the links tell nothing: the peers are through, or no event may come any more.
 abbrev pub IsThrough : (turns : ℕ) (through : Bool) → Type 0
 IsThrough turns through = (turns ≡ 0) ⊎ (through ≡ true)
+
+-- A FULL STORE is told at a message of the last event, after the events before it with the ends of links on which a send failed: the
+-- record of what the message changes would end at this place.
+pub record IsFullIn {D : Type 0} (limit : ℕ) (serving : Serving) (disk : D) (traffic : Traffic) (place : ℕ) : Type 0 where
+  pub before : List ScriptEvent
+  pub event : ScriptEvent
+  pub events : traffic.events ≡ before ++ event ∷ []
+  pub full : IsFullAfter limit serving (lived_with before traffic) event disk place
+
+abbrev pub IsFullBy : {D : Type 0} → (limit : ℕ) → Serving → D → Option Traffic → (place : ℕ) → Type 0
+IsFullBy limit serving disk None place = ⊥
+IsFullBy limit serving disk (Some traffic) place = IsFullIn limit serving disk traffic place
+
+abbrev pub FullServed : {D : Type 0} → (limit : ℕ) → Serving → D → Result Served ServeError → Option Traffic → Type 0
+FullServed limit serving disk (Ok served) told = Unit {0}
+FullServed limit serving disk (Err (Respond error)) told = AtFull error (IsFullBy limit serving disk told)
+FullServed limit serving disk (Err LinksFault) told = Unit {0}
+FullServed limit serving disk (Err NoMemory) told = Unit {0}
 
 -- CAUSES. No count rises without a fault of its kind, and none is told without one. That the disk is full comes by both numbers.
 abbrev pub RespondCauses : (limit disk_before disk_after : ℕ) → JournalError → Type 0
