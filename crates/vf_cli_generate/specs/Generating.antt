@@ -15,6 +15,7 @@ use Rattle.vf_journal.specs.declared.error.JournalError.TheVariants.{DiskFault, 
 use Rattle.vf_responder.specs.Served.{RespondCauses}
 use Rattle.vf_responder.specs.Along.{RepresentsAlong}
 use Rattle.vf_responder.specs.Answers.{at_end, spoken_in}
+use Rattle.vf_responder.specs.Full.{IsFullAfter, WhereFull}
 use Rattle.vf_responder.specs.Represents.{Kept, Represents}
 use Rattle.vf_responder.specs.Run.{run, tables_in, trail}
 use Rattle.vf_responder.specs.Serving.{IsBegun, Serving}
@@ -126,6 +127,10 @@ FrontOfFiles number count serving events =
 abbrev pub AlongFront : (List ScriptEvent → Type 0) → Serving → List ℕ → Type 0
 AlongFront front serving image = (events : List ScriptEvent) × front events × RepresentsAlong serving (run events serving) image
 
+-- where a full store is told: in the last event of such a front, at a message whose record would end at this place
+abbrev pub IsFullOf : {D : Type 0} → (List ScriptEvent → Type 0) → (limit : ℕ) → Serving → D → (place : ℕ) → Type 0
+IsFullOf front limit serving disk place = (before : List ScriptEvent) × (event : ScriptEvent) × front (before ++ event ∷ []) × IsFullAfter limit serving before event disk place
+
 -- ---- WHAT A CALL OWES. It has an answer: the files were made, or it is told why not.
 abbrev pub Answer : Type 0
 Answer = Result (Unit {0}) JournalError
@@ -182,6 +187,9 @@ pub record DoesGenerate {D : Type 0} (shown : D → Option (List ℕ)) (may_leav
   pub refuses : (image : List ℕ) → shown before ≡ Some image → RefusesGenerate image answer
   pub makes : (image : List ℕ) (old : Tables) (serving : Serving) → shown before ≡ Some image → ImageRepresents image old → IsBegun old serving
       → MakesWell shown may_leave number count serving after tables answer
+  -- a full store is told at a message
+  pub full : (image : List ℕ) (old : Tables) (serving : Serving) → shown before ≡ Some image → ImageRepresents image old → IsBegun old serving
+      → WhereFull answer (IsFullOf (FrontOfFiles number count serving) store_limit serving after)
   -- at any moment a crash leaves the tables after some number of the answers
   pub any_moment : (image : List ℕ) (old : Tables) (serving : Serving) → shown before ≡ Some image → ImageRepresents image old → ((image : List ℕ) → may_leave before image → ImageRepresents image old)
       → IsBegun old serving → LeavesOnly moment left_since before after (AlongFront (FrontOfFiles number count serving) serving)
@@ -193,10 +201,11 @@ pub record IsCalling (stack : stacks.Kept) (calling : Association) : Type 0 wher
   pub represents : stacks.Represents stack calling
 
 -- Something was done from a state of the run: at any moment a crash leaves the tables after some number of the answers to a front of
--- it, and where it went well, all of it was done.
+-- it; a full store is told at a message of it; and where it went well, all of it was done.
 pub record Goes {D : Type 0} (shown : D → Option (List ℕ)) (may_leave : D → List ℕ → Type 0) (moment : D → ℕ) (left_since : D → ℕ → List ℕ → Type 0)
     (Done : List ScriptEvent → Serving → Type 0) (Front : List ScriptEvent → Type 0) (serving : Serving) (old new : Kept D) (answer : Answer) : Type 0 where
   pub any_moment : LeavesOnly moment left_since old.store.disk new.store.disk (AlongFront Front serving)
+  pub full : WhereFull answer (IsFullOf Front new.store.journal.limit serving new.store.disk)
   pub done : OnOk answer ((events : List ScriptEvent) × (serving' : Serving)
       × (Done events serving' × (serving' ≡ at_end serving (run events serving)) × Represents new serving' × IsRepresented shown may_leave new.store))
 
