@@ -5,7 +5,7 @@ ghost use Rattle.vf_disk.specs.Plans.{sooner};
 ghost use Rattle.vf_disk.specs.Steps.{MakesSteps};
 ghost use Rattle.vf_journal.specs.Answers.{FaultAlone, OpenCauses, is_fault};
 ghost use Rattle.vf_journal.specs.Image.{records_of};
-ghost use Rattle.vf_journal.specs.JournalState.{when_opened};
+ghost use Rattle.vf_journal.specs.JournalState.{IsWithin, when_opened};
 ghost use Rattle.vf_journal.specs.Layout.{new_journal};
 ghost use Rattle.vf_journal.specs.Looking.{IsSyncedAndLookedAt};
 ghost use Rattle.vf_journal.specs.Writes.{Shows, create_steps};
@@ -172,6 +172,13 @@ impl<D: Disk> Store<D> {
             &changes,
         )?;
         Ok(())
+    }
+
+    /// The journal stands within the disk. It does nothing.
+    pub fn lies_within(&self)
+        ensures { IsWithin self.now.journal (D.size self.now.disk) }
+    {
+        let _journal = &self.journal;
     }
 
     /// The disk.
