@@ -50,30 +50,21 @@ where_none_full (Ok done) holds is = tt
 where_none_full (Err error) holds is = subst (λ (e : JournalError). AtFull e holds) (sym is) tt
 
 -- in an event after others
-full_later : {D : Type 0} (Front : List ScriptEvent → Type 0) (limit : ℕ) (serving between : Serving) (events : List ScriptEvent) (disk : D) (place : ℕ) → between ≡ at_end serving (run events serving)
-    → IsFullOf (λ later. Front (events ++ later)) limit between disk place → IsFullOf Front limit serving disk place
-full_later Front limit serving between events disk place is full =
-    let later : List ScriptEvent = full.0 in
-    let at = full.3 in (
-      events ++ later,
-      full.1,
-      subst Front (sym (append_assoc events later (full.1 ∷ []))) full.2,
-      record {
-        now = at.now;
-        store = at.store;
-        reached = runs_on serving between at.now events later is at.reached;
-        on = at.on;
-        within = at.within;
-        full = at.full;
-      },
-    )
+full_later : {D : Type 0} (Front : List ScriptEvent → Type 0) (serving between : Serving) (events : List ScriptEvent) (store : StoreState D) (place : ℕ) → between ≡ at_end serving (run events serving)
+    → IsFullOf (λ later. Front (events ++ later)) between store place → IsFullOf Front serving store place
+full_later Front serving between events store place is full = (
+  events ++ full.0,
+  full.1,
+  subst Front (sym (append_assoc events full.0 (full.1 ∷ []))) full.2,
+  record { now = full.3.now; reached = runs_on serving between full.3.now events full.0 is full.3.reached; full = full.3.full },
+)
 
 -- in the first event
 pub full_now : {D : Type 0} (event : ScriptEvent) (Front : List ScriptEvent → Type 0) (serving : Serving) (store : StoreState D) (answer : Answer) → Front (event ∷ [])
-    → WhereFull answer (λ place. IsFullAt (trail event serving) serving store place) → WhereFull answer (IsFullOf Front store.journal.limit serving store.disk)
+    → WhereFull answer (λ place. IsFullAt (trail event serving) serving store place) → WhereFull answer (IsFullOf Front serving store)
 full_now event Front serving store answer one full =
-    where_full_to answer (λ place. IsFullAt (trail event serving) serving store place) (IsFullOf Front store.journal.limit serving store.disk) full
-    (λ place at. ([], event, one, record { now = serving; store = store; reached = refl; on = refl; within = refl; full = at }))
+    where_full_to answer (λ place. IsFullAt (trail event serving) serving store place) (IsFullOf Front serving store) full
+    (λ place at. ([], event, one, record { now = serving; reached = refl; full = at }))
 
 module _ {D : Type 0} (shown : D → Option (List ℕ)) (may_leave : D → List ℕ → Type 0) (moment : D → ℕ) (left_since : D → ℕ → List ℕ → Type 0) where
   -- no call of the disk was made
@@ -97,7 +88,7 @@ module _ {D : Type 0} (shown : D → Option (List ℕ)) (may_leave : D → List 
       → ((events : List ScriptEvent) → Start events → Front events) → Goes shown may_leave moment left_since Done Front serving old new answer
   goes_by First Done Start Front serving old new answer goes done front = record {
     any_moment = weaker moment left_since old.store.disk new.store.disk (AlongFront Start serving) (AlongFront Front serving) goes.any_moment (λ image along. (along.0, front along.0 along.1, along.2));
-    full = where_full_to answer (IsFullOf Start new.store.journal.limit serving new.store.disk) (IsFullOf Front new.store.journal.limit serving new.store.disk) goes.full
+    full = where_full_to answer (IsFullOf Start serving new.store) (IsFullOf Front serving new.store) goes.full
         (λ place at. (at.0, at.1, front (at.0 ++ at.1 ∷ []) at.2, at.3));
     done = map_ok answer _ _ (λ d. (d.0, d.1, (done d.0 d.1 d.2.0, d.2.1, d.2.2, d.2.3))) goes.done;
   }
@@ -117,8 +108,8 @@ module _ {D : Type 0} (shown : D → Option (List ℕ)) (may_leave : D → List 
         any_moment = joined moment left_since old.store.disk mid.store.disk new.store.disk (AlongFront Start serving) (AlongFront (λ later. Front (events ++ later)) between) (AlongFront Front serving)
             first.any_moment second.any_moment (λ image along. (along.0, front along.0 along.1, along.2))
             (λ image along. (events ++ along.0, along.1, further serving between events along.0 image at.1 along.2));
-        full = where_full_to answer (IsFullOf (λ later. Front (events ++ later)) new.store.journal.limit between new.store.disk) (IsFullOf Front new.store.journal.limit serving new.store.disk) second.full
-            (λ place there. full_later Front new.store.journal.limit serving between events new.store.disk place at.1 there);
+        full = where_full_to answer (IsFullOf (λ later. Front (events ++ later)) between new.store) (IsFullOf Front serving new.store) second.full
+            (λ place there. full_later Front serving between events new.store place at.1 there);
         done = map_ok answer _ _ (λ d. (events ++ d.0, d.1, (d.2.0, runs_on serving between d.1 events d.0 at.1 d.2.1, d.2.2, d.2.3))) second.done;
       }
 
@@ -127,14 +118,14 @@ module _ {D : Type 0} (shown : D → Option (List ℕ)) (may_leave : D → List 
       → Goes shown may_leave moment left_since Done Front serving old new (let answer : Answer = Err error in answer)
   goes_stops First Done Start Front serving old new error goes front = record {
     any_moment = weaker moment left_since old.store.disk new.store.disk (AlongFront Start serving) (AlongFront Front serving) goes.any_moment (λ image along. (along.0, front along.0 along.1, along.2));
-    full = full-to error (IsFullOf Start new.store.journal.limit serving new.store.disk) (IsFullOf Front new.store.journal.limit serving new.store.disk) goes.full
+    full = full-to error (IsFullOf Start serving new.store) (IsFullOf Front serving new.store) goes.full
         (λ place at. (at.0, at.1, front (at.0 ++ at.1 ∷ []) at.2, at.3));
     done = tt;
   }
 
   -- it couldn't go on
   pub goes_no_further : (Done : List ScriptEvent → Serving → Type 0) (Front : List ScriptEvent → Type 0) (serving : Serving) (old new : Kept D) (error : JournalError)
-      → LeavesOnly moment left_since old.store.disk new.store.disk (AlongFront Front serving) → AtFull error (IsFullOf Front new.store.journal.limit serving new.store.disk)
+      → LeavesOnly moment left_since old.store.disk new.store.disk (AlongFront Front serving) → AtFull error (IsFullOf Front serving new.store)
       → Goes shown may_leave moment left_since Done Front serving old new (let answer : Answer = Err error in answer)
   goes_no_further Done Front serving old new error run_on full = record { any_moment = run_on; full = full; done = tt }
 

@@ -129,12 +129,12 @@ module _ {D : Type 0} (shown : D → Option (List ℕ)) (may_leave : D → List 
 
   pub goes_fewer : (number made count : ℕ) (serving : Serving) (old new : Kept D) (error : JournalError) → made ≤ count
       → LeavesOnly moment left_since old.store.disk new.store.disk (AlongFront (FrontOfFiles number made serving) serving)
-      → AtFull error (IsFullOf (FrontOfFiles number made serving) new.store.journal.limit serving new.store.disk)
+      → AtFull error (IsFullOf (FrontOfFiles number made serving) serving new.store)
       → Goes shown may_leave moment left_since (MakesFiles number count serving) (FrontOfFiles number count serving) serving old new (let answer : Answer = Err error in answer)
   goes_fewer number made count serving old new error within run_on full = record {
     any_moment = weaker moment left_since old.store.disk new.store.disk (AlongFront (FrontOfFiles number made serving) serving) (AlongFront (FrontOfFiles number count serving) serving) run_on
         (λ image along. (along.0, (let front = along.1 in (front.0, front.1, front.2, front.3, (omega (arith, front.4.0, within), front.4.1, front.4.2, front.4.3))), along.2));
-    full = full-to error (IsFullOf (FrontOfFiles number made serving) new.store.journal.limit serving new.store.disk) (IsFullOf (FrontOfFiles number count serving) new.store.journal.limit serving new.store.disk) full
+    full = full-to error (IsFullOf (FrontOfFiles number made serving) serving new.store) (IsFullOf (FrontOfFiles number count serving) serving new.store) full
         (λ place at. (at.0, at.1, (let front = at.2 in (front.0, front.1, front.2, front.3, (omega (arith, front.4.0, within), front.4.1, front.4.2, front.4.3))), at.3));
     done = tt;
   }

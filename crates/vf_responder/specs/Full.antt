@@ -5,6 +5,7 @@ use Rattle.vf_elements.specs.declared.message.Message.{Message}
 use Rattle.vf_filestore.specs.Records.{changes_by}
 use Rattle.vf_filestore.specs.State.{StandingParty, party_of}
 use Rattle.vf_filestore.specs.Transition.{answered}
+use Rattle.vf_journal.specs.JournalState.{IsWithin}
 use Rattle.vf_journal.specs.declared.error.JournalError.{JournalError}
 use Rattle.vf_journal.specs.declared.error.JournalError.TheVariants.{NotAStore, Full, DiskFault, NoMemory}
 use Rattle.vf_stack.specs.declared.indication.Indication.{Indication}
@@ -41,14 +42,17 @@ pub record IsFullAt {D : Type 0} (answers : List Answer) (serving : Serving) (st
   pub kept : store.tables ≡ tables_in now
   pub end : place ≡ (placed store.journal store.tables (changes_to moment indication now party message)).end
 
--- AFTER EVENTS that were answered, in the next one. The store is the one of this disk and of this limit.
-pub record IsFullAfter {D : Type 0} (limit : ℕ) (serving : Serving) (before : List ScriptEvent) (event : ScriptEvent) (disk : D) (place : ℕ) : Type 0 where
+-- AFTER EVENTS that were answered, in the next one
+pub record IsFullAfter {D : Type 0} (serving : Serving) (before : List ScriptEvent) (event : ScriptEvent) (store : StoreState D) (place : ℕ) : Type 0 where
   pub now : Serving
-  pub store : StoreState D
   pub reached : now ≡ at_end serving (run before serving)
-  pub on : store.disk ≡ disk
-  pub within : store.journal.limit ≡ limit
   pub full : IsFullAt (trail event now) now store place
+
+-- the store of a disk, with this limit: its journal stands within the disk
+pub record IsStoreOf {D : Type 0} (size : D → ℕ) (limit : ℕ) (disk : D) (store : StoreState D) : Type 0 where
+  pub on : store.disk ≡ disk
+  pub limited : store.journal.limit ≡ limit
+  pub within : IsWithin store.journal (size disk)
 
 -- of an answer that the disk is full
 abbrev pub AtFull : JournalError → (ℕ → Type 0) → Type 0

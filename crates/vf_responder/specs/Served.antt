@@ -11,10 +11,11 @@ use Rattle.vf_journal.specs.Image.{Refusal, refusal}
 use Rattle.vf_journal.specs.declared.error.JournalError.{JournalError}
 use Rattle.vf_journal.specs.declared.error.JournalError.TheVariants as errors
 use Rattle.vf_store.specs.Represented.{Represents}
+use Rattle.vf_store.specs.StoreState.{StoreState}
 use Rattle.vf_tables.specs.declared.tables.Tables.{Tables}
 use Rattle.vf_responder.specs.Along.{RepresentsAlong, RepresentsPast}
 use Rattle.vf_responder.specs.Answers.{at_end, spoken_in}
-use Rattle.vf_responder.specs.Full.{AtFull, IsFullAfter}
+use Rattle.vf_responder.specs.Full.{AtFull, IsFullAfter, IsStoreOf}
 use Rattle.vf_responder.specs.Run.{run, tables_in}
 use Rattle.vf_responder.specs.Serving.{Serving}
 use Rattle.vf_responder.specs.declared.event.Reply.{Reply}
@@ -135,21 +136,25 @@ IsThrough turns through = (turns ≡ 0) ⊎ (through ≡ true)
 
 -- A FULL STORE is told at a message of the last event, after the events before it with the ends of links on which a send failed: the
 -- record of what the message changes would end at this place.
-pub record IsFullIn {D : Type 0} (limit : ℕ) (serving : Serving) (disk : D) (traffic : Traffic) (place : ℕ) : Type 0 where
+pub record IsFullIn {D : Type 0} (serving : Serving) (store : StoreState D) (traffic : Traffic) (place : ℕ) : Type 0 where
   pub before : List ScriptEvent
   pub event : ScriptEvent
   pub events : traffic.events ≡ before ++ event ∷ []
-  pub full : IsFullAfter limit serving (lived_with before traffic) event disk place
+  pub full : IsFullAfter serving (lived_with before traffic) event store place
 
-abbrev pub IsFullBy : {D : Type 0} → (limit : ℕ) → Serving → D → Option Traffic → (place : ℕ) → Type 0
-IsFullBy limit serving disk None place = ⊥
-IsFullBy limit serving disk (Some traffic) place = IsFullIn limit serving disk traffic place
+abbrev pub IsFullBy : {D : Type 0} → Serving → StoreState D → Option Traffic → (place : ℕ) → Type 0
+IsFullBy serving store None place = ⊥
+IsFullBy serving store (Some traffic) place = IsFullIn serving store traffic place
 
-abbrev pub FullServed : {D : Type 0} → (limit : ℕ) → Serving → D → Result Served ServeError → Option Traffic → Type 0
-FullServed limit serving disk (Ok served) told = Unit {0}
-FullServed limit serving disk (Err (Respond error)) told = AtFull error (IsFullBy limit serving disk told)
-FullServed limit serving disk (Err LinksFault) told = Unit {0}
-FullServed limit serving disk (Err NoMemory) told = Unit {0}
+-- in the store of the disk that is left
+abbrev pub IsFullOn : {D : Type 0} → (size : D → ℕ) → (limit : ℕ) → Serving → D → Option Traffic → (place : ℕ) → Type 0
+IsFullOn {D} size limit serving disk told place = (store : StoreState D) × IsStoreOf size limit disk store × IsFullBy serving store told place
+
+abbrev pub WhereServedFull : Result Served ServeError → (ℕ → Type 0) → Type 0
+WhereServedFull (Ok served) holds = Unit {0}
+WhereServedFull (Err (Respond error)) holds = AtFull error holds
+WhereServedFull (Err LinksFault) holds = Unit {0}
+WhereServedFull (Err NoMemory) holds = Unit {0}
 
 -- CAUSES. No count rises without a fault of its kind, and none is told without one. That the disk is full comes by both numbers.
 abbrev pub RespondCauses : (limit disk_before disk_after : ℕ) → JournalError → Type 0

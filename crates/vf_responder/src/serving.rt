@@ -13,7 +13,7 @@ ghost use Rattle.vf_store.specs.StoreState.{IsRepresented};
 ghost use Rattle.vf_base.specs.declared.events.ScriptEvent.TheVariants.{Ended};
 ghost use Rattle.vf_base.specs.declared.events.ScriptEvent.{ScriptEvent};
 ghost use Rattle.vf_disk.specs.Disk.{LeavesOnly};
-ghost use Rattle.vf_responder.specs.Served.{FullServed, IsThrough, KeepsAnswered, Refuses, RepresentsServed, ServeCauses, Serves, counts_of, refused_in, untold};
+ghost use Rattle.vf_responder.specs.Served.{IsFullBy, IsFullOn, IsThrough, KeepsAnswered, Refuses, RepresentsServed, ServeCauses, Serves, WhereServedFull, counts_of, refused_in, untold};
 ghost use Rattle.vf_responder.specs.Serving.{IsBegun, Serving};
 ghost use Rattle.vf_store.specs.Represented.{Represents as ImageRepresents};
 ghost use Rattle.vf_tables.specs.declared.tables.Tables.{Tables as TablesMeant};
@@ -52,7 +52,7 @@ pub fn serve<L: Links, D: Disk>(
         → ImageRepresents image tables → ((image : List ℕ) → D.may_leave disk image → ImageRepresents image tables) → IsBegun tables serving
         → KeepsAnswered D.may_leave serving result.0 result.1 (L.told links.new) }
     ensures full { (left : List ScriptEvent) (image : List ℕ) (tables : TablesMeant) (serving : Serving) → L.told links.old ≡ Some (untold left) → D.shown disk ≡ Some image
-        → ImageRepresents image tables → IsBegun tables serving → FullServed limit serving result.0 result.1 (L.told links.new) }
+        → ImageRepresents image tables → IsBegun tables serving → WhereServedFull result.1 (IsFullOn D.size limit serving result.0 (L.told links.new)) }
     ensures refuses { (image : List ℕ) → D.shown disk ≡ Some image → Refuses image result.1 }
     ensures ends { IfOk result.1 (λ served. IsThrough (L.turns links.new) (L.through links.new)) }
     ensures causes { ServeCauses limit (D.fault_count disk) (D.fault_count result.0) (L.fault_count links.old) (L.fault_count links.new) result.1 }
@@ -61,6 +61,7 @@ pub fn serve<L: Links, D: Disk>(
         Ok(responder) => {
             let mut responder = responder;
             let served = serve_all(alloc, links, &mut responder);
+            responder.lies_within();
             (responder.close(), served)
         }
         Err((disk, error)) => (disk, Err(ServeError::Respond(error))),
@@ -81,7 +82,8 @@ fn serve_all<L: Links, D: Disk>(
     ensures keeps { (left : List ScriptEvent) (serving : Serving) → L.told links.old ≡ Some (untold left) → Represents responder.old serving → serving.filestore.parties ≡ []
         → IsRepresented D.shown D.may_leave responder.old.store → KeepsAnswered D.may_leave serving responder.new.store.disk result (L.told links.new) }
     ensures full { (left : List ScriptEvent) (serving : Serving) → L.told links.old ≡ Some (untold left) → Represents responder.old serving → serving.filestore.parties ≡ []
-        → FullServed responder.old.store.journal.limit serving responder.new.store.disk result (L.told links.new) }
+        → WhereServedFull result (IsFullBy serving responder.new.store (L.told links.new)) }
+    ensures limit { responder.new.store.journal.limit ≡ responder.old.store.journal.limit }
     ensures refuses { refused_in result ≡ None }
     ensures ends { IfOk result (λ served. IsThrough (L.turns links.new) (L.through links.new)) }
     ensures causes { ServeCauses responder.old.store.journal.limit (D.fault_count responder.old.store.disk) (D.fault_count responder.new.store.disk) (L.fault_count links.old) (L.fault_count links.new) result }

@@ -1,7 +1,8 @@
-use Rattle.std.proofs.Common.{ℕ, sym, subst}
+use Rattle.std.proofs.Common.{◌∙◌, refl, sym, subst}
 use Rattle.vf_disk.specs.Disk.{LeavesOnly}
-use Rattle.vf_responder.proofs.Serves.{not_opened, not_opened_kept, opened_along, opens_full}
-use Rattle.vf_responder.specs.Served.{FullServed, KeepsAnswered, RepresentsServed, Serves}
+use Rattle.vf_responder.proofs.Serves.{full_left, not_opened, not_opened_kept, opened_along, opens_full}
+use Rattle.vf_responder.specs.Served.{IsFullOn, KeepsAnswered, RepresentsServed, Serves, WhereServedFull}
+use Rattle.vf_responder.specs.Full.{IsStoreOf}
 use Rattle.vf_responder.proofs.serving.serve.Goals as goal
 
 pub returns-in-Ok-clause-serves : goal.returns-in-Ok-clause-serves
@@ -36,10 +37,12 @@ returns-in-Err-clause-serves g c = λ left image tables serving told shows repre
 
 pub returns-in-Ok-clause-full : goal.returns-in-Ok-clause-full
 returns-in-Ok-clause-full g c = λ left image tables serving told shows represents begun.
-    subst (λ disk. FullServed c.args.limit serving disk c.serve_all-served.result (g.L.Links.told c.serve_all-served.new.links)) (sym c.close.ensures)
-    (subst (λ (limit : ℕ). FullServed limit serving c.serve_all-served.new.responder.store.disk c.serve_all-served.result (g.L.Links.told c.serve_all-served.new.links)) c.in-Ok.ensures.limit
+    let new = c.serve_all-served.new.responder in
+    let of : IsStoreOf g.D.Disk.size c.args.limit new.store.disk new.store = record { on = refl; limited = c.serve_all-served.ensures.limit ∙ c.in-Ok.ensures.limit; within = c.lies_within.ensures } in
+    subst (λ disk. WhereServedFull c.serve_all-served.result (IsFullOn g.D.Disk.size c.args.limit serving disk (g.L.Links.told c.serve_all-served.new.links))) (sym c.close.ensures)
+    (full_left g.D.Disk.size c.args.limit serving new.store.disk new.store (g.L.Links.told c.serve_all-served.new.links) c.serve_all-served.result of
     (c.serve_all-served.ensures.full left serving told (c.in-Ok.ensures.begins image tables serving shows represents begun) begun.begins.alone))
 
 pub returns-in-Err-clause-full : goal.returns-in-Err-clause-full
 returns-in-Err-clause-full g c = λ left image tables serving told shows represents begun.
-    opens_full c.args.limit serving c.in-Err.disk (g.L.Links.told c.args.links.now) (g.D.Disk.fault_count c.args.disk) (g.D.Disk.fault_count c.in-Err.disk) c.in-Err.error c.in-Err.ensures.causes
+    opens_full (IsFullOn g.D.Disk.size c.args.limit serving c.in-Err.disk (g.L.Links.told c.args.links.now)) (g.D.Disk.fault_count c.args.disk) (g.D.Disk.fault_count c.in-Err.disk) c.in-Err.error c.in-Err.ensures.causes

@@ -23,7 +23,7 @@ pub returns-in-Err-clause-arrives : goal.returns-in-Err-clause-arrives
 returns-in-Err-clause-arrives g c = λ serving represents stands.
     goes_no_further g.D.Disk.shown g.D.Disk.may_leave g.D.Disk.moment g.D.Disk.left_since (λ events serving'. Unit {0}) (ArrivalFront c.args.link) serving c.args.responder.now c.args.responder.now c.in-Err.error
     (stays g.D.Disk.shown g.D.Disk.may_leave g.D.Disk.moment g.D.Disk.left_since g.met.D.Disk.only_now (ArrivalFront c.args.link) serving c.args.responder.now (inl refl) represents stands)
-    (subst (λ (e : JournalError). AtFull e (IsFullOf (ArrivalFront c.args.link) c.args.responder.now.store.journal.limit serving c.args.responder.now.store.disk)) (sym c.in-Err.ensures.cause) tt)
+    (subst (λ (e : JournalError). AtFull e (IsFullOf (ArrivalFront c.args.link) serving c.args.responder.now.store)) (sym c.in-Err.ensures.cause) tt)
 
 pub returns-in-Err-come-clause-arrives : goal.returns-in-Err-come-clause-arrives
 returns-in-Err-come-clause-arrives g c = λ serving represents stands.
