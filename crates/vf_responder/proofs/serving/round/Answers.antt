@@ -31,9 +31,9 @@ returns-clause-round g c = λ meant traffic serving event told represents fresh.
     (c.in_ok-answer.ensures.represented serving represents) c.end_all.ensures.represented (c.answer.ensures.any_moment meant event serving represents) c.end_all.ensures.any_moment
 
 pub returns-in_err-answer-clause-full : goal.returns-in_err-answer-clause-full
-returns-in_err-answer-clause-full g c = λ meant event.
+returns-in_err-answer-clause-full g c = λ meant event serving represents.
     let p = err_from_is_err_and c.from_residual.result c.from_residual.ensures.1 in
-    rw (p.1, p.2) (c.in_err-answer.ensures.full meant event)
+    rw (p.1, p.2) (c.in_err-answer.ensures.full meant event serving represents)
 
 pub returns-in_err-lost-clause-full : goal.returns-in_err-lost-clause-full
 returns-in_err-lost-clause-full g c = λ meant event serving represents.

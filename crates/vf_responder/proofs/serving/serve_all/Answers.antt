@@ -141,3 +141,6 @@ returns-in_err-round-clause-full g c = λ left serving told represents none.
     subst (λ (result : Result Served ServeError). WhereServedFull result (IsFullBy serving c.round.new.responder.store (g.L.Links.told c.round.new.links))) (sym same)
     (stops_full g.D.Disk.shown g.D.Disk.may_leave g.D.Disk.moment g.D.Disk.left_since g.met.D.Disk.only_now serving c.args.responder.now c.events.responder (g.L.Links.told c.events.links) (g.L.Links.last_link c.events.links) c.events.served served (g.L.Links.told c.next_event.new.links) c.in-Some.event c.as_slice.result.now (g.L.Links.last_link c.next_event.new.links) came c.round.new.responder (g.L.Links.told c.round.new.links) error c.in_err-round.ensures.round
     (c.in_err-round.ensures.full came.meant came.is served.now served.represents))
+
+pub returns-in_err-round-clause-limit : goal.returns-in_err-round-clause-limit
+returns-in_err-round-clause-limit g c = c.in_err-round.ensures.limit ∙ c.events.invariant.limit
