@@ -27,12 +27,12 @@ returns-then-not-is_kept-clause-prints g c =
 pub returns-in-Ok-clause-prints : goal.returns-in-Ok-clause-prints
 returns-in-Ok-clause-prints g c =
     let old = g.O.Sink.taken c.args.out.now in
-    let new = g.O.Sink.taken c.print-status.new.out in
+    let new = g.O.Sink.taken c.print-status-in-Ok.new.out in
     let end = end_of_drop c.args.kept c.args.store.journal c.args.store.tables in
     let stands : true ≡ stands_in c.args.store.tables (drop_of c.args.kept) = c.if-not-is_kept.ensures ∙ ap (λ (t : Tables). stands_in t (drop_of c.args.kept)) c.tables.ensures in
-    subst (λ (b : Bool). Prints (4 ∷ 5 ∷ 9 ∷ []) (printed_by_drop b end) c.print-status.result old new) stands
-    (subst (λ (printed : Printed). Prints (4 ∷ 5 ∷ 9 ∷ []) printed c.print-status.result old new) (sym (dropped_within end c.in-Ok.ensures.within))
-    (all_printed dropped_line 0 c.print-status.result old new c.dropped_text.result.now c.dropped_text.ensures c.print-status.ensures.prints))
+    subst (λ (b : Bool). Prints (4 ∷ 5 ∷ 9 ∷ []) (printed_by_drop b end) c.print-status-in-Ok.result old new) stands
+    (subst (λ (printed : Printed). Prints (4 ∷ 5 ∷ 9 ∷ []) printed c.print-status-in-Ok.result old new) (sym (dropped_within end c.in-Ok.ensures.within))
+    (all_printed dropped_line 0 c.print-status-in-Ok.result old new c.dropped_text.result.now c.dropped_text.ensures c.print-status-in-Ok.ensures.prints))
 
 pub returns-in-Err-clause-prints : goal.returns-in-Err-clause-prints
 returns-in-Err-clause-prints g c =
