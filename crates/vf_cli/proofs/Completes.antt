@@ -1,5 +1,5 @@
 -- A command that no fault of the outside keeps from its end has its own status, or that of want of memory.
-use Rattle.std.proofs.Common.{◌≡◌, inl, inr, ⊎_elim, ℕ, Bool, true, false, not, ◌&&◌, List, [], ◌∷◌, nat_eq, Option, Some, None, Result, Ok, Err, arith, refl, subst, sym, ◌∙◌}
+use Rattle.std.proofs.Common.{◌≡◌, inl, inr, ⊎_elim, ℕ, Bool, true, false, not, ◌&&◌, List, [], ◌∷◌, nat_eq, nat_lt, if◌then◌else◌, Option, Some, None, Result, Ok, Err, arith, refl, subst, sym, ◌∙◌}
 use Rattle.std.proofs.lemmas.Bool.Decides.{nat_tests}
 use Rattle.vf_attr.specs.declared.file.File.{File}
 use Rattle.vf_cli.specs.Ftam.{drop_statuses, generate_statuses, list_status, serve_statuses, task_statuses}
@@ -13,17 +13,19 @@ use Rattle.vf_initiator.specs.declared.doing.TaskError.{TaskError}
 use Rattle.vf_initiator.specs.declared.doing.TaskError.TheVariants.{Refused, PeerFault, PeerAbort, OutOfPlace, Budget}
 use Rattle.vf_initiator.specs.declared.plan.Report.{Report}
 use Rattle.vf_journal.specs.Image.{Refusal, refusal}
+use Rattle.vf_journal.specs.JournalState.{JournalState}
 use Rattle.vf_journal.specs.declared.error.JournalError.{JournalError}
 use Rattle.vf_journal.specs.declared.error.JournalError.TheVariants as errors
 use Rattle.vf_responder.specs.Served.{Refuses}
 use Rattle.vf_responder.specs.declared.error.ServeError.{ServeError}
 use Rattle.vf_responder.specs.declared.error.ServeError.TheVariants.{Respond, LinksFault, NoMemory}
 use Rattle.vf_responder.specs.declared.serving.Served.{Served}
-use Rattle.vf_store_commands.specs.ErrorLines.{no_store_line}
-use Rattle.vf_store_commands.specs.Dropping.{EndsDrop, PrintsDropOf, PrintsDropped, drop_of, dropped_line, unknown_line}
+use Rattle.vf_store_commands.specs.ErrorLines.{full_line, no_store_line}
+use Rattle.vf_store_commands.specs.Dropping.{EndsDrop, drop_of, dropped_line, end_of_drop, printed_by_drop, printed_of_drop, unknown_line}
 use Rattle.vf_store_commands.specs.Listing.{EndsList, PrintsOpened, file_lines}
 use Rattle.vf_store_commands.specs.Making.{EndsInit}
 use Rattle.vf_store_commands.specs.declared.dropping.KeptEntry.{KeptEntry}
+use Rattle.vf_store_commands.specs.declared.limits.TheConstants.{STORE_LIMIT}
 use Rattle.vf_tables.specs.Fitting.{stands_in}
 use Rattle.vf_tables.specs.declared.tables.Tables.{Tables}
 use Rattle.vf_transact.specs.Transaction.{Answer, DiskByCause, IsRefused, RefusesBy}
@@ -138,19 +140,25 @@ module _ (status : ℕ) (three : status ≡ 3 → ⊥) (four : status ≡ 4 → 
   no_memory : IsOneOf (9 ∷ []) status → IsOneOf (drop_statuses None) status
   no_memory nine = ⊎_elim (λ e. inr (inr (inl e))) (λ none. absurd none) nine
 
-  dropped_ends : (stands : Bool) (old new : Option (List ℕ)) → PrintsDropped stands status old new → IsOneOf (drop_statuses None) status
-  dropped_ends false old new prints =
-      ⊎_elim (λ e. inr (inl e)) no_memory (ends status three four five (4 ∷ 5 ∷ 9 ∷ []) (record { octets = unknown_line; status = 1 }) old new (λ is. inr is) prints)
-  dropped_ends true old new prints =
-      ⊎_elim
-      (λ dropped. ⊎_elim (λ e. inl e) no_memory (ends status three four five (4 ∷ 5 ∷ 9 ∷ []) (record { octets = dropped_line; status = 0 }) old new (λ is. inr is) dropped))
-      (λ full. ⊎_elim (λ e. inr (inr (inr (inl e)))) no_memory (or_nine status four five _ old new full.2)) prints
+  -- by whether the record of the drop would end past the limit
+  limited_ends : (past : Bool) (end : ℕ) (old new : Option (List ℕ))
+      → Prints (4 ∷ 5 ∷ 9 ∷ []) (if past then (let full : Printed = record { octets = full_line end STORE_LIMIT; status = 12 } in full) else record { octets = dropped_line; status = 0 }) status old new
+      → IsOneOf (drop_statuses None) status
+  limited_ends true end old new prints =
+      ⊎_elim (λ e. inr (inr (inr (inl e)))) no_memory (ends status three four five (4 ∷ 5 ∷ 9 ∷ []) (record { octets = full_line end STORE_LIMIT; status = 12 }) old new (λ is. inr is) prints)
+  limited_ends false end old new prints =
+      ⊎_elim (λ e. inl e) no_memory (ends status three four five (4 ∷ 5 ∷ 9 ∷ []) (record { octets = dropped_line; status = 0 }) old new (λ is. inr is) prints)
 
-  pub drop_ends : (refused : Option Refusal) (kept : KeptEntry) (tables : Tables) (old new : Option (List ℕ)) → PrintsDropOf refused kept tables status old new
-      → IsOneOf (drop_statuses refused) status
-  drop_ends (Some refused) kept tables old new prints =
+  dropped_ends : (stands : Bool) (end : ℕ) (old new : Option (List ℕ)) → Prints (4 ∷ 5 ∷ 9 ∷ []) (printed_by_drop stands end) status old new → IsOneOf (drop_statuses None) status
+  dropped_ends false end old new prints =
+      ⊎_elim (λ e. inr (inl e)) no_memory (ends status three four five (4 ∷ 5 ∷ 9 ∷ []) (record { octets = unknown_line; status = 1 }) old new (λ is. inr is) prints)
+  dropped_ends true end old new prints = limited_ends (nat_lt STORE_LIMIT end) end old new prints
+
+  pub drop_ends : (refused : Option Refusal) (kept : KeptEntry) (journal : JournalState) (tables : Tables) (old new : Option (List ℕ))
+      → Prints (4 ∷ 5 ∷ 9 ∷ []) (printed_of_drop refused kept journal tables) status old new → IsOneOf (drop_statuses refused) status
+  drop_ends (Some refused) kept journal tables old new prints =
       ends status three four five (4 ∷ 5 ∷ 9 ∷ []) (record { octets = no_store_line refused.place; status = 8 }) old new (λ is. inr is) prints
-  drop_ends None kept tables old new prints = dropped_ends (stands_in tables (drop_of kept)) old new prints
+  drop_ends None kept journal tables old new prints = dropped_ends (stands_in tables (drop_of kept)) (end_of_drop kept journal tables) old new prints
 
 -- the statuses of `generate`
 module _ (status : ℕ) (four : status ≡ 4 → ⊥) (five : status ≡ 5 → ⊥) where

@@ -80,9 +80,9 @@ DropsWords shown may_leave moment left_since kept before after status taken take
     LacksWords before after status taken taken' ⊎ DropsKept shown may_leave moment left_since kept before after status taken taken'
 
 -- The files that words ask for were made, or it is told why not.
-abbrev pub MakesDrawn : {D : Type 0} → (D → Option (List ℕ)) → (D → List ℕ → Type 0) → (D → ℕ) → (D → ℕ → List ℕ → Type 0) → Drawn → (before after : D) → (disk_faults disk_faults' : ℕ) → ℕ → (taken taken' : Option (List ℕ)) → Type 0
-MakesDrawn shown may_leave moment left_since drawn before after disk_faults disk_faults' status taken taken' =
-    DoesGenerate shown may_leave moment left_since drawn.number drawn.count before after disk_faults disk_faults' status taken taken'
+abbrev pub MakesDrawn : {D : Type 0} → (D → Option (List ℕ)) → (D → ℕ) → (D → List ℕ → Type 0) → (D → ℕ) → (D → ℕ → List ℕ → Type 0) → Drawn → (before after : D) → (disk_faults disk_faults' : ℕ) → ℕ → (taken taken' : Option (List ℕ)) → Type 0
+MakesDrawn shown size may_leave moment left_since drawn before after disk_faults disk_faults' status taken taken' =
+    DoesGenerate shown size may_leave moment left_since drawn.number drawn.count before after disk_faults disk_faults' status taken taken'
 
 -- STATUSES. The statuses of a command where neither the disk nor the input or the output fails, for a disk of these octets and
 -- for its input: the one that it comes to, and 9 where memory is wanting. Of `serve` the links may fail, and the store may come

@@ -79,7 +79,7 @@ pub fn ftam<L: Links, D: Disk, C: Dial, I: Source, O: Sink>(
     ensures drops { command_of (map string_bytes words.now.items) ≡ Some Command.DropKept → (kept : KeptEntryMeant) → kept_in (map string_bytes words.now.items) ≡ Some kept
         → DropsWords D.shown D.may_leave D.moment D.left_since kept disk result.0 result.1 (O.taken out.old) (O.taken out.new) }
     ensures serves { command_of (map string_bytes words.now.items) ≡ Some Command.Serve
-        → ServesLinks D.shown D.may_leave disk result.0 (D.fault_count disk) (D.fault_count result.0) (L.told links.old) (L.told links.new) (L.fault_count links.old) (L.fault_count links.new)
+        → ServesLinks D.shown D.size D.may_leave disk result.0 (D.fault_count disk) (D.fault_count result.0) (L.told links.old) (L.told links.new) (L.fault_count links.old) (L.fault_count links.new)
         (L.turns links.new) (L.through links.new) result.1 (O.taken out.old) (O.taken out.new) }
     ensures serve_any_moment { command_of (map string_bytes words.now.items) ≡ Some Command.Serve → (left : List ScriptEvent) (image : List ℕ) (tables : TablesMeant) (serving : Serving)
         → L.told links.old ≡ Some (untold left) → D.shown disk ≡ Some image → Represents image tables → ((image : List ℕ) → D.may_leave disk image → Represents image tables)
@@ -104,7 +104,7 @@ pub fn ftam<L: Links, D: Disk, C: Dial, I: Source, O: Sink>(
     ensures lost_cause { result.1 ≡ 6 → (uses_dial (command_of (map string_bytes words.now.items)) ≡ true)
         × ((plan : PlanWordsMeant) → task_in (map string_bytes words.now.items) ≡ Some plan → HasRisenBy (connections_of plan) (C.lost_count dial.old) (C.lost_count dial.new)) }
     ensures generates { command_of (map string_bytes words.now.items) ≡ Some Command.Generate → (drawn : DrawnMeant) → drawn_in (map string_bytes words.now.items) ≡ Some drawn
-        → MakesDrawn D.shown D.may_leave D.moment D.left_since drawn disk result.0 (D.fault_count disk) (D.fault_count result.0) result.1 (O.taken out.old) (O.taken out.new) }
+        → MakesDrawn D.shown D.size D.may_leave D.moment D.left_since drawn disk result.0 (D.fault_count disk) (D.fault_count result.0) result.1 (O.taken out.old) (O.taken out.new) }
 {
     match parse(words) {
         Some(Command::Dialogue) => {
@@ -185,7 +185,7 @@ fn drop_named<D: Disk, O: Sink>(alloc: Global, words: &Vec<String>, disk: D, out
 /// Makes the files that the words ask for.
 fn draw<D: Disk, O: Sink>(alloc: Global, words: &Vec<String>, disk: D, out: &mut O) -> (D, u8)
     ensures draws { (drawn : DrawnMeant) → drawn_in (map string_bytes words.now.items) ≡ Some drawn
-        → MakesDrawn D.shown D.may_leave D.moment D.left_since drawn disk result.0 (D.fault_count disk) (D.fault_count result.0) result.1 (O.taken out.old) (O.taken out.new) }
+        → MakesDrawn D.shown D.size D.may_leave D.moment D.left_since drawn disk result.0 (D.fault_count disk) (D.fault_count result.0) result.1 (O.taken out.old) (O.taken out.new) }
     ensures ends { EndsGenerate result.1 }
     ensures output_cause { result.1 ≡ 4 → HasRisen (O.fault_count out.old) (O.fault_count out.new) }
     ensures disk_cause { result.1 ≡ 5 → HasRisen (D.fault_count disk) (D.fault_count result.0) }

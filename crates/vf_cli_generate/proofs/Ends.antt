@@ -5,6 +5,7 @@ use Rattle.vf_journal.specs.Answers.{OpenCauses}
 use Rattle.vf_journal.specs.Image.{Refusal, refusal}
 use Rattle.vf_journal.specs.declared.error.JournalError.{JournalError}
 use Rattle.vf_journal.specs.declared.error.JournalError.TheVariants as errors
+use Rattle.vf_responder.specs.Full.{AtFull}
 use Rattle.vf_responder.specs.Represents.{AnswerCauses}
 use Rattle.vf_responder.specs.Served.{RespondCauses}
 use Rattle.vf_store.specs.Answers.{OpenAnswers}
@@ -22,6 +23,13 @@ opens_by limit before after errors.DiskFault cause = cause
 opens_by limit before after errors.NoMemory cause = cause
 opens_by limit before after (errors.NotAStore place found expected) cause = cause
 opens_by limit before after (errors.Full length bound) cause = absurd cause
+
+-- opening is never full
+pub opens_full : (holds : ℕ → Type 0) (before after : ℕ) (error : JournalError) → OpenCauses {T = Unit {0}} before after (Err error) → AtFull error holds
+opens_full holds before after errors.DiskFault cause = tt
+opens_full holds before after errors.NoMemory cause = tt
+opens_full holds before after (errors.NotAStore place found expected) cause = tt
+opens_full holds before after (errors.Full length bound) cause = absurd cause
 
 pub opening_refuses : (image : List ℕ) (error : JournalError) → OpenAnswers {T = Unit {0}} image (Err error) → RefusesGenerate image (let answer : Answer = Err error in answer)
 opening_refuses image errors.DiskFault answers = tt

@@ -7,6 +7,8 @@ use Rattle.vf_disk.specs.Disk.{LeavesOnly}
 use Rattle.vf_journal.specs.declared.error.JournalError.{JournalError}
 use Rattle.vf_responder.specs.Along.{RepresentsAlong}
 use Rattle.vf_responder.specs.Answers.{at_end}
+use Rattle.vf_responder.proofs.FullLemmas.{full-to}
+use Rattle.vf_responder.specs.Full.{AtFull, IsFullAt, WhereFull}
 use Rattle.vf_responder.specs.Represents.{Kept, Represents}
 use Rattle.vf_responder.specs.Run.{trail}
 use Rattle.vf_responder.specs.Serving.{Serving}
@@ -21,7 +23,7 @@ use Rattle.vf_tpkt.specs.Tpdu.{packet, request}
 use Rattle.vf_cli_generate.proofs.Going.{map_ok, goes_by, goes_event, goes_nowhere, goes_then}
 use Rattle.vf_cli_generate.proofs.Saying.{front_none}
 use Rattle.vf_cli_generate.specs.Drawing.{after_files, contents_after, name_of}
-use Rattle.vf_cli_generate.specs.Generating.{AlongFront, Answer, ArrivalFront, Both, FrontOfFile, FrontOfFiles, Goes, HasCalled, HasSaid, IsCalling, MakesFile, MakesFiles, MakesWell, SaysFront, arrivals, arrived, coming, good}
+use Rattle.vf_cli_generate.specs.Generating.{AlongFront, Answer, ArrivalFront, Both, FrontOfFile, FrontOfFiles, Goes, HasCalled, HasSaid, IsCalling, IsFullOf, MakesFile, MakesFiles, MakesWell, SaysFront, arrivals, arrived, coming, good}
 use Rattle.vf_cli_generate.specs.Requests.{requests_for}
 
 -- the link has arrived, and nothing has come on it
@@ -35,23 +37,24 @@ arrival_is_front number link serving events front =
 
 module _ {D : Type 0} (shown : D → Option (List ℕ)) (may_leave : D → List ℕ → Type 0) (moment : D → ℕ) (left_since : D → ℕ → List ℕ → Type 0) where
   pub goes_come : (link : ℕ) (serving : Serving) (old new : Kept D) (answer : Answer) → LeavesOnly moment left_since old.store.disk new.store.disk (RepresentsAlong serving (trail (Arrived link) serving))
-      → OnOk answer (Represents new (at_end serving (trail (Arrived link) serving))) → OnOk answer (IsRepresented shown may_leave new.store)
+      → WhereFull answer (λ place. IsFullAt (trail (Arrived link) serving) serving new.store place) → OnOk answer (Represents new (at_end serving (trail (Arrived link) serving))) → OnOk answer (IsRepresented shown may_leave new.store)
       → Goes shown may_leave moment left_since (HasCome link serving) (ArrivalFront link) serving old new answer
-  goes_come link serving old new answer run_on represents stands =
+  goes_come link serving old new answer run_on full represents stands =
       goes_event shown may_leave moment left_since (Arrived link) (HasCome link serving) (ArrivalFront link) serving old new answer (map_ok answer _ _ (λ made. (refl, refl)) represents) (inr (inl refl))
-      run_on represents stands
+      run_on full represents stands
 
   pub goes_called : (link : ℕ) (serving : Serving) (old mid new : Kept D) (stack : stacks.Kept) (answer : Answer)
       → Goes shown may_leave moment left_since (HasCome link serving) (ArrivalFront link) serving old mid good
       → (let come = at_end serving (trail (Arrived link) serving) in
       LeavesOnly moment left_since mid.store.disk new.store.disk (RepresentsAlong come (trail (coming link (packet request)) come)))
+      → (let come = at_end serving (trail (Arrived link) serving) in WhereFull answer (λ place. IsFullAt (trail (coming link (packet request)) come) come new.store place))
       → OnOk answer (Represents new (arrived link serving).serving) → OnOk answer (IsCalling stack (arrived link serving).calling) → OnOk answer (IsRepresented shown may_leave new.store)
       → Goes shown may_leave moment left_since (HasCalled link serving stack) (ArrivalFront link) serving old new answer
-  goes_called link serving old mid new stack answer first run_on represents is stands =
+  goes_called link serving old mid new stack answer first run_on full represents is stands =
       let come : Serving = at_end serving (trail (Arrived link) serving) in
       let there : Goes shown may_leave moment left_since (λ later serving'. HasCalled link serving stack (Arrived link ∷ later) serving') (λ later. ArrivalFront link (Arrived link ∷ later)) come mid new answer =
       goes_event shown may_leave moment left_since (coming link (packet request)) (λ later serving'. HasCalled link serving stack (Arrived link ∷ later) serving')
-      (λ later. ArrivalFront link (Arrived link ∷ later)) come mid new answer (map_ok answer _ _ (λ calls. (refl, refl, calls)) is) (inr (inr refl)) run_on represents stands in
+      (λ later. ArrivalFront link (Arrived link ∷ later)) come mid new answer (map_ok answer _ _ (λ calls. (refl, refl, calls)) is) (inr (inr refl)) run_on full represents stands in
       goes_then shown may_leave moment left_since (HasCome link serving) (HasCalled link serving stack) (ArrivalFront link) (ArrivalFront link) serving old mid new answer first
       (λ events between has represented standing.
       subst (λ (e : List ScriptEvent). Goes shown may_leave moment left_since (λ later serving'. HasCalled link serving stack (e ++ later) serving') (λ later. ArrivalFront link (e ++ later)) between mid new answer)
@@ -126,10 +129,13 @@ module _ {D : Type 0} (shown : D → Option (List ℕ)) (may_leave : D → List 
 
   pub goes_fewer : (number made count : ℕ) (serving : Serving) (old new : Kept D) (error : JournalError) → made ≤ count
       → LeavesOnly moment left_since old.store.disk new.store.disk (AlongFront (FrontOfFiles number made serving) serving)
+      → AtFull error (IsFullOf (FrontOfFiles number made serving) serving new.store)
       → Goes shown may_leave moment left_since (MakesFiles number count serving) (FrontOfFiles number count serving) serving old new (let answer : Answer = Err error in answer)
-  goes_fewer number made count serving old new error within run_on = record {
+  goes_fewer number made count serving old new error within run_on full = record {
     any_moment = weaker moment left_since old.store.disk new.store.disk (AlongFront (FrontOfFiles number made serving) serving) (AlongFront (FrontOfFiles number count serving) serving) run_on
         (λ image along. (along.0, (let front = along.1 in (front.0, front.1, front.2, front.3, (omega (arith, front.4.0, within), front.4.1, front.4.2, front.4.3))), along.2));
+    full = full-to error (IsFullOf (FrontOfFiles number made serving) serving new.store) (IsFullOf (FrontOfFiles number count serving) serving new.store) full
+        (λ place at. (at.0, at.1, (let front = at.2 in (front.0, front.1, front.2, front.3, (omega (arith, front.4.0, within), front.4.1, front.4.2, front.4.3))), at.3));
     done = tt;
   }
 

@@ -6,6 +6,7 @@ use Rattle.vf_stack.specs.declared.request.Request.{Request}
 use Rattle.vf_base.specs.declared.errors.NoMemory.{NoMemory}
 use Rattle.vf_disk.specs.Disk.{LeavesOnly}
 use Rattle.vf_responder.specs.Along.{RepresentsAlong}
+use Rattle.vf_responder.specs.Full.{IsFullAt, WhereFull}
 use Rattle.vf_responder.specs.Represents.{Kept, Represents}
 use Rattle.vf_responder.specs.Run.{trail}
 use Rattle.vf_session.specs.declared.units.TokenSide.{TokenSide}
@@ -119,12 +120,12 @@ module _ {D : Type 0} (shown : D → Option (List ℕ)) (may_leave : D → List 
 
   pub goes_sent : (link : ℕ) (request : Request) (both : Both) (old new : Kept D) (stack : stacks.Kept) (answer : Answer) → May Initiator false both.calling request
       → LeavesOnly moment left_since old.store.disk new.store.disk (RepresentsAlong both.serving (trail (requested link request both.calling) both.serving))
-      → OnOk answer (Represents new (after_request link request both).serving) → OnOk answer (IsCalling stack (after_request link request both).calling)
+      → WhereFull answer (λ place. IsFullAt (trail (requested link request both.calling) both.serving) both.serving new.store place) → OnOk answer (Represents new (after_request link request both).serving) → OnOk answer (IsCalling stack (after_request link request both).calling)
       → OnOk answer (IsRepresented shown may_leave new.store)
       → Goes shown may_leave moment left_since (HasSaid link (request ∷ []) both stack) (SaysFront link (request ∷ []) both) both.serving old new answer
-  goes_sent link request both old new stack answer may run_on represents is stands =
+  goes_sent link request both old new stack answer may run_on full represents is stands =
       goes_event shown may_leave moment left_since (requested link request both.calling) (HasSaid link (request ∷ []) both stack) (SaysFront link (request ∷ []) both) both.serving old new answer
-      (map_ok answer _ _ (λ calls. ((after_request link request both).calling, (sent_one link request both may, calls))) is) (one_front link request both may) run_on represents stands
+      (map_ok answer _ _ (λ calls. ((after_request link request both).calling, (sent_one link request both may, calls))) is) (one_front link request both may) run_on full represents stands
 
   -- and one more after others
   pub goes_one_more : (link : ℕ) (requests : List Request) (request : Request) (both : Both) (old mid new : Kept D) (stack stack' : stacks.Kept) (answer : Answer)

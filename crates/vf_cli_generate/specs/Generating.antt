@@ -15,6 +15,7 @@ use Rattle.vf_journal.specs.declared.error.JournalError.TheVariants.{DiskFault, 
 use Rattle.vf_responder.specs.Served.{RespondCauses}
 use Rattle.vf_responder.specs.Along.{RepresentsAlong}
 use Rattle.vf_responder.specs.Answers.{at_end, spoken_in}
+use Rattle.vf_responder.specs.Full.{IsFullAfter, IsStoreOf, WhereFull}
 use Rattle.vf_responder.specs.Represents.{Kept, Represents}
 use Rattle.vf_responder.specs.Run.{run, tables_in, trail}
 use Rattle.vf_responder.specs.Serving.{IsBegun, Serving}
@@ -27,7 +28,7 @@ use Rattle.vf_stack.specs.Represents as stacks
 use Rattle.vf_stack.specs.Sending.{May, octets_sent, with_request}
 use Rattle.vf_stack.specs.declared.request.Request.{Request}
 use Rattle.vf_store.specs.Represented.{Represents as ImageRepresents}
-use Rattle.vf_store.specs.StoreState.{IsRepresented}
+use Rattle.vf_store.specs.StoreState.{IsRepresented, StoreState}
 use Rattle.vf_store_commands.specs.ErrorLines.{PrintsError}
 use Rattle.vf_tables.specs.declared.tables.Tables.{Tables}
 use Rattle.vf_tpkt.specs.Tpdu.{packet, request}
@@ -126,6 +127,14 @@ FrontOfFiles number count serving events =
 abbrev pub AlongFront : (List ScriptEvent → Type 0) → Serving → List ℕ → Type 0
 AlongFront front serving image = (events : List ScriptEvent) × front events × RepresentsAlong serving (run events serving) image
 
+-- where a full store is told: in the last event of such a front, at a message whose record would end at this place
+abbrev pub IsFullOf : {D : Type 0} → (List ScriptEvent → Type 0) → Serving → StoreState D → (place : ℕ) → Type 0
+IsFullOf front serving store place = (before : List ScriptEvent) × (event : ScriptEvent) × front (before ++ event ∷ []) × IsFullAfter serving before event store place
+
+-- in the store of the disk that is left
+abbrev pub IsFullOn : {D : Type 0} → (D → ℕ) → (limit : ℕ) → (List ScriptEvent → Type 0) → Serving → D → (place : ℕ) → Type 0
+IsFullOn {D} size limit front serving disk place = (store : StoreState D) × IsStoreOf size limit disk store × IsFullOf front serving store place
+
 -- ---- WHAT A CALL OWES. It has an answer: the files were made, or it is told why not.
 abbrev pub Answer : Type 0
 Answer = Result (Unit {0}) JournalError
@@ -173,7 +182,7 @@ abbrev pub MakesWell : {D : Type 0} → (D → Option (List ℕ)) → (D → Lis
 MakesWell shown may_leave number count serving after tables (Ok done) = Makes shown may_leave number count serving after tables
 MakesWell shown may_leave number count serving after tables (Err error) = Unit {0}
 
-pub record DoesGenerate {D : Type 0} (shown : D → Option (List ℕ)) (may_leave : D → List ℕ → Type 0) (moment : D → ℕ) (left_since : D → ℕ → List ℕ → Type 0) (number count : ℕ) (before after : D)
+pub record DoesGenerate {D : Type 0} (shown : D → Option (List ℕ)) (size : D → ℕ) (may_leave : D → List ℕ → Type 0) (moment : D → ℕ) (left_since : D → ℕ → List ℕ → Type 0) (number count : ℕ) (before after : D)
     (disk_faults disk_faults' : ℕ) (status : ℕ) (taken taken' : Option (List ℕ)) : Type 0 where
   pub answer : Answer
   pub tables : Tables
@@ -182,6 +191,9 @@ pub record DoesGenerate {D : Type 0} (shown : D → Option (List ℕ)) (may_leav
   pub refuses : (image : List ℕ) → shown before ≡ Some image → RefusesGenerate image answer
   pub makes : (image : List ℕ) (old : Tables) (serving : Serving) → shown before ≡ Some image → ImageRepresents image old → IsBegun old serving
       → MakesWell shown may_leave number count serving after tables answer
+  -- a full store is told at a message
+  pub full : (image : List ℕ) (old : Tables) (serving : Serving) → shown before ≡ Some image → ImageRepresents image old → IsBegun old serving
+      → WhereFull answer (IsFullOn size store_limit (FrontOfFiles number count serving) serving after)
   -- at any moment a crash leaves the tables after some number of the answers
   pub any_moment : (image : List ℕ) (old : Tables) (serving : Serving) → shown before ≡ Some image → ImageRepresents image old → ((image : List ℕ) → may_leave before image → ImageRepresents image old)
       → IsBegun old serving → LeavesOnly moment left_since before after (AlongFront (FrontOfFiles number count serving) serving)
@@ -193,10 +205,11 @@ pub record IsCalling (stack : stacks.Kept) (calling : Association) : Type 0 wher
   pub represents : stacks.Represents stack calling
 
 -- Something was done from a state of the run: at any moment a crash leaves the tables after some number of the answers to a front of
--- it, and where it went well, all of it was done.
+-- it; a full store is told at a message of it; and where it went well, all of it was done.
 pub record Goes {D : Type 0} (shown : D → Option (List ℕ)) (may_leave : D → List ℕ → Type 0) (moment : D → ℕ) (left_since : D → ℕ → List ℕ → Type 0)
     (Done : List ScriptEvent → Serving → Type 0) (Front : List ScriptEvent → Type 0) (serving : Serving) (old new : Kept D) (answer : Answer) : Type 0 where
   pub any_moment : LeavesOnly moment left_since old.store.disk new.store.disk (AlongFront Front serving)
+  pub full : WhereFull answer (IsFullOf Front serving new.store)
   pub done : OnOk answer ((events : List ScriptEvent) × (serving' : Serving)
       × (Done events serving' × (serving' ≡ at_end serving (run events serving)) × Represents new serving' × IsRepresented shown may_leave new.store))
 

@@ -122,7 +122,7 @@ pub fn generate<D: Disk, O: Sink>(
     disk: D,
     out: &mut O,
 ) -> (D, u8)
-    ensures does { DoesGenerate D.shown D.may_leave D.moment D.left_since number count disk result.0 (D.fault_count disk) (D.fault_count result.0) result.1 (O.taken out.old) (O.taken out.new) }
+    ensures does { DoesGenerate D.shown D.size D.may_leave D.moment D.left_since number count disk result.0 (D.fault_count disk) (D.fault_count result.0) result.1 (O.taken out.old) (O.taken out.new) }
     ensures ends { EndsGenerate result.1 }
     ensures output_cause { result.1 ≡ 4 → HasRisen (O.fault_count out.old) (O.fault_count out.new) }
     ensures disk_cause { result.1 ≡ 5 → HasRisen (D.fault_count disk) (D.fault_count result.0) }
@@ -131,6 +131,7 @@ pub fn generate<D: Disk, O: Sink>(
         Ok(responder) => {
             let mut responder = responder;
             let answer = make_files(alloc, number, count, &mut responder);
+            responder.lies_within();
             let status = print_made(alloc, answer, responder.tables(), out);
             (responder.close(), status)
         }

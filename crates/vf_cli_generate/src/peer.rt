@@ -3,6 +3,7 @@ ghost use Rattle.std.specs.Prelude.{◌≡◌, ◌∷◌, [], IfErr, IfOk, OnOk}
 ghost use Rattle.vf_base.specs.declared.events.ScriptEvent.TheVariants as events;
 ghost use Rattle.vf_cli_generate.specs.Generating.{Both, Goes, HasArrived, HasSaid, IsCalling, SaysFront, after_event, hears};
 ghost use Rattle.vf_journal.specs.declared.error.JournalError.TheVariants as errors;
+ghost use Rattle.vf_responder.specs.Full.{FullAlong};
 ghost use Rattle.vf_responder.specs.Represents.{AnswerCauses, KeepsAlong, Represents};
 ghost use Rattle.vf_responder.specs.Run.{trail};
 ghost use Rattle.vf_responder.specs.Serving.{Serving};
@@ -84,6 +85,7 @@ impl Peer {
             → OnOk result (IsCalling self.new.stack (after_event (events.Arrived self.old.link) both).calling) }
         ensures represented { (serving : Serving) → Represents responder.old serving → IsRepresented D.shown D.may_leave responder.old.store → OnOk result (IsRepresented D.shown D.may_leave responder.new.store) }
         ensures any_moment { KeepsAlong (trail (events.Arrived self.old.link)) D.shown D.may_leave D.moment D.left_since responder.old responder.new }
+        ensures full { FullAlong (trail (events.Arrived self.old.link)) responder.old responder.new.store result }
         ensures causes { AnswerCauses responder.old.store.journal.limit (D.fault_count responder.old.store.disk) (D.fault_count responder.new.store.disk) result }
         ensures limit { responder.new.store.journal.limit ≡ responder.old.store.journal.limit }
         ensures link { self.new.link ≡ self.old.link }
@@ -105,6 +107,7 @@ impl Peer {
             → OnOk result (IsCalling self.new.stack (after_event (events.Octets self.old.link 0 octets.now) both).calling) }
         ensures represented { (serving : Serving) → Represents responder.old serving → IsRepresented D.shown D.may_leave responder.old.store → OnOk result (IsRepresented D.shown D.may_leave responder.new.store) }
         ensures any_moment { KeepsAlong (trail (events.Octets self.old.link 0 octets.now)) D.shown D.may_leave D.moment D.left_since responder.old responder.new }
+        ensures full { FullAlong (trail (events.Octets self.old.link 0 octets.now)) responder.old responder.new.store result }
         ensures causes { AnswerCauses responder.old.store.journal.limit (D.fault_count responder.old.store.disk) (D.fault_count responder.new.store.disk) result }
         ensures limit { responder.new.store.journal.limit ≡ responder.old.store.journal.limit }
         ensures link { self.new.link ≡ self.old.link }

@@ -7,7 +7,7 @@ use Rattle.vf_filestore.specs.State.{State}
 use Rattle.vf_filestore.specs.Tables.{tables_of}
 use Rattle.vf_incarnations.specs.Laws.{MayBegin}
 use Rattle.vf_incarnations.specs.Served.{Incarnated}
-use Rattle.vf_responder.specs.Served.{IsThrough, KeepsAnswered, Refuses, ServeCauses, Serves, untold}
+use Rattle.vf_responder.specs.Served.{IsFullOn, IsThrough, KeepsAnswered, Refuses, ServeCauses, Serves, WhereServedFull, untold}
 use Rattle.vf_responder.specs.Serving.{IsBegun, Serving}
 use Rattle.vf_responder.specs.declared.error.ServeError.{ServeError}
 use Rattle.vf_responder.specs.declared.error.ServeError.TheVariants.{Respond, LinksFault, NoMemory}
@@ -38,7 +38,7 @@ store_limit = 1073741824
 -- Serving links from the store on a disk has an answer, which is printed, and which the octets of the disk, the counts of
 -- faults and the traffic of the links bear out. From each state that an incarnation may begin with, and whose tables the disk
 -- represents, it was an incarnation.
-pub record ServesLinks {D : Type 0} (shown : D → Option (List ℕ)) (may_leave : D → List ℕ → Type 0) (before after : D) (disk_faults disk_faults' : ℕ)
+pub record ServesLinks {D : Type 0} (shown : D → Option (List ℕ)) (size : D → ℕ) (may_leave : D → List ℕ → Type 0) (before after : D) (disk_faults disk_faults' : ℕ)
     (told told' : Option Traffic) (links_faults links_faults' turns' : ℕ) (through' : Bool) (status : ℕ) (taken taken' : Option (List ℕ)) : Type 0 where
   pub answer : Result Served ServeError
   pub printed : PrintsServed answer status taken taken'
@@ -48,6 +48,8 @@ pub record ServesLinks {D : Type 0} (shown : D → Option (List ℕ)) (may_leave
       → IsBegun tables serving → Serves shown may_leave serving after answer told'
   pub keeps : (left : List ScriptEvent) (image : List ℕ) (tables : Tables) (serving : Serving) → told ≡ Some (untold left) → shown before ≡ Some image → Represents image tables
       → ((image : List ℕ) → may_leave before image → Represents image tables) → IsBegun tables serving → KeepsAnswered may_leave serving after answer told'
+  pub full : (left : List ScriptEvent) (image : List ℕ) (tables : Tables) (serving : Serving) → told ≡ Some (untold left) → shown before ≡ Some image → Represents image tables
+      → IsBegun tables serving → WhereServedFull answer (IsFullOn size store_limit serving after told')
   pub ends : IfOk answer (λ served. IsThrough turns' through')
   pub incarnates : (left : List ScriptEvent) (image : List ℕ) (state : State) → told ≡ Some (untold left) → shown before ≡ Some image → Represents image (tables_of state)
       → ((image : List ℕ) → may_leave before image → Represents image (tables_of state)) → MayBegin state → Incarnated may_leave state after answer told'

@@ -31,7 +31,7 @@ pub fn serve<L: Links, D: Disk, O: Sink>(
     disk: D,
     out: &mut O,
 ) -> (D, u8)
-    ensures serves { ServesLinks D.shown D.may_leave disk result.0 (D.fault_count disk) (D.fault_count result.0) (L.told links.old) (L.told links.new) (L.fault_count links.old) (L.fault_count links.new)
+    ensures serves { ServesLinks D.shown D.size D.may_leave disk result.0 (D.fault_count disk) (D.fault_count result.0) (L.told links.old) (L.told links.new) (L.fault_count links.old) (L.fault_count links.new)
         (L.turns links.new) (L.through links.new) result.1 (O.taken out.old) (O.taken out.new) }
     ensures any_moment { (left : List ScriptEvent) (image : List ℕ) (tables : TablesMeant) (serving : Serving) → L.told links.old ≡ Some (untold left) → D.shown disk ≡ Some image
         → Represents image tables → ((image : List ℕ) → D.may_leave disk image → Represents image tables) → IsBegun tables serving

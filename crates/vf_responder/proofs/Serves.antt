@@ -16,17 +16,19 @@ use Rattle.vf_journal.specs.declared.error.JournalError.TheVariants as errors
 use Rattle.vf_store.proofs.Runs.{represented}
 use Rattle.vf_store.specs.Answers.{OpenAnswers}
 use Rattle.vf_store.specs.Represented.{Represents as ImageRepresents}
-use Rattle.vf_store.specs.StoreState.{IsRepresented}
+use Rattle.vf_store.specs.StoreState.{IsRepresented, StoreState}
 use Rattle.vf_tables.specs.declared.tables.Tables.{Tables}
 use Rattle.vf_responder.proofs.Alongside.{past_all, past_later}
+use Rattle.vf_responder.proofs.FullLemmas.{full-to}
 use Rattle.vf_responder.proofs.Lives.{Lives, RisesBy, are_fresh, lived_more, lived_new, lives_first, lives_on, none_sent_yet, run-append, with_event}
 use Rattle.vf_responder.proofs.Rounds.{leaves_joined, leaves_none}
 use Rattle.vf_responder.specs.Along.{RepresentsAlong, RepresentsPast}
 use Rattle.vf_responder.specs.Answers.{Answer, at_end, spoken_in}
+use Rattle.vf_responder.specs.Full.{IsFullAt, IsStoreOf, WhereFull}
 use Rattle.vf_responder.specs.Represents.{AnswerCauses, Kept, Represents}
 use Rattle.vf_responder.specs.Run.{run, tables_in, trail}
 use Rattle.vf_responder.specs.Sends.{CausesNext, EndsRound, GoesRound, IsFresh, RisesNext, StopsRound, TakesNext, breaks}
-use Rattle.vf_responder.specs.Served.{EndsWell, IsLeft, IsSent, KeepsAnswered, Refuses, RepresentsServed, ServeCauses, Serves, answered, but_last, counts_of, lived, lived_from, lived_with, refused_in, untold}
+use Rattle.vf_responder.specs.Served.{EndsWell, IsFullBy, IsFullIn, IsFullOn, IsLeft, IsSent, KeepsAnswered, Refuses, RepresentsServed, ServeCauses, Serves, WhereServedFull, answered, but_last, counts_of, lived, lived_from, lived_with, refused_in, untold}
 use Rattle.vf_responder.specs.Serving.{IsBegun, Serving}
 use Rattle.vf_responder.specs.declared.error.ServeError.{ServeError}
 use Rattle.vf_responder.specs.declared.error.ServeError.TheVariants.{Respond, LinksFault, NoMemory}
@@ -117,6 +119,26 @@ opens_by limit before after links errors.DiskFault cause = (cause, refl)
 opens_by limit before after links errors.NoMemory cause = (cause, refl)
 opens_by limit before after links (errors.NotAStore place found expected) cause = (cause, refl)
 opens_by limit before after links (errors.Full length bound) cause = absurd cause
+
+-- a full store is told by no failure of the links, and by no opening
+pub fails_full : (holds : ℕ → Type 0) (before after : ℕ) (error : ServeError) → CausesNext before after (Err error) → WhereServedFull (Err error) holds
+fails_full holds before after LinksFault cause = tt
+fails_full holds before after NoMemory cause = tt
+fails_full holds before after (Respond error) cause = absurd cause
+
+pub opens_full : (holds : ℕ → Type 0) (before after : ℕ) (error : JournalError) → OpenCauses {T = Unit {0}} before after (Err error) → WhereServedFull (Err (Respond error)) holds
+opens_full holds before after errors.DiskFault cause = tt
+opens_full holds before after errors.NoMemory cause = tt
+opens_full holds before after (errors.NotAStore place found expected) cause = tt
+opens_full holds before after (errors.Full length bound) cause = absurd cause
+
+-- and of the store of the disk that is left
+pub full_left : {D : Type 0} (size : D → ℕ) (limit : ℕ) (serving : Serving) (disk : D) (store : StoreState D) (told : Option Traffic) (result : Result Served ServeError) → IsStoreOf size limit disk store
+    → WhereServedFull result (IsFullBy serving store told) → WhereServedFull result (IsFullOn size limit serving disk told)
+full_left size limit serving disk store told (Ok served) of full = tt
+full_left size limit serving disk store told (Err LinksFault) of full = tt
+full_left size limit serving disk store told (Err NoMemory) of full = tt
+full_left size limit serving disk store told (Err (Respond error)) of full = full-to error (IsFullBy serving store told) (IsFullOn size limit serving disk told) full (λ place at. (store, of, at))
 
 pub opening_refuses : (image : List ℕ) (error : JournalError) → OpenAnswers {T = Unit {0}} image (Err error) → Refuses image (Err (Respond error))
 opening_refuses image errors.DiskFault answers = tt
@@ -289,6 +311,19 @@ module _ {D : Type 0} (shown : D → Option (List ℕ)) (may_leave : D → List 
           stops_serving =
               serves_at serving new.store.disk (Err (Respond error)) after (with_event came.meant came.rest served.traffic) stopped.told
               (still_sent serving served.traffic came.meant came.rest served.lives.sent) tt
+
+          -- the store was full at a message of this event
+          pub stops_full : WhereFull {T = Unit {0}} (Err error) (λ place. IsFullAt (trail came.meant served.now) served.now new.store place)
+              → WhereServedFull (Err (Respond error)) (IsFullBy serving new.store after)
+          stops_full full =
+              subst (λ (told : Option Traffic). WhereServedFull (Err (Respond error)) (IsFullBy serving new.store told)) (sym stopped.told)
+              (full-to error (λ place. IsFullAt (trail came.meant served.now) served.now new.store place) (IsFullIn serving new.store (with_event came.meant came.rest served.traffic)) full
+              (λ place at. record {
+                before = served.traffic.events;
+                event = came.meant;
+                events = refl;
+                full = record { now = served.now; reached = served.lives.is; full = at };
+              }))
 
           pub stops_kept : ((disk : D) (since : ℕ) (image : List ℕ) → since ≤ moment disk → may_leave disk image → left_since disk since image)
               → IsRepresented shown may_leave old.store → KeepsAnswered may_leave serving new.store.disk (Err (Respond error)) after

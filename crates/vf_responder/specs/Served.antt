@@ -11,9 +11,11 @@ use Rattle.vf_journal.specs.Image.{Refusal, refusal}
 use Rattle.vf_journal.specs.declared.error.JournalError.{JournalError}
 use Rattle.vf_journal.specs.declared.error.JournalError.TheVariants as errors
 use Rattle.vf_store.specs.Represented.{Represents}
+use Rattle.vf_store.specs.StoreState.{StoreState}
 use Rattle.vf_tables.specs.declared.tables.Tables.{Tables}
 use Rattle.vf_responder.specs.Along.{RepresentsAlong, RepresentsPast}
 use Rattle.vf_responder.specs.Answers.{at_end, spoken_in}
+use Rattle.vf_responder.specs.Full.{AtFull, IsFullAfter, IsStoreOf}
 use Rattle.vf_responder.specs.Run.{run, tables_in}
 use Rattle.vf_responder.specs.Serving.{Serving}
 use Rattle.vf_responder.specs.declared.event.Reply.{Reply}
@@ -131,6 +133,28 @@ Refuses image result = refused_in result ≡ refusal image
 -- A GOOD END, also where the links tell nothing: the peers are through, or no event may come any more.
 abbrev pub IsThrough : (turns : ℕ) (through : Bool) → Type 0
 IsThrough turns through = (turns ≡ 0) ⊎ (through ≡ true)
+
+-- A FULL STORE is told at a message of the last event, after the events before it with the ends of links on which a send failed: the
+-- record of what the message changes would end at this place.
+pub record IsFullIn {D : Type 0} (serving : Serving) (store : StoreState D) (traffic : Traffic) (place : ℕ) : Type 0 where
+  pub before : List ScriptEvent
+  pub event : ScriptEvent
+  pub events : traffic.events ≡ before ++ event ∷ []
+  pub full : IsFullAfter serving (lived_with before traffic) event store place
+
+abbrev pub IsFullBy : {D : Type 0} → Serving → StoreState D → Option Traffic → (place : ℕ) → Type 0
+IsFullBy serving store None place = ⊥
+IsFullBy serving store (Some traffic) place = IsFullIn serving store traffic place
+
+-- in the store of the disk that is left
+abbrev pub IsFullOn : {D : Type 0} → (size : D → ℕ) → (limit : ℕ) → Serving → D → Option Traffic → (place : ℕ) → Type 0
+IsFullOn {D} size limit serving disk told place = (store : StoreState D) × IsStoreOf size limit disk store × IsFullBy serving store told place
+
+abbrev pub WhereServedFull : Result Served ServeError → (ℕ → Type 0) → Type 0
+WhereServedFull (Ok served) holds = Unit {0}
+WhereServedFull (Err (Respond error)) holds = AtFull error holds
+WhereServedFull (Err LinksFault) holds = Unit {0}
+WhereServedFull (Err NoMemory) holds = Unit {0}
 
 -- CAUSES. No count rises without a fault of its kind, and none is told without one. That the disk is full comes by both numbers.
 abbrev pub RespondCauses : (limit disk_before disk_after : ℕ) → JournalError → Type 0

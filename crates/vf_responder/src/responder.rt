@@ -5,6 +5,7 @@ ghost use Rattle.vf_disk.specs.Disk.{LeavesOnly, LeavesShown};
 ghost use Rattle.vf_disk.specs.Plans.{sooner};
 ghost use Rattle.vf_journal.specs.Answers.{OpenCauses, is_fault};
 ghost use Rattle.vf_journal.specs.Image.{records_of};
+ghost use Rattle.vf_journal.specs.JournalState.{IsWithin};
 ghost use Rattle.vf_journal.specs.Looking.{IsSyncedAndLookedAt};
 ghost use Rattle.vf_base.specs.declared.events.ScriptEvent.TheVariants as script;
 ghost use Rattle.vf_responder.specs.declared.event.Reply.{Reply as ReplyMeant};
@@ -136,6 +137,13 @@ impl<D: Disk> Responder<D> {
         ensures bound { result ≤ 64 }
     {
         self.kept.links.len() as u32
+    }
+
+    /// The journal stands within the disk. It does nothing.
+    pub fn lies_within(&self)
+        ensures { IsWithin self.now.store.journal (D.size self.now.store.disk) }
+    {
+        self.kept.store.lies_within();
     }
 
     /// The disk.

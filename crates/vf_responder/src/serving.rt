@@ -5,6 +5,7 @@ ghost use Rattle.vf_base.specs.Links.{Traffic, event_of};
 ghost use Rattle.vf_base.specs.declared.events.LinkEvent.TheVariants as events;
 ghost use Rattle.vf_journal.specs.declared.error.JournalError.TheVariants as errors;
 ghost use Rattle.vf_responder.specs.Answers.{at_end, spoken_in};
+ghost use Rattle.vf_responder.specs.Full.{FullAlong};
 ghost use Rattle.vf_responder.specs.Represents.{AnswerCauses, Does, KeepsAlong, Represents};
 ghost use Rattle.vf_responder.specs.Run.{run, trail};
 ghost use Rattle.vf_responder.specs.Sends.{CausesNext, EndsRound, IsEventNext, IsFresh, RisesNext, SendsAll, SendsReply, TakesNext, Tries, TurnsNext, breaks, is_due as due_test, is_lost as lost_test};
@@ -12,7 +13,7 @@ ghost use Rattle.vf_store.specs.StoreState.{IsRepresented};
 ghost use Rattle.vf_base.specs.declared.events.ScriptEvent.TheVariants.{Ended};
 ghost use Rattle.vf_base.specs.declared.events.ScriptEvent.{ScriptEvent};
 ghost use Rattle.vf_disk.specs.Disk.{LeavesOnly};
-ghost use Rattle.vf_responder.specs.Served.{IsThrough, KeepsAnswered, Refuses, RepresentsServed, ServeCauses, Serves, counts_of, refused_in, untold};
+ghost use Rattle.vf_responder.specs.Served.{IsFullBy, IsFullOn, IsThrough, KeepsAnswered, Refuses, RepresentsServed, ServeCauses, Serves, WhereServedFull, counts_of, refused_in, untold};
 ghost use Rattle.vf_responder.specs.Serving.{IsBegun, Serving};
 ghost use Rattle.vf_store.specs.Represented.{Represents as ImageRepresents};
 ghost use Rattle.vf_tables.specs.declared.tables.Tables.{Tables as TablesMeant};
@@ -50,6 +51,8 @@ pub fn serve<L: Links, D: Disk>(
     ensures keeps { (left : List ScriptEvent) (image : List ℕ) (tables : TablesMeant) (serving : Serving) → L.told links.old ≡ Some (untold left) → D.shown disk ≡ Some image
         → ImageRepresents image tables → ((image : List ℕ) → D.may_leave disk image → ImageRepresents image tables) → IsBegun tables serving
         → KeepsAnswered D.may_leave serving result.0 result.1 (L.told links.new) }
+    ensures full { (left : List ScriptEvent) (image : List ℕ) (tables : TablesMeant) (serving : Serving) → L.told links.old ≡ Some (untold left) → D.shown disk ≡ Some image
+        → ImageRepresents image tables → IsBegun tables serving → WhereServedFull result.1 (IsFullOn D.size limit serving result.0 (L.told links.new)) }
     ensures refuses { (image : List ℕ) → D.shown disk ≡ Some image → Refuses image result.1 }
     ensures ends { IfOk result.1 (λ served. IsThrough (L.turns links.new) (L.through links.new)) }
     ensures causes { ServeCauses limit (D.fault_count disk) (D.fault_count result.0) (L.fault_count links.old) (L.fault_count links.new) result.1 }
@@ -58,6 +61,7 @@ pub fn serve<L: Links, D: Disk>(
         Ok(responder) => {
             let mut responder = responder;
             let served = serve_all(alloc, links, &mut responder);
+            responder.lies_within();
             (responder.close(), served)
         }
         Err((disk, error)) => (disk, Err(ServeError::Respond(error))),
@@ -77,6 +81,9 @@ fn serve_all<L: Links, D: Disk>(
         → LeavesOnly D.moment D.left_since responder.old.store.disk responder.new.store.disk (RepresentsServed serving (L.told links.new)) }
     ensures keeps { (left : List ScriptEvent) (serving : Serving) → L.told links.old ≡ Some (untold left) → Represents responder.old serving → serving.filestore.parties ≡ []
         → IsRepresented D.shown D.may_leave responder.old.store → KeepsAnswered D.may_leave serving responder.new.store.disk result (L.told links.new) }
+    ensures full { (left : List ScriptEvent) (serving : Serving) → L.told links.old ≡ Some (untold left) → Represents responder.old serving → serving.filestore.parties ≡ []
+        → WhereServedFull result (IsFullBy serving responder.new.store (L.told links.new)) }
+    ensures limit { responder.new.store.journal.limit ≡ responder.old.store.journal.limit }
     ensures refuses { refused_in result ≡ None }
     ensures ends { IfOk result (λ served. IsThrough (L.turns links.new) (L.through links.new)) }
     ensures causes { ServeCauses responder.old.store.journal.limit (D.fault_count responder.old.store.disk) (D.fault_count responder.new.store.disk) (L.fault_count links.old) (L.fault_count links.new) result }
@@ -144,6 +151,7 @@ fn round<L: Links, D: Disk>(
     ensures round { (meant : ScriptEvent) (traffic : Traffic) (serving : Serving) → event_of event piece.now ≡ Some meant → L.told links.old ≡ Some traffic → Represents responder.old serving
         → AllByRecursion (IsFresh traffic) (spoken_in (trail meant serving))
         → EndsRound D.shown D.may_leave D.moment D.left_since meant serving responder.old responder.new traffic (L.told links.new) result }
+    ensures full { (meant : ScriptEvent) → event_of event piece.now ≡ Some meant → FullAlong (trail meant) responder.old responder.new.store result }
     ensures causes { AnswerCauses responder.old.store.journal.limit (D.fault_count responder.old.store.disk) (D.fault_count responder.new.store.disk) result }
     ensures limit { responder.new.store.journal.limit ≡ responder.old.store.journal.limit }
     ensures link { L.last_link links.new ≡ L.last_link links.old }
@@ -170,6 +178,7 @@ fn answer<D: Disk>(
     ensures answers { (meant : ScriptEvent) → event_of event piece.now ≡ Some meant → OnOk result (Does (trail meant) responder.old replies.old.items responder.new replies.new.items) }
     ensures represented { (serving : Serving) → Represents responder.old serving → IsRepresented D.shown D.may_leave responder.old.store → OnOk result (IsRepresented D.shown D.may_leave responder.new.store) }
     ensures any_moment { (meant : ScriptEvent) → event_of event piece.now ≡ Some meant → KeepsAlong (trail meant) D.shown D.may_leave D.moment D.left_since responder.old responder.new }
+    ensures full { (meant : ScriptEvent) → event_of event piece.now ≡ Some meant → FullAlong (trail meant) responder.old responder.new.store result }
     ensures causes { AnswerCauses responder.old.store.journal.limit (D.fault_count responder.old.store.disk) (D.fault_count responder.new.store.disk) result }
     ensures limit { responder.new.store.journal.limit ≡ responder.old.store.journal.limit }
 {

@@ -3,7 +3,7 @@ ghost use Rattle.std.specs.Prelude.{◌≡◌, ℕ, List, Some, IfOk, OnOk};
 ghost use Rattle.vf_disk.specs.Disk.{LeavesShown};
 ghost use Rattle.vf_journal.specs.Answers.{OpenCauses, is_fault};
 ghost use Rattle.vf_journal.specs.Image.{records_of};
-ghost use Rattle.vf_journal.specs.JournalState.{IsWithin};
+ghost use Rattle.vf_journal.specs.JournalState.{IsWithin, when_opened};
 ghost use Rattle.vf_journal.specs.Looking.{IsSyncedAndLookedAt};
 ghost use Rattle.vf_store.specs.Answers.{OpenAnswers};
 ghost use Rattle.vf_store.specs.Represented.{Represents, after_record, read_from};
@@ -55,6 +55,7 @@ pub(crate) fn read<D: Disk>(
     ensures stands { (image : List ℕ) (tables : TablesMeant) → D.shown disk.old ≡ Some image → Represents image tables
         → IfOk result (λ found. (found.1 ≡ tables) × TablesStand D.shown D.may_leave found.0 disk.new tables) }
     ensures limit { IfOk result (λ found. found.0.limit ≡ limit) }
+    ensures journal { (image : List ℕ) → D.shown disk.old ≡ Some image → IfOk result (λ found. found.0 ≡ when_opened image limit) }
     ensures within { IfOk result (λ found. IsWithin found.0 (D.size disk.new)) }
     ensures synced { OnOk result (LeavesShown (D.shown disk.new) (D.may_leave disk.new)) }
     ensures looks { IsSyncedAndLookedAt D.shown D.size D.may_leave D.moment D.left_since D.plan D.state D.lack_count (is_fault result) disk.old disk.new }

@@ -5,6 +5,7 @@ ghost use Rattle.vf_disk.specs.Plans.{sooner};
 ghost use Rattle.vf_disk.specs.Steps.{MakesSteps};
 ghost use Rattle.vf_journal.specs.Answers.{FaultAlone, OpenCauses, is_fault};
 ghost use Rattle.vf_journal.specs.Image.{records_of};
+ghost use Rattle.vf_journal.specs.JournalState.{IsWithin, when_opened};
 ghost use Rattle.vf_journal.specs.Layout.{new_journal};
 ghost use Rattle.vf_journal.specs.Looking.{IsSyncedAndLookedAt};
 ghost use Rattle.vf_journal.specs.Writes.{Shows, create_steps};
@@ -81,6 +82,7 @@ impl<D: Disk> Store<D> {
         ensures any_moment { (tables : TablesMeant) → ((image : List ℕ) → D.may_leave disk image → Represents image tables)
             → LeavesOnly D.moment D.left_since disk (disk_of result) (λ image. Represents image tables) }
         ensures limit { IfOk result (λ store. store.journal.limit ≡ limit) }
+        ensures journal { (image : List ℕ) → D.shown disk ≡ Some image → IfOk result (λ store. store.journal ≡ when_opened image limit) }
         ensures synced { IfOk result (λ store. LeavesShown (D.shown store.disk) (D.may_leave store.disk)) }
         ensures looks { IsSyncedAndLookedAt D.shown D.size D.may_leave D.moment D.left_since D.plan D.state D.lack_count (is_fault (answer_of result)) disk (disk_of result) }
         ensures causes { OpenCauses (D.fault_count disk) (D.fault_count (disk_of result)) (answer_of result) }
@@ -171,6 +173,13 @@ impl<D: Disk> Store<D> {
             &changes,
         )?;
         Ok(())
+    }
+
+    /// The journal stands within the disk. It does nothing.
+    pub fn lies_within(&self)
+        ensures { IsWithin self.now.journal (D.size self.now.disk) }
+    {
+        let _journal = &self.journal;
     }
 
     /// The disk.

@@ -1,8 +1,11 @@
 -- A docket or a task may be dropped out of valid tables, and what the commit of that leaves.
-use Rattle.std.proofs.Common.{◌≡◌, ◌≤◌, ℕ, suc, Bool, true, false, ◌&&◌, not, nat_le, if◌then◌else◌, List, [], ◌∷◌, length, Option, Some, refl, subst, arith}
+use Rattle.std.proofs.Common.{◌≡◌, ◌<◌, ◌≤◌, ◌∙◌, ℕ, suc, Bool, true, false, ◌&&◌, not, nat_le, if◌then◌else◌, List, [], ◌∷◌, length, Option, Some, Err, refl, subst, arith}
 use Rattle.std.specs.Prelude.{is_some}
 use Rattle.std.specs.List.{list_all}
 use Rattle.std.proofs.lemmas.Bool.Decides.{nat_tests}
+use Rattle.vf_journal.specs.declared.error.JournalError.{JournalError}
+use Rattle.vf_journal.specs.declared.error.JournalError.TheVariants.{NotAStore, Full, DiskFault, NoMemory}
+use Rattle.vf_store.specs.Answers.{CommitAnswers}
 use Rattle.vf_store.specs.Commit.{AreFitting}
 use Rattle.vf_store.specs.Represented.{Represents, made}
 use Rattle.vf_store.specs.StoreState.{IsRepresented, StoreState}
@@ -17,9 +20,10 @@ use Rattle.vf_tables.specs.declared.docket.Docket.{Docket as DocketMeant}
 use Rattle.vf_tables.specs.declared.limits.TheConstants.{MOST_DOCKETS, MOST_FILES, MOST_FILESTORE_OCTETS, MOST_TASKS, MOST_USERS}
 use Rattle.vf_tables.specs.declared.tables.Tables.{Tables}
 use Rattle.vf_tables.specs.declared.task.Task.{Task as TaskMeant}
-use Rattle.vf_store_commands.specs.Dropping.{HasActivity, HoldsTables, drop_of, without}
+use Rattle.vf_store_commands.specs.Dropping.{HasActivity, HoldsTables, IsDropError, drop_of, without}
 use Rattle.vf_store_commands.specs.declared.dropping.KeptEntry.{KeptEntry}
 use Rattle.vf_store_commands.specs.declared.dropping.KeptEntry.TheVariants.{Docket, Task}
+use Rattle.vf_store_commands.specs.declared.limits.TheConstants.{STORE_LIMIT}
 use Rattle.vf_store_commands.proofs.Bools.{both_true, first_of, second_of}
 
 -- ---- a list without one entry
@@ -173,3 +177,11 @@ module _ {D : Type 0} (shown : D → Option (List ℕ)) (may_leave : D → List 
     represents = subst (λ (t : Tables). Represents stands.on.image t) is (represented stands.on.image stands.records store.tables stands.making stands.on.holds);
     synced = stands.on.synced;
   }
+
+-- why the commit of a drop failed
+pub commit_error : {D : Type 0} (end limit : ℕ) (old new : StoreState D) (before now : ℕ) (error : JournalError) → limit ≡ STORE_LIMIT
+    → CommitAnswers {T = Unit {0}} old new end limit before now (Err error) → IsDropError end error
+commit_error end limit old new before now (NotAStore place found expected) is answers = absurd answers
+commit_error end limit old new before now (Full length bound) is answers = (subst (λ (n : ℕ). n < end) is answers.0, answers.1, answers.2 ∙ is)
+commit_error end limit old new before now DiskFault is answers = tt
+commit_error end limit old new before now NoMemory is answers = tt

@@ -1,17 +1,20 @@
 -- What is printed of a disk that holds a store, or none.
-use Rattle.std.proofs.Common.{◌≡◌, inl, inr, ℕ, Bool, true, false, List, [], ◌∷◌, Option, Some, None, sym, subst}
+use Rattle.std.proofs.Common.{◌≡◌, ◌<◌, ◌≤◌, inl, inr, ℕ, Bool, true, false, nat_lt, if◌then◌else◌, List, [], ◌∷◌, Option, Some, None, ap, arith, sym, subst}
+use Rattle.std.proofs.lemmas.Bool.Decides.{nat_tests}
 use Rattle.vf_journal.specs.Image.{Refusal, refusal}
+use Rattle.vf_journal.specs.JournalState.{JournalState}
 use Rattle.vf_journal.specs.declared.error.JournalError.{JournalError}
 use Rattle.vf_journal.specs.declared.error.JournalError.TheVariants.{NotAStore, Full, DiskFault, NoMemory}
 use Rattle.vf_store.specs.Answers.{IsOpenError}
 use Rattle.vf_tables.specs.Fitting.{stands_in}
 use Rattle.vf_tables.specs.declared.tables.Tables.{Tables}
-use Rattle.vf_cli_printing.specs.Printed.{IsOneOf, Prints, Wrote}
+use Rattle.vf_cli_printing.specs.Printed.{Printed, Prints}
 use Rattle.vf_store_commands.specs.Dockets.{printed_of}
-use Rattle.vf_store_commands.specs.Dropping.{IsDropError, PrintsDropOf, PrintsDropped, drop_of, dropped_line, unknown_line}
-use Rattle.vf_store_commands.specs.ErrorLines.{PrintsError, no_store_line}
+use Rattle.vf_store_commands.specs.Dropping.{IsDropError, drop_of, dropped_line, dropping, end_of_drop, printed_by_drop, printed_of_drop}
+use Rattle.vf_store_commands.specs.ErrorLines.{PrintsError, full_line, no_store_line}
 use Rattle.vf_store_commands.specs.declared.dropping.KeptEntry.{KeptEntry}
-use Rattle.vf_store_commands.proofs.Faults.{five_more, more_faults, nothing}
+use Rattle.vf_store_commands.specs.declared.limits.TheConstants.{STORE_LIMIT}
+use Rattle.vf_store_commands.proofs.Faults.{five_more, four_all, more_faults, nothing}
 
 module _ (image : List ℕ) (status : ℕ) (old new : Option (List ℕ)) where
   -- the lines of a store
@@ -31,30 +34,45 @@ module _ (image : List ℕ) (status : ℕ) (old new : Option (List ℕ)) where
   refusal_printed lines DiskFault is prints = nothing (4 ∷ 5 ∷ 9 ∷ []) (printed_of (refusal image) lines) status old new (inr (inl prints.0)) prints.1
   refusal_printed lines NoMemory is prints = nothing (4 ∷ 5 ∷ 9 ∷ []) (printed_of (refusal image) lines) status old new (inr (inr (inl prints.0))) prints.1
 
--- a fault that prints nothing, whether what is to be dropped stands or not
-pub outside_dropped : (stands : Bool) (status : ℕ) (old new : Option (List ℕ)) → IsOneOf (5 ∷ 9 ∷ []) status → Wrote [] old new → PrintsDropped stands status old new
-outside_dropped false status old new is wrote = nothing (4 ∷ 5 ∷ 9 ∷ []) (record { octets = unknown_line; status = 1 }) status old new (inr is) wrote
-outside_dropped true status old new is wrote = inl (nothing (4 ∷ 5 ∷ 9 ∷ []) (record { octets = dropped_line; status = 0 }) status old new (inr is) wrote)
+-- a text was printed
+pub all_printed : (octets : List ℕ) (number status : ℕ) (old new : Option (List ℕ)) (text : List ℕ) → text ≡ octets → Prints (4 ∷ []) (record { octets = text; status = number }) status old new
+    → Prints (4 ∷ 5 ∷ 9 ∷ []) (record { octets = octets; status = number }) status old new
+all_printed octets number status old new text is prints =
+    subst (λ (l : List ℕ). Prints (4 ∷ 5 ∷ 9 ∷ []) (record { octets = l; status = number }) status old new) is
+    (more_faults (4 ∷ []) (4 ∷ 5 ∷ 9 ∷ []) (record { octets = text; status = number }) status old new (four_all status) prints)
+
+-- the record that drops it would end within the limit of a store, or past it
+pub dropped_within : (end : ℕ) → end ≤ STORE_LIMIT → dropping end ≡ record { octets = dropped_line; status = 0 }
+dropped_within end within =
+    let test : nat_lt STORE_LIMIT end ≡ false = grind (arith, nat_tests) in
+    ap (λ (past : Bool). if past then (let full : Printed = record { octets = full_line end STORE_LIMIT; status = 12 } in full) else record { octets = dropped_line; status = 0 }) test
+
+dropped_past : (end : ℕ) → STORE_LIMIT < end → dropping end ≡ record { octets = full_line end STORE_LIMIT; status = 12 }
+dropped_past end past =
+    let test : nat_lt STORE_LIMIT end ≡ true = grind (arith, nat_tests) in
+    ap (λ (past : Bool). if past then (let full : Printed = record { octets = full_line end STORE_LIMIT; status = 12 } in full) else record { octets = dropped_line; status = 0 }) test
 
 -- the commit failed
-pub error_dropped : (error : JournalError) (status : ℕ) (old new : Option (List ℕ)) → IsDropError error → PrintsError error status old new → PrintsDropped true status old new
-error_dropped (NotAStore place found expected) status old new is prints = absurd is
-error_dropped (Full length bound) status old new is prints = inr (length, is.0, rw (← is.1) prints)
-error_dropped DiskFault status old new is prints = outside_dropped true status old new (inl prints.0) prints.1
-error_dropped NoMemory status old new is prints = outside_dropped true status old new (inr (inl prints.0)) prints.1
+pub error_dropped : (end : ℕ) (error : JournalError) (status : ℕ) (old new : Option (List ℕ)) → IsDropError end error → PrintsError error status old new
+    → Prints (4 ∷ 5 ∷ 9 ∷ []) (dropping end) status old new
+error_dropped end (NotAStore place found expected) status old new is prints = absurd is
+error_dropped end (Full length bound) status old new is prints =
+    let told : full_line length bound ≡ full_line end STORE_LIMIT = (λ i. full_line (is.1 i) (is.2 i)) in
+    subst (λ (printed : Printed). Prints (4 ∷ 5 ∷ 9 ∷ []) printed status old new) (sym (dropped_past end is.0))
+    (subst (λ (octets : List ℕ). Prints (4 ∷ 5 ∷ 9 ∷ []) (record { octets = octets; status = 12 }) status old new) told
+    (more_faults (4 ∷ 9 ∷ []) (4 ∷ 5 ∷ 9 ∷ []) (record { octets = full_line length bound; status = 12 }) status old new (five_more status) prints))
+error_dropped end DiskFault status old new is prints = nothing (4 ∷ 5 ∷ 9 ∷ []) (dropping end) status old new (inr (inl prints.0)) prints.1
+error_dropped end NoMemory status old new is prints = nothing (4 ∷ 5 ∷ 9 ∷ []) (dropping end) status old new (inr (inr (inl prints.0))) prints.1
 
-module _ (image : List ℕ) (kept : KeptEntry) (tables : Tables) (status : ℕ) (old new : Option (List ℕ)) where
-  pub opened_drop : refusal image ≡ None → PrintsDropped (stands_in tables (drop_of kept)) status old new → PrintsDropOf (refusal image) kept tables status old new
-  opened_drop none prints = subst (λ (r : Option Refusal). PrintsDropOf r kept tables status old new) (sym none) prints
+module _ (image : List ℕ) (kept : KeptEntry) (journal : JournalState) (tables : Tables) (status : ℕ) (old new : Option (List ℕ)) where
+  pub opened_drop : refusal image ≡ None → Prints (4 ∷ 5 ∷ 9 ∷ []) (printed_by_drop (stands_in tables (drop_of kept)) (end_of_drop kept journal tables)) status old new
+      → Prints (4 ∷ 5 ∷ 9 ∷ []) (printed_of_drop (refusal image) kept journal tables) status old new
+  opened_drop none prints = subst (λ (r : Option Refusal). Prints (4 ∷ 5 ∷ 9 ∷ []) (printed_of_drop r kept journal tables) status old new) (sym none) prints
 
-  fault_drop : (refused : Option Refusal) → IsOneOf (5 ∷ 9 ∷ []) status → Wrote [] old new → PrintsDropOf refused kept tables status old new
-  fault_drop (Some refused) is wrote = nothing (4 ∷ 5 ∷ 9 ∷ []) (record { octets = no_store_line refused.place; status = 8 }) status old new (inr is) wrote
-  fault_drop None is wrote = outside_dropped (stands_in tables (drop_of kept)) status old new is wrote
-
-  pub refused_drop : (error : JournalError) → IsOpenError image error → PrintsError error status old new → PrintsDropOf (refusal image) kept tables status old new
+  pub refused_drop : (error : JournalError) → IsOpenError image error → PrintsError error status old new → Prints (4 ∷ 5 ∷ 9 ∷ []) (printed_of_drop (refusal image) kept journal tables) status old new
   refused_drop (NotAStore place found expected) is prints =
-      subst (λ (r : Option Refusal). PrintsDropOf r kept tables status old new) (sym is)
+      subst (λ (r : Option Refusal). Prints (4 ∷ 5 ∷ 9 ∷ []) (printed_of_drop r kept journal tables) status old new) (sym is)
       (more_faults (4 ∷ 9 ∷ []) (4 ∷ 5 ∷ 9 ∷ []) (record { octets = no_store_line place; status = 8 }) status old new (five_more status) prints)
   refused_drop (Full end limit) is prints = absurd is
-  refused_drop DiskFault is prints = fault_drop (refusal image) (inl prints.0) prints.1
-  refused_drop NoMemory is prints = fault_drop (refusal image) (inr (inl prints.0)) prints.1
+  refused_drop DiskFault is prints = nothing (4 ∷ 5 ∷ 9 ∷ []) (printed_of_drop (refusal image) kept journal tables) status old new (inr (inl prints.0)) prints.1
+  refused_drop NoMemory is prints = nothing (4 ∷ 5 ∷ 9 ∷ []) (printed_of_drop (refusal image) kept journal tables) status old new (inr (inr (inl prints.0))) prints.1

@@ -1,13 +1,13 @@
 //! The command `drop`.
-ghost use Rattle.std.specs.Prelude.{◌≡◌, ℕ, List, [], ◌∷◌, Some, IfErr, IfOk, true};
+ghost use Rattle.std.specs.Prelude.{◌≡◌, ◌≤◌, ℕ, List, [], ◌∷◌, Some, IfErr, IfOk, OnOk, true};
 ghost use Rattle.vf_base.specs.Faults.{HasRisen};
 ghost use Rattle.vf_disk.specs.Disk.{LeavesOnly};
 ghost use Rattle.vf_journal.specs.declared.error.JournalError.TheVariants as errors;
 ghost use Rattle.vf_store.specs.Represented.{Represents, RepresentsEither};
 ghost use Rattle.vf_store.specs.StoreState.{IsRepresented};
-ghost use Rattle.vf_store_commands.specs.Dropping.{Drops, EndsDrop, HasActivity, IsDropError, KeepsWhereFull, PrintsDrop, PrintsDropped, drop_of, dropped_line, unknown_line, without};
+ghost use Rattle.vf_store_commands.specs.Dropping.{Drops, EndsDrop, HasActivity, IsDropError, KeepsWhereFull, PrintsDrop, drop_of, dropped_line, end_of_drop, printed_by_drop, unknown_line, without};
 ghost use Rattle.vf_store_commands.specs.Making.{IsAsBefore, disk_in};
-ghost use Rattle.vf_cli_printing.specs.Printed.{IsOneOf};
+ghost use Rattle.vf_cli_printing.specs.Printed.{IsOneOf, Prints};
 ghost use Rattle.vf_tables.specs.Fitting.{stands_in};
 ghost use Rattle.vf_tables.specs.declared.tables.Tables.{Tables as TablesMeant};
 
@@ -33,7 +33,7 @@ pub enum KeptEntry {
 }
 
 /// Drops a docket or a task of the store on a disk, and prints `dropped` (profile). Nothing else of the store changes, and
-/// nothing at all where there is no such docket or task.
+/// nothing at all where there is no such docket or task, or where the record that drops it would end past the limit of a store.
 ///
 /// The statuses: 0 it is dropped; 1 there is none, which the line `refused 27` tells; 4 the output failed; 5 the disk failed; 8
 /// the disk has no store, and 12 the store is full, which lines tell; 9 memory is wanting.
@@ -65,7 +65,7 @@ fn drop_in<D: Disk, O: Sink>(
     out: &mut O,
 ) -> (D, u8)
     requires { store.journal.limit ≡ STORE_LIMIT }
-    ensures prints { PrintsDropped (stands_in store.tables (drop_of kept)) result.1 (O.taken out.old) (O.taken out.new) }
+    ensures prints { Prints (4 ∷ 5 ∷ 9 ∷ []) (printed_by_drop (stands_in store.tables (drop_of kept)) (end_of_drop kept store.journal store.tables)) result.1 (O.taken out.old) (O.taken out.new) }
     ensures ends { IsOneOf (0 ∷ 1 ∷ 4 ∷ 5 ∷ 9 ∷ 12 ∷ []) result.1 }
     ensures drops { IsRepresented D.shown D.may_leave store → HasActivity kept → result.1 ≡ 0 → Drops D.shown D.may_leave result.0 kept store.tables }
     ensures keeps { IsOneOf (1 ∷ 12 ∷ []) result.1 → result.0 ≡ store.disk }
@@ -123,7 +123,8 @@ fn commit_drop<D: Disk>(
     ensures drops { IsRepresented D.shown D.may_leave store → HasActivity kept → IfOk result (λ disk. Drops D.shown D.may_leave disk kept store.tables) }
     ensures any_moment { IsRepresented D.shown D.may_leave store → HasActivity kept
         → LeavesOnly D.moment D.left_since store.disk (disk_in result) (RepresentsEither store.tables (without kept store.tables)) }
-    ensures errors { IfErr result (λ back. IsDropError back.1) }
+    ensures within { OnOk result (end_of_drop kept store.journal store.tables ≤ STORE_LIMIT) }
+    ensures errors { IfErr result (λ back. IsDropError (end_of_drop kept store.journal store.tables) back.1) }
     ensures keeps { IfErr result (λ back. KeepsWhereFull back.1 store.disk back.0) }
     ensures cause { IfErr result (λ back. back.1 ≡ errors.DiskFault → HasRisen (D.fault_count store.disk) (D.fault_count back.0)) }
 {

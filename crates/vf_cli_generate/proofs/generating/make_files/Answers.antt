@@ -35,7 +35,7 @@ pub returns-in_default-clause-makes : goal.returns-in_default-clause-makes
 returns-in_default-clause-makes g c = λ serving represents stands.
     let within : c.loop-made.made ≤ c.args.count = omega (arith, c.loop-made-test.true) in
     goes_fewer g.D.Disk.shown g.D.Disk.may_leave g.D.Disk.moment g.D.Disk.left_since c.args.number c.loop-made.made c.args.count serving c.args.responder.now c.loop-made.responder NoMemory within
-    (c.loop-made.invariant.makes serving represents stands).any_moment
+    (c.loop-made.invariant.makes serving represents stands).any_moment tt
 
 pub returns-in-Err-clause-makes : goal.returns-in-Err-clause-makes
 returns-in-Err-clause-makes g c = λ serving represents stands.
@@ -49,7 +49,7 @@ returns-in-Err-clause-makes g c = λ serving represents stands.
     c.make_file.new.responder failed =
     goes_one_file g.D.Disk.shown g.D.Disk.may_leave g.D.Disk.moment g.D.Disk.left_since number made serving c.args.responder.now c.loop-made.responder c.make_file.new.responder failed
     (c.loop-made.invariant.makes serving represents stands) (λ between here standing. c.in-Err.ensures.makes (after_files number made) between are here standing) in
-    goes_fewer g.D.Disk.shown g.D.Disk.may_leave g.D.Disk.moment g.D.Disk.left_since number (made + 1) c.args.count serving c.args.responder.now c.make_file.new.responder c.in-Err.error within more.any_moment
+    goes_fewer g.D.Disk.shown g.D.Disk.may_leave g.D.Disk.moment g.D.Disk.left_since number (made + 1) c.args.count serving c.args.responder.now c.make_file.new.responder c.in-Err.error within more.any_moment more.full
 
 pub returns-clause-makes : goal.returns-clause-makes
 returns-clause-makes g c = λ serving represents stands.

@@ -14,6 +14,7 @@ returns-clause-serves g c = record {
   refuses = c.serve-disk.ensures.refuses;
   serves = λ left image tables serving told shows represents begun. c.serve-disk.ensures.serves left image tables serving told shows represents begun;
   keeps = λ left image tables serving told shows represents leaves begun. c.serve-disk.ensures.keeps left image tables serving told shows represents leaves begun;
+  full = λ left image tables serving told shows represents begun. c.serve-disk.ensures.full left image tables serving told shows represents begun;
   ends = c.serve-disk.ensures.ends;
   incarnates = λ left image state told shows represents leaves may. (
       let begun = begins_so state may in

@@ -1,4 +1,5 @@
 use Rattle.std.proofs.Common.{ℕ, List, [], sym, subst}
+use Rattle.std.proofs.lemmas.Result.{err_from_is_err_and}
 use Rattle.vf_responder.proofs.Rounds.{goes_round, stops_with}
 use Rattle.vf_responder.specs.Represents.{Answers}
 use Rattle.vf_responder.specs.Run.{trail}
@@ -28,3 +29,13 @@ returns-clause-round g c = λ meant traffic serving event told represents fresh.
     goes_round g.D.Disk.shown g.D.Disk.may_leave g.D.Disk.moment g.D.Disk.left_since g.met.D.Disk.only_now meant serving c.args.responder.now c.answer.new.responder c.end_all.new.responder
     traffic (g.L.Links.told c.args.links.now) (g.L.Links.told c.send_all.new.links) c.answer.new.replies.items lost answers told fresh sends c.end_all.ensures.answers
     (c.in_ok-answer.ensures.represented serving represents) c.end_all.ensures.represented (c.answer.ensures.any_moment meant event serving represents) c.end_all.ensures.any_moment
+
+pub returns-in_err-answer-clause-full : goal.returns-in_err-answer-clause-full
+returns-in_err-answer-clause-full g c = λ meant event serving represents.
+    let p = err_from_is_err_and c.from_residual.result c.from_residual.ensures.1 in
+    rw (p.1, p.2) (c.in_err-answer.ensures.full meant event serving represents)
+
+pub returns-in_err-lost-clause-full : goal.returns-in_err-lost-clause-full
+returns-in_err-lost-clause-full g c = λ meant event serving represents.
+    let p = err_from_is_err_and c.from_residual-in_err-lost.result c.from_residual-in_err-lost.ensures.1 in
+    rw (p.1, p.2, c.in_err-lost.ensures.cause) tt

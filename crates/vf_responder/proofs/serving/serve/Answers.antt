@@ -1,7 +1,8 @@
-use Rattle.std.proofs.Common.{sym, subst}
+use Rattle.std.proofs.Common.{◌∙◌, refl, sym, subst}
 use Rattle.vf_disk.specs.Disk.{LeavesOnly}
-use Rattle.vf_responder.proofs.Serves.{not_opened, not_opened_kept, opened_along}
-use Rattle.vf_responder.specs.Served.{KeepsAnswered, RepresentsServed, Serves}
+use Rattle.vf_responder.proofs.Serves.{full_left, not_opened, not_opened_kept, opened_along, opens_full}
+use Rattle.vf_responder.specs.Served.{IsFullOn, KeepsAnswered, RepresentsServed, Serves, WhereServedFull}
+use Rattle.vf_responder.specs.Full.{IsStoreOf}
 use Rattle.vf_responder.proofs.serving.serve.Goals as goal
 
 pub returns-in-Ok-clause-serves : goal.returns-in-Ok-clause-serves
@@ -33,3 +34,15 @@ returns-in-Err-clause-keeps g c = λ left image tables serving told shows repres
 pub returns-in-Err-clause-serves : goal.returns-in-Err-clause-serves
 returns-in-Err-clause-serves g c = λ left image tables serving told shows represents begun.
     not_opened g.D.Disk.shown g.D.Disk.may_leave g.D.Disk.moment g.D.Disk.left_since g.met.D.Disk.only_now serving c.in-Err.disk (g.L.Links.told c.args.links.now) left c.in-Err.error told
+
+pub returns-in-Ok-clause-full : goal.returns-in-Ok-clause-full
+returns-in-Ok-clause-full g c = λ left image tables serving told shows represents begun.
+    let new = c.serve_all-served.new.responder in
+    let of : IsStoreOf g.D.Disk.size c.args.limit new.store.disk new.store = record { on = refl; limited = c.serve_all-served.ensures.limit ∙ c.in-Ok.ensures.limit; within = c.lies_within.ensures } in
+    subst (λ disk. WhereServedFull c.serve_all-served.result (IsFullOn g.D.Disk.size c.args.limit serving disk (g.L.Links.told c.serve_all-served.new.links))) (sym c.close.ensures)
+    (full_left g.D.Disk.size c.args.limit serving new.store.disk new.store (g.L.Links.told c.serve_all-served.new.links) c.serve_all-served.result of
+    (c.serve_all-served.ensures.full left serving told (c.in-Ok.ensures.begins image tables serving shows represents begun) begun.begins.alone))
+
+pub returns-in-Err-clause-full : goal.returns-in-Err-clause-full
+returns-in-Err-clause-full g c = λ left image tables serving told shows represents begun.
+    opens_full (IsFullOn g.D.Disk.size c.args.limit serving c.in-Err.disk (g.L.Links.told c.args.links.now)) (g.D.Disk.fault_count c.args.disk) (g.D.Disk.fault_count c.in-Err.disk) c.in-Err.error c.in-Err.ensures.causes

@@ -3,6 +3,7 @@ use Rattle.vf_base.specs.declared.events.ScriptEvent.TheVariants.{Octets}
 use Rattle.vf_disk.specs.Disk.{LeavesOnly}
 use Rattle.vf_journal.specs.declared.error.JournalError.TheVariants.{NoMemory}
 use Rattle.vf_responder.specs.Along.{RepresentsAlong}
+use Rattle.vf_responder.specs.Full.{IsFullAt, WhereFull}
 use Rattle.vf_responder.specs.Represents.{Represents}
 use Rattle.vf_responder.specs.Run.{trail}
 use Rattle.vf_session.specs.declared.units.TokenSide.TheVariants.{Initiator}
@@ -26,7 +27,7 @@ returns-then-is_err-clause-says g c = λ both represents is stands.
     goes_no_further g.D.Disk.shown g.D.Disk.may_leave g.D.Disk.moment g.D.Disk.left_since (HasSaid c.args.self.now.link said both c.send.new.self) (SaysFront c.args.self.now.link said both) both.serving
     c.args.responder.now c.args.responder.now NoMemory
     (stays g.D.Disk.shown g.D.Disk.may_leave g.D.Disk.moment g.D.Disk.left_since g.met.D.Disk.only_now (SaysFront c.args.self.now.link said both) both.serving c.args.responder.now
-    (front_none c.args.self.now.link said both) represents stands)
+    (front_none c.args.self.now.link said both) represents stands) tt
 
 pub returns-clause-says : goal.returns-clause-says
 returns-clause-says g c = λ both represents is stands.
@@ -43,6 +44,8 @@ returns-clause-says g c = λ both represents is stands.
     (may_send stack both.calling request is ((c.may.ensures.association both.calling is.represents).0 c.if-not-may.false))
     (subst (λ (o : List ℕ). LeavesOnly g.D.Disk.moment g.D.Disk.left_since c.args.responder.now.store.disk c.send-2.new.responder.store.disk (RepresentsAlong both.serving (trail (coming link o) both.serving)))
     octets (c.send-2.ensures.any_moment both.serving represents stands))
+    (subst (λ (o : List ℕ). WhereFull c.send-2.result (λ place. IsFullAt (trail (coming link o) both.serving) both.serving c.send-2.new.responder.store place)) octets
+    (c.send-2.ensures.full both.serving represents))
     (subst (λ (o : List ℕ). OnOk c.send-2.result (Represents c.send-2.new.responder (after_event (coming link o) after).serving)) octets (c.send-2.ensures.heard after represents))
     (subst (λ (o : List ℕ). OnOk c.send-2.result (IsCalling c.send-2.new.self.stack (after_event (coming link o) after).calling)) octets (c.send-2.ensures.hears after represents calls))
     (c.send-2.ensures.represented both.serving represents stands)

@@ -1,10 +1,12 @@
 use Rattle.std.proofs.Common.{◌≡◌, ◌∙◌, ℕ, List, ◌++◌, OnOk, ap, subst}
 use Rattle.vf_base.specs.declared.events.ScriptEvent.TheVariants.{Octets}
 use Rattle.vf_responder.specs.Answers.{at_end, octets_heard, spoken_in}
+use Rattle.std.proofs.lemmas.Result.{err_from_is_err_and}
+use Rattle.vf_responder.specs.Full.{AtFull, IsFullAt}
 use Rattle.vf_responder.specs.Represents.{KeepsAlong, Represents}
 use Rattle.vf_responder.specs.Run.{trail}
 use Rattle.vf_responder.specs.declared.event.Reply.{Reply}
-use Rattle.vf_cli_generate.proofs.Going.{ok_of}
+use Rattle.vf_cli_generate.proofs.Going.{ok_of, where_none_full}
 use Rattle.vf_cli_generate.specs.Generating.{Both, IsCalling, hears}
 use Rattle.vf_cli_generate.proofs.peer.Peer.send.Goals as goal
 
@@ -31,3 +33,14 @@ pub returns-clause-any_moment : goal.returns-clause-any_moment
 returns-clause-any_moment g c =
     subst (λ (moment : ℕ). KeepsAlong (trail (Octets c.args.self.now.link moment c.args.octets.now)) g.D.Disk.shown g.D.Disk.may_leave g.D.Disk.moment g.D.Disk.left_since c.args.responder.now c.deliver.new.self)
     c.first_moment.ensures c.deliver.ensures.any_moment
+
+pub returns-in_err-deliver-clause-full : goal.returns-in_err-deliver-clause-full
+returns-in_err-deliver-clause-full g c = λ serving represents.
+    let p = err_from_is_err_and c.from_residual.result c.from_residual.ensures.1 in
+    rw (p.1, p.2)
+    (subst (λ (moment : ℕ). AtFull c.in_err-deliver.field-0.0 (λ place. IsFullAt (trail (Octets c.args.self.now.link moment c.args.octets.now) serving) serving c.deliver.new.self.store place))
+    c.first_moment.ensures (c.in_err-deliver.ensures.full serving represents))
+
+pub returns-clause-full : goal.returns-clause-full
+returns-clause-full g c = λ serving represents.
+    where_none_full c.hear.result (λ place. IsFullAt (trail (Octets c.args.self.now.link 0 c.args.octets.now) serving) serving c.deliver.new.self.store place) c.hear.ensures.cause
