@@ -65,6 +65,10 @@ returns-in-Takes-clause-full g c = λ read serving represents.
     (asks-so c.args.link.now (kept_of c.args.self.now) serving c.next_serial-next.result c.last_check_of.result c.next_serial-next.ensures.association c.last_check_of.ensures) c.in-Takes.ensures))
     (c.take.ensures.full c.args.indication (read-so c.args.indication c.next_serial-next.result c.last_check_of.result c.in-Takes.message read c.in-Takes.ensures) c.asked_by-asked.ensures serving represents)
 
+pub returns-in-Takes-clause-represented : goal.returns-in-Takes-clause-represented
+returns-in-Takes-clause-represented g c = λ read serving represents stood.
+    c.take.ensures.represented serving represents c.args.indication (read-so c.args.indication c.next_serial-next.result c.last_check_of.result c.in-Takes.message read c.in-Takes.ensures) c.asked_by-asked.ensures stood
+
 pub returns-in-Takes-clause-commits : goal.returns-in-Takes-clause-commits
 returns-in-Takes-clause-commits g c = λ read.
     tell-commits (telling g.D.Disk.plan g.D.Disk.state g.D.Disk.lack_count) c.args.moment c.args.link.now (kept_of c.args.self.now) c.args.indication c.next_serial-next.result c.last_check_of.result c.in-Takes.message c.take.new.self.store c.take.result
