@@ -35,7 +35,7 @@ returns-in-Ok-clause-does g c =
       full = λ image tables serving shows represents begun.
           where_full_to answer (IsFullOf (FrontOfFiles number count serving) serving new.store) (IsFullOn g.D.Disk.size store_limit (FrontOfFiles number count serving) serving new.store.disk)
           (c.make_files-answer.ensures.makes serving (c.in-Ok.ensures.begins image tables serving shows represents begun) (c.in-Ok.ensures.represented image tables shows represents).1).full
-          (λ place at. (new.store, (record { on = refl; limited = c.make_files-answer.ensures.limit ∙ c.in-Ok.ensures.limit; within = c.lies_within.ensures }, at)));
+          (λ place at. (new.store, record { on = refl; limited = c.make_files-answer.ensures.limit ∙ c.in-Ok.ensures.limit; within = c.lies_within.ensures }, at));
       any_moment = λ image tables serving shows represents leaves begun.
           joined g.D.Disk.moment g.D.Disk.left_since c.args.disk old.store.disk new.store.disk (λ image. Represents image tables) (AlongFront (FrontOfFiles number count serving) serving)
           (AlongFront (FrontOfFiles number count serving) serving) (c.in-Ok.ensures.any_moment tables leaves)
