@@ -1,5 +1,5 @@
 //! Where octets have a fault, and replies as lines.
-ghost use Rattle.std.specs.Prelude.{◌≡◌, ◌++◌, Err, IfOk, List, OnOk, Result, ℕ};
+ghost use Rattle.std.specs.Prelude.{◌≡◌, ◌++◌, [], ◌∷◌, Err, IfOk, IfSome, List, OnOk, Result, ℕ};
 ghost use Rattle.vf_ber.specs.Limits.{IsTooLarge};
 ghost use Rattle.vf_ber.specs.Reader.{reading};
 ghost use Rattle.vf_ber.specs.Results.{IsAnswer};
@@ -16,7 +16,7 @@ ghost use Rattle.vf_pdu_fields.specs.Fault.{Fault};
 ghost use Rattle.vf_pdu_fields.specs.Results.{Fails};
 ghost use Rattle.vf_elements.specs.declared.message.Message.{Message};
 
-use crate::printed::{Replies, append_hex_line};
+use crate::printed::{Replies, append_header_line, append_hex_line};
 use std::alloc::Global;
 use vf_base::{Element, NoMemory};
 use vf_ber::{BerError, Value, WriteError};
@@ -108,6 +108,10 @@ fn append_value(alloc: Global, value: &Value, replies: &mut Replies) -> Result<(
     requires { IsTooLarge (tree_of value.now) → ⊥ }
     ensures { OnOk result (replies.new.lines.items ≡ replies.old.lines.items ++ hex_line (spell (tree_of value.now))) }
 {
+    if let Some(first) = only_header(value) {
+        append_header_line(first, &mut replies.lines)?;
+        return Ok(());
+    }
     replies.octets.clear();
     match vf_ber::write(alloc, value, &mut replies.octets) {
         Ok(()) => {}
@@ -116,4 +120,21 @@ fn append_value(alloc: Global, value: &Value, replies: &mut Replies) -> Result<(
     }
     append_hex_line(replies.octets.as_slice(), &mut replies.lines)?;
     Ok(())
+}
+
+/// The first of the two octets that spell a value without parts, as most replies are: its identifier, which a length of 0
+/// follows (ISO 8825, 8.1). None for other values, and for those whose number doesn't fit the first octet.
+fn only_header(value: &Value) -> Option<u8>
+    ensures { IfSome result (λ first. spell (tree_of value.now) ≡ first ∷ 0 ∷ []) }
+{
+    let Value::Built { tag, parts } = value else {
+        return None;
+    };
+    if !parts.is_empty() {
+        return None;
+    }
+    if tag.number < 31 {
+        return Some(64 * tag.class + (32 + tag.number as u8));
+    }
+    None
 }

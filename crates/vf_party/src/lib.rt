@@ -8,6 +8,7 @@ mod copies;
 mod departing;
 mod grouping;
 mod hearing;
+mod hearing_item;
 mod items;
 mod leaving;
 mod outcomes;

@@ -8,7 +8,7 @@ ghost use Rattle.vf_party_steps.specs.Reads.{IsReading};
 ghost use Rattle.vf_party_steps.specs.Recoveries.{IsRecovered};
 ghost use Rattle.vf_party.specs.Settings.{setting_of};
 ghost use Rattle.vf_party.specs.Turns.{IsParty, IsTurn, LeavesParty, party_of_recovered};
-ghost use Rattle.vf_party_steps.specs.Represents.{IsAssociated, IsIdle, IsOpen};
+ghost use Rattle.vf_party_steps.specs.Represents.{IsAssociated, IsIdle, IsOpen, IsSelected};
 ghost use Rattle.vf_party_steps.specs.Writes.{IsWriting};
 ghost use Rattle.vf_party.specs.declared.party.Party.{Party as PartyMeant};
 ghost use Rattle.vf_party.specs.declared.party.Party.TheVariants as parties;
@@ -21,7 +21,9 @@ use crate::taking_idle::take_idle;
 use crate::taking_quiet::take_quiet;
 use crate::taking_reading::take_reading;
 use crate::taking_writing::take_writing;
-use crate::{Associated, Idle, Message, Open, Quiet, Reading, Recovered, Said, Setting, Writing};
+use crate::{
+    Associated, Idle, Message, Open, Quiet, Reading, Recovered, Said, Selected, Setting, Writing,
+};
 use std::alloc::Global;
 use std::mem;
 use vf_base::{NoMemory, Sequence};
@@ -94,10 +96,7 @@ impl Party {
             Party::Quiet(quiet) => {
                 return take_quiet(self, quiet, alloc, message, setting, tables, locks);
             }
-            party => {
-                let taken = party.take(alloc, message, setting, tables, locks);
-                return settled(self, taken);
-            }
+            party => return hear_moved(self, party, alloc, message, setting, tables, locks),
         }
     }
 
@@ -114,6 +113,24 @@ impl Party {
             Party::Grouping(grouping) => PartyState::leave(grouping, locks),
         }
     }
+}
+
+// Of its own, since the room for what came of the message costs each one that comes through one function with it.
+/// A party takes a message by value; the one that is left stands in the place of another.
+#[inline(never)]
+fn hear_moved(
+    place: &mut Party,
+    party: Party,
+    alloc: Global,
+    message: Message,
+    setting: Setting,
+    tables: &Tables,
+    locks: &mut Locks,
+) -> Result<Answered, NoMemory>
+    ensures { IsTurn tables.now locks.old locks.new party (setting_of setting) message (turn_in place.new result) }
+{
+    let taken = party.take(alloc, message, setting, tables, locks);
+    return settled(place, taken);
 }
 
 /// A party in a group that isn't ended (ISO 8571-3, F-BEGIN-GROUP): nothing comes of its items before its end.
@@ -225,6 +242,20 @@ impl PartyState for Associated {
 
     fn leave(self, locks: &mut Locks) {
         Associated::leave(self, locks);
+    }
+}
+
+impl PartyState for Selected {
+    ghost represents = { IsSelected };
+
+    ghost party_of = { λ selected. parties.Quiet (quiets.Selected selected) };
+
+    fn into_party(self) -> Party {
+        Party::Quiet(Quiet::Selected(self))
+    }
+
+    fn leave(self, locks: &mut Locks) {
+        Selected::leave(self, locks);
     }
 }
 
