@@ -1,15 +1,22 @@
--- A value without parts is spelled by two octets where its number is small: its identifier and the length 0.
-use Rattle.std.proofs.Common.{◌≡◌, ℕ, ◌+◌, ◌*◌, Bool, true, false, nat_eq, List, [], ◌∷◌, refl, ap, ◌∙◌}
+-- A value of context class without parts: octets that begin with its identifier and the length 0 are read as it.
+use Rattle.std.proofs.Common.{◌≡◌, ℕ, ◌+◌, ◌*◌, ◌≤◌, ◌<◌, Bool, true, List, [], ◌∷◌, ◌++◌, length, refl, sym, subst, arith, inl}
 use Rattle.std.specs.Prelude.{nat_lt}
-use Rattle.vf_ber.specs.Spelling.{spell}
-use Rattle.vf_ber.specs.Tree.{Tag, built, Trees, none, more, count}
+use Rattle.std.proofs.lemmas.Bool.{lt-ltb}
+use Rattle.vf_ber.specs.Reading.{IsReading, Read}
+use Rattle.vf_ber.specs.Spelling.{identifier}
+use Rattle.vf_ber.specs.Tree.{Tag, built, none}
 
-no_parts : (parts : Trees) → nat_eq (count parts) 0 ≡ true → parts ≡ none
-no_parts none empty = refl
-no_parts (more part parts) empty = absurd cc
+header_alone : (number : ℕ) → nat_lt number 31 ≡ true → (64 * 2 + (32 + number)) ∷ 0 ∷ [] ≡ identifier true (record { class = 2; number = number }) ++ (0 ∷ [])
+header_alone number small = rw small refl
 
-header_alone : (tag : Tag) → nat_lt tag.number 31 ≡ true → spell (built tag none) ≡ (64 * tag.class + (32 + tag.number)) ∷ 0 ∷ []
-header_alone tag small = rw small refl
+pub reads_alone : (number : ℕ) (rest : List ℕ) → number < 31 → IsReading ((64 * 2 + (32 + number)) ∷ 0 ∷ rest) (Read (built (record { class = 2; number = number }) none) 2)
+reads_alone number rest small =
+    let tag : Tag = record { class = 2; number = number } in
+    let two : 2 ≤ length ((64 * 2 + (32 + number)) ∷ 0 ∷ rest) = omega arith in
+    (two,
+    ((record { class_within = omega arith; number_within = omega arith; some_value = omega arith },
+    ([], refl, inl (0 ∷ [], inl (refl, omega arith), header_alone number (lt-ltb number 31 small)))),
+    (omega arith, omega arith)))
 
-pub two_octets : (tag : Tag) (parts : Trees) → nat_lt tag.number 31 ≡ true → nat_eq (count parts) 0 ≡ true → spell (built tag parts) ≡ (64 * tag.class + (32 + tag.number)) ∷ 0 ∷ []
-two_octets tag parts small empty = ap (λ (p : Trees). spell (built tag p)) (no_parts parts empty) ∙ header_alone tag small
+pub reads_octets : (octets : List ℕ) (number : ℕ) → number < 31 → ((rest : List ℕ) × (octets ≡ (64 * 2 + (32 + number)) ∷ 0 ∷ rest)) → IsReading octets (Read (built (record { class = 2; number = number }) none) 2)
+reads_octets octets number small (rest, is) = subst (λ (all : List ℕ). IsReading all (Read (built (record { class = 2; number = number }) none) 2)) (sym is) (reads_alone number rest small)

@@ -1,8 +1,9 @@
 //! A conversation with one party.
-ghost use Rattle.std.specs.Prelude.{◌≡◌, ◌++◌, ◌+◌, ◌<◌, ◌≤◌, [], drop, false, true, if◌then◌else◌, IfOk, All, IfSome, OnOk, Some, length, List, ℕ};
+ghost use Rattle.std.specs.Prelude.{◌≡◌, ◌++◌, ◌+◌, ◌*◌, ◌<◌, ◌≤◌, [], ◌∷◌, drop, false, true, if◌then◌else◌, IfOk, All, IfSome, OnOk, Some, length, List, ℕ};
 ghost use Rattle.std.specs.List.{flat_map, list_any};
 ghost use Rattle.vf_ber.specs.Reader.{reading};
 ghost use Rattle.vf_ber.specs.Reading.{Read, Short};
+ghost use Rattle.vf_ber.specs.Results.{IsAnswer};
 ghost use Rattle.vf_ber.specs.Views.{tree_of};
 ghost use Rattle.vf_ber_scan.specs.Scanned.{HasTaken};
 ghost use Rattle.vf_cli_dialogue.specs.declared.conversation.After.TheVariants as ends;
@@ -19,7 +20,7 @@ use crate::printed::Replies;
 use std::alloc::Global;
 use std::mem;
 use vf_base::{Moment, NoMemory, Octets};
-use vf_ber::Value;
+use vf_ber::{BerError, Tag, Value, Values};
 use vf_ber_scan::Scan;
 use vf_elements::{Message, Said};
 use vf_locks::Locks;
@@ -318,7 +319,7 @@ fn take_first(
     ensures took { IfOk result (λ first. (state : State) → Holds filestore.old state
         → TakesFirst state octets.now replies.old.lines.items replies.new.lines.items filestore.old filestore.new first) }
 {
-    let (value, length) = match vf_ber::read_shared(alloc, octets) {
+    let (value, length) = match read_value(alloc, octets) {
         Ok(read) => read,
         Err(error) => {
             let Some(place) = fault_in_octets(&error)? else {
@@ -330,6 +331,35 @@ fn take_first(
     };
     let first = take_value(alloc, filestore, &value, length, replies)?;
     Ok(Some(first))
+}
+
+/// The value that octets begin with, and how many of them it takes. One without parts is read off its first two octets.
+fn read_value(alloc: Global, octets: &Octets) -> Result<(Value, usize), BerError>
+    ensures { IsAnswer result octets.now }
+{
+    if let Some(number) = number_alone(octets.as_slice()) {
+        let value = Value::Built {
+            tag: Tag { class: 2, number },
+            parts: Values::new(alloc),
+        };
+        return Ok((value, 2));
+    }
+    let read = vf_ber::read_shared(alloc, octets)?;
+    Ok(read)
+}
+
+/// The number of the value of context class without parts that octets begin with, where it fits one octet with its class
+/// and its form, and its length is in the short form (ISO 8825, 8.1).
+fn number_alone(octets: &[u8]) -> Option<u16>
+    ensures { IfSome result (λ number. (number < 31) × ((rest : List ℕ) × (octets.now ≡ (64 * 2 + (32 + number)) ∷ 0 ∷ rest))) }
+{
+    let [first, 0, ..] = octets else {
+        return None;
+    };
+    if *first < 160 || *first > 190 {
+        return None;
+    }
+    Some(u16::from(*first - 160))
 }
 
 /// What the party makes of a value of so many octets.

@@ -87,6 +87,36 @@ fn append_pdu(alloc: Global, pdu: &Pdu, replies: &mut Replies) -> Result<(), NoM
     requires { IsInRange pdu.now }
     ensures { OnOk result (replies.new.lines.items ≡ replies.old.lines.items ++ hex_line (spell (value pdu.now))) }
 {
+    if let Some(first) = without_parts(pdu) {
+        append_header_line(first, &mut replies.lines)?;
+        return Ok(());
+    }
+    append_any_pdu(alloc, pdu, replies)
+}
+
+/// The first of the two octets that spell a response without parts, as most are: its identifier, which a length of 0
+/// follows (ISO 8571-4; ISO 8825, 8.1).
+fn without_parts(pdu: &Pdu) -> Option<u8>
+    ensures { IfSome result (λ first. spell (value pdu.now) ≡ first ∷ 0 ∷ []) }
+{
+    match pdu {
+        Pdu::SelectResponse { diagnostic: None } => Some(0xA7),
+        Pdu::DeselectResponse { diagnostic: None } => Some(0xA9),
+        Pdu::CreateResponse { diagnostic: None } => Some(0xAB),
+        Pdu::DeleteResponse { diagnostic: None } => Some(0xAD),
+        Pdu::ChangeAttribResponse { diagnostic: None } => Some(0xB1),
+        Pdu::CloseResponse { diagnostic: None } => Some(0xB5),
+        Pdu::BeginGroupResponse => Some(0xB7),
+        Pdu::EndGroupResponse => Some(0xB9),
+        _ => None,
+    }
+}
+
+/// Appends the line of any PDU.
+fn append_any_pdu(alloc: Global, pdu: &Pdu, replies: &mut Replies) -> Result<(), NoMemory>
+    requires { IsInRange pdu.now }
+    ensures { OnOk result (replies.new.lines.items ≡ replies.old.lines.items ++ hex_line (spell (value pdu.now))) }
+{
     let made = vf_pdu::to_value(alloc, pdu)?;
     vf_pdu::value_is_within();
     append_value(alloc, &made, replies)?;
@@ -108,10 +138,6 @@ fn append_value(alloc: Global, value: &Value, replies: &mut Replies) -> Result<(
     requires { IsTooLarge (tree_of value.now) → ⊥ }
     ensures { OnOk result (replies.new.lines.items ≡ replies.old.lines.items ++ hex_line (spell (tree_of value.now))) }
 {
-    if let Some(first) = only_header(value) {
-        append_header_line(first, &mut replies.lines)?;
-        return Ok(());
-    }
     replies.octets.clear();
     match vf_ber::write(alloc, value, &mut replies.octets) {
         Ok(()) => {}
@@ -120,21 +146,4 @@ fn append_value(alloc: Global, value: &Value, replies: &mut Replies) -> Result<(
     }
     append_hex_line(replies.octets.as_slice(), &mut replies.lines)?;
     Ok(())
-}
-
-/// The first of the two octets that spell a value without parts, as most replies are: its identifier, which a length of 0
-/// follows (ISO 8825, 8.1). None for other values, and for those whose number doesn't fit the first octet.
-fn only_header(value: &Value) -> Option<u8>
-    ensures { IfSome result (λ first. spell (tree_of value.now) ≡ first ∷ 0 ∷ []) }
-{
-    let Value::Built { tag, parts } = value else {
-        return None;
-    };
-    if !parts.is_empty() {
-        return None;
-    }
-    if tag.number < 31 {
-        return Some(64 * tag.class + (32 + tag.number as u8));
-    }
-    None
 }

@@ -16,6 +16,7 @@ ghost use Rattle.vf_party.specs.declared.quiet.Quiet.TheVariants as quiets;
 
 use crate::hearing::{Answered, settled, told};
 use crate::leaving::leave_quiet;
+use crate::selecting::{deselects, hear_deselect, hear_select, selects};
 use crate::taking_group::take_grouping;
 use crate::taking_idle::take_idle;
 use crate::taking_quiet::take_quiet;
@@ -92,12 +93,13 @@ impl Party {
     ) -> Result<Answered, NoMemory>
         ensures { IsTurn tables.now locks.old locks.new self.old (setting_of setting) message (turn_in self.new result) }
     {
-        match mem::replace(self, Party::arrived(0)) {
-            Party::Quiet(quiet) => {
-                return take_quiet(self, quiet, alloc, message, setting, tables, locks);
-            }
-            party => return hear_moved(self, party, alloc, message, setting, tables, locks),
+        if selects(self, &message) {
+            return hear_select(self, alloc, message, setting, tables, locks);
         }
+        if deselects(self, &message) {
+            return hear_deselect(self, alloc, message, setting, tables, locks);
+        }
+        return hear_any(self, alloc, message, setting, tables, locks);
     }
 
     /// The association is gone, without an answer: the docket of a recoverable open holds its file in the place of the
@@ -115,22 +117,27 @@ impl Party {
     }
 }
 
-// Of its own, since the room for what came of the message costs each one that comes through one function with it.
-/// A party takes a message by value; the one that is left stands in the place of another.
+/// Takes any message.
 #[inline(never)]
-fn hear_moved(
-    place: &mut Party,
-    party: Party,
+fn hear_any(
+    party: &mut Party,
     alloc: Global,
     message: Message,
     setting: Setting,
     tables: &Tables,
     locks: &mut Locks,
 ) -> Result<Answered, NoMemory>
-    ensures { IsTurn tables.now locks.old locks.new party (setting_of setting) message (turn_in place.new result) }
+    ensures { IsTurn tables.now locks.old locks.new party.old (setting_of setting) message (turn_in party.new result) }
 {
-    let taken = party.take(alloc, message, setting, tables, locks);
-    return settled(place, taken);
+    match mem::replace(party, Party::arrived(0)) {
+        Party::Quiet(quiet) => {
+            return take_quiet(party, quiet, alloc, message, setting, tables, locks);
+        }
+        before => {
+            let taken = before.take(alloc, message, setting, tables, locks);
+            return settled(party, taken);
+        }
+    }
 }
 
 /// A party in a group that isn't ended (ISO 8571-3, F-BEGIN-GROUP): nothing comes of its items before its end.

@@ -17,9 +17,9 @@ ghost use Rattle.vf_pdu.specs.PduNumbers.{number_of};
 use crate::aborting::{WRONG_STATE, aborted_in_quiet};
 use crate::departing::aborted;
 use crate::hearing::{Answered, settled};
-use crate::hearing_item::hear_item;
-use crate::items::is_item;
+use crate::items::{is_item, take_item};
 use crate::leaving::leave_quiet;
+use crate::outcomes::conclude;
 use crate::party::Party;
 use crate::taking_regime::take_own;
 use crate::{Message, Quiet, Setting};
@@ -89,11 +89,12 @@ fn take_request(
     if let Some(number) = bar {
         return abort_quiet(party, quiet, alloc, number, locks);
     }
+    let number = request.number();
     let is_item = is_item(&request);
     if is_item {
-        return hear_item(party, quiet, alloc, request, setting, tables, locks);
+        let answer = take_item(quiet, alloc, request, setting, tables, locks);
+        return conclude(party, alloc, number, answer, locks);
     }
-    let number = request.number();
     if is_leaving(number) {
         return Ok(end_quiet(alloc, quiet, locks));
     }

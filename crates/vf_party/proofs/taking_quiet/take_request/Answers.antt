@@ -24,6 +24,17 @@ returns-in-Some c = λ state party stands histories alone.
     (ap (λ stage. takes stage message) (quiet_stage c.args.quiet party alone.represented) ∙ c.requires)
     (ap first_abort (quiet_bars party (setting_of c.args.setting) c.args.quiet c.args.request alone.represented c.requires) ∙ sym c.aborted_in_quiet-bar.ensures ∙ c.in-Some.is) c.abort_quiet.ensures
 
+pub returns-then-is_item : goal.returns-then-is_item
+returns-then-is_item c =
+    let item : is_item c.args.request ≡ true = sym c.is_item-is_item.ensures ∙ c.if-is_item.true in
+    step_turn IsQuiet IsQuiet parties.Quiet parties.Quiet (λ self standing is. is) (λ self standing is. is)
+    c.args.tables.now c.args.locks.now c.take_item-answer.new.locks c.conclude.new.locks c.args.quiet (setting_of c.args.setting) (messages.Pdu c.args.request) (stage_of c.args.quiet)
+    (λ party is. quiet_stage c.args.quiet party is) c.requires
+    (λ party is. ap first_abort (quiet_bars party (setting_of c.args.setting) c.args.quiet c.args.request is c.requires) ∙ sym c.aborted_in_quiet-bar.ensures ∙ c.in_default.is)
+    (λ trace alone. ap (grouping c.args.request) alone ∙ begins_none c.args.request (item_begins_none c.args.request item)) (unassociating c.args.request (stage_of c.args.quiet) (quiet_stays c.args.quiet) c.requires)
+    c.number-number.result (λ diagnostic. refused_by_number diagnostic c.args.request ∙ ap (λ (n : ℕ). refusal_numbered n diagnostic) (sym c.number-number.ensures))
+    c.take_item-answer.result (turn_in c.conclude.new.party c.conclude.result) c.take_item-answer.ensures.consequence c.take_item-answer.ensures.kept c.conclude.ensures
+
 pub returns-then-is_leaving : goal.returns-then-is_leaving
 returns-then-is_leaving c = λ state party stands histories alone.
     let setting = setting_of c.args.setting in

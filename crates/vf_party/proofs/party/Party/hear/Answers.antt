@@ -1,7 +1,9 @@
-use Rattle.std.proofs.Common.{◌∙◌, sym, subst}
+use Rattle.std.proofs.Common.{◌∙◌, sym, subst, Result}
+use Rattle.vf_base.specs.declared.errors.NoMemory.{NoMemory}
 use Rattle.vf_party.specs.Hearing.{turn_in}
 use Rattle.vf_party.specs.Settings.{setting_of}
 use Rattle.vf_party.specs.Turns.{IsTurn}
+use Rattle.vf_party.specs.declared.party.Outcome.{Outcome}
 use Rattle.vf_party.specs.declared.party.Party.{Party}
 use Rattle.vf_party.proofs.party.Party.hear.Goals as goal
 
@@ -12,5 +14,7 @@ returns-in-Quiet c =
 
 pub returns-in_default : goal.returns-in_default
 returns-in_default c =
-    subst (λ (self : Party). IsTurn c.args.tables.now c.args.locks.now c.hear_moved.new.locks self (setting_of c.args.setting) c.args.message (turn_in c.hear_moved.new.place c.hear_moved.result))
-    c.replace.ensures.value c.hear_moved.ensures
+    subst (λ (self : Party). IsTurn c.args.tables.now c.args.locks.now c.take-taken.new.locks self (setting_of c.args.setting) c.args.message (turn_in c.settled.new.party c.settled.result))
+    c.replace.ensures.value
+    (subst (λ (result : Result Outcome (Party × NoMemory)). IsTurn c.args.tables.now c.args.locks.now c.take-taken.new.locks c.replace.result (setting_of c.args.setting) c.args.message result) (sym c.settled.ensures)
+    c.take-taken.ensures)
