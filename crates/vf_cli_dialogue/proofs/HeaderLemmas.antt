@@ -12,11 +12,16 @@ header_alone number small = rw small refl
 pub reads_alone : (number : ℕ) (rest : List ℕ) → number < 31 → IsReading ((64 * 2 + (32 + number)) ∷ 0 ∷ rest) (Read (built (record { class = 2; number = number }) none) 2)
 reads_alone number rest small =
     let tag : Tag = record { class = 2; number = number } in
-    let two : 2 ≤ length ((64 * 2 + (32 + number)) ∷ 0 ∷ rest) = omega arith in
-    (two,
-    ((record { class_within = omega arith; number_within = omega arith; some_value = omega arith },
-    ([], refl, inl (0 ∷ [], inl (refl, omega arith), header_alone number (lt-ltb number 31 small)))),
-    (omega arith, omega arith)))
+    let two : 2 ≤ length ((64 * 2 + (32 + number)) ∷ 0 ∷ rest) = omega arith in (
+      two,
+      (
+        (
+          record { class_within = omega arith; number_within = omega arith; some_value = omega arith },
+          ([], refl, inl (0 ∷ [], inl (refl, omega arith), header_alone number (lt-ltb number 31 small))),
+        ),
+        (omega arith, omega arith),
+      ),
+    )
 
 pub reads_octets : (octets : List ℕ) (number : ℕ) → number < 31 → ((rest : List ℕ) × (octets ≡ (64 * 2 + (32 + number)) ∷ 0 ∷ rest)) → IsReading octets (Read (built (record { class = 2; number = number }) none) 2)
 reads_octets octets number small (rest, is) = subst (λ (all : List ℕ). IsReading all (Read (built (record { class = 2; number = number }) none) 2)) (sym is) (reads_alone number rest small)
