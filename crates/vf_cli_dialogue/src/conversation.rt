@@ -353,10 +353,9 @@ fn request_alone(octets: &[u8]) -> Option<Pdu>
 fn number_alone(octets: &[u8]) -> Option<u16>
     ensures { IfSome result (λ number. IsReading octets.now (Read (built (record { class = 2; number = number }) none) 2)) }
 {
-    let [first, 0, ..] = octets else {
-        return None;
-    };
-    if *first < 160 || *first > 190 {
+    let (first, rest) = octets.split_first()?;
+    let (second, _) = rest.split_first()?;
+    if *second != 0 || *first < 160 || *first > 190 {
         return None;
     }
     Some(u16::from(*first - 160))

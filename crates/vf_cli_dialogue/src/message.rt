@@ -5,6 +5,7 @@ ghost use Rattle.vf_ber.specs.Reader.{reading};
 ghost use Rattle.vf_ber.specs.Results.{IsAnswer};
 ghost use Rattle.vf_ber.specs.Spelling.{spell};
 ghost use Rattle.vf_ber.specs.Views.{tree_of};
+ghost use Rattle.vf_cli_dialogue.specs.Alone.{alone};
 ghost use Rattle.vf_cli_dialogue.specs.Conversation.{IsFaultIn, IsUnread};
 ghost use Rattle.vf_cli_dialogue.specs.Dialogue.{reply};
 ghost use Rattle.vf_cli_dialogue.specs.Lines.{hex_line};
@@ -83,6 +84,7 @@ fn append_provider_abort(
 }
 
 /// Appends the line of a PDU.
+#[tactic(auto, using(crate::proofs::HeaderLemmas::alone_spells))]
 fn append_pdu(alloc: Global, pdu: &Pdu, replies: &mut Replies) -> Result<(), NoMemory>
     requires { IsInRange pdu.now }
     ensures { OnOk result (replies.new.lines.items ≡ replies.old.lines.items ++ hex_line (spell (value pdu.now))) }
@@ -94,10 +96,9 @@ fn append_pdu(alloc: Global, pdu: &Pdu, replies: &mut Replies) -> Result<(), NoM
     append_any_pdu(alloc, pdu, replies)
 }
 
-/// The first of the two octets that spell a response without parts, as most are: its identifier, which a length of 0
-/// follows (ISO 8571-4; ISO 8825, 8.1).
+/// The first of the two octets that spell a response without parameters, as most are; `None` for others.
 fn without_parts(pdu: &Pdu) -> Option<u8>
-    ensures { IfSome result (λ first. spell (value pdu.now) ≡ first ∷ 0 ∷ []) }
+    ensures { result ≡ alone pdu.now }
 {
     match pdu {
         Pdu::SelectResponse { diagnostic: None } => Some(0xA7),
