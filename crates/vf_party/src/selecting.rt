@@ -14,15 +14,17 @@ ghost use Rattle.vf_pdu.specs.PduNumbers.{number_of};
 ghost use Rattle.vf_pdu.specs.declared.pdu.Pdu.{Pdu as PduMeant};
 
 use crate::hearing::Answered;
-use crate::outcomes::conclude;
+use crate::outcomes::put;
 use crate::party::Party;
-use crate::{Message, Quiet, Setting};
+use crate::refusals::refusal;
+use crate::{Message, Quiet, Setting, StepError};
 use std::alloc::Global;
 use std::mem;
 use vf_base::NoMemory;
 use vf_locks::Locks;
 use vf_pdu::Pdu;
-use vf_tables::Tables;
+use vf_regime_refusals::{Selection, attribute_controls};
+use vf_tables::{Changes, Tables};
 
 /// Whether a party with an association and no selected file is asked for a selection.
 pub(crate) fn selects(party: &Party, message: &Message) -> bool
@@ -61,23 +63,62 @@ pub(crate) fn hear_select(
     requires message { (request : PduMeant) × (number_of request ≡ 6) × (message ≡ messages.Pdu request) }
     ensures { IsTurn tables.now locks.old locks.new party.old (setting_of setting) message (turn_in party.new result) }
 {
+    let Message::Pdu(
+        Pdu::SelectRequest {
+            name,
+            requested,
+            controls,
+            password,
+        },
+    ) = message
+    else {
+        unreachable!()
+    };
+    let selection = Selection {
+        file: name,
+        requested,
+        controls: attribute_controls(requested, controls),
+        password,
+    };
+    let Party::Quiet(Quiet::Associated(associated)) = &*party else {
+        unreachable!()
+    };
+    match associated.hold(alloc, &selection, tables, locks) {
+        Ok(said) => {
+            select_in(party, selection);
+            Ok(Answered {
+                goes: true,
+                said,
+                changes: Changes::new(alloc),
+            })
+        }
+        Err(StepError::Refused(diagnostic)) => {
+            let said = refusal(alloc, 6, diagnostic)?;
+            Ok(Answered {
+                goes: true,
+                said,
+                changes: Changes::new(alloc),
+            })
+        }
+        Err(StepError::NoMemory) => Err(NoMemory),
+    }
+}
+
+fn select_in(party: &mut Party, selection: Selection) {
     let Party::Quiet(Quiet::Associated(associated)) = mem::replace(party, Party::arrived(0)) else {
         unreachable!()
     };
-    let Message::Pdu(request) = message else {
+    put(
+        party,
+        Party::Quiet(Quiet::Selected(associated.selecting(selection))),
+    );
+}
+
+fn deselect_in(party: &mut Party) {
+    let Party::Quiet(Quiet::Selected(selected)) = mem::replace(party, Party::arrived(0)) else {
         unreachable!()
     };
-    let answer = associated.select(
-        alloc,
-        request,
-        setting.moment,
-        setting.serial,
-        setting.token,
-        setting.sync,
-        tables,
-        locks,
-    );
-    return conclude(party, alloc, 6, answer, locks);
+    put(party, Party::Quiet(Quiet::Associated(selected.around())));
 }
 
 /// The end of a selection whose file isn't open.
@@ -94,21 +135,17 @@ pub(crate) fn hear_deselect(
     requires message { message ≡ messages.Pdu PduMeant.DeselectRequest }
     ensures { IsTurn tables.now locks.old locks.new party.old (setting_of setting) message (turn_in party.new result) }
 {
-    let Party::Quiet(Quiet::Selected(selected)) = mem::replace(party, Party::arrived(0)) else {
-        unreachable!()
-    };
     let Message::Pdu(Pdu::DeselectRequest) = message else {
         unreachable!()
     };
-    let answer = selected.deselect(
-        alloc,
-        Pdu::DeselectRequest,
-        setting.moment,
-        setting.serial,
-        setting.token,
-        setting.sync,
-        tables,
-        locks,
-    );
-    return conclude(party, alloc, 8, answer, locks);
+    let Party::Quiet(Quiet::Selected(selected)) = &*party else {
+        unreachable!()
+    };
+    let said = selected.let_go(alloc, locks)?;
+    deselect_in(party);
+    Ok(Answered {
+        goes: true,
+        said,
+        changes: Changes::new(alloc),
+    })
 }

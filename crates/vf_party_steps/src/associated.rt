@@ -8,9 +8,11 @@ use crate::holding::hold_selected;
 use crate::{Associated, Said, Selected, Step, StepError};
 use std::alloc::Global;
 use vf_base::{Moment, NoMemory};
-use vf_locks::Locks;
+use vf_locks::{GrantError, Holder, Locks};
 use vf_pdu::Pdu;
-use vf_regime_refusals::{Selection, attribute_controls, refused_select};
+use vf_regime_refusals::{
+    Selection, attribute_controls, joined, not_opened, refused_apart, refused_by, refused_select,
+};
 use vf_tables::{Changes, Tables};
 
 impl Associated {
@@ -67,5 +69,42 @@ impl Associated {
             said,
             changes: Changes::new(alloc),
         })
+    }
+
+    /// The party holds the file of a selection that nothing refuses; gives the answer.
+    pub fn hold(
+        &self,
+        alloc: Global,
+        selection: &Selection,
+        tables: &Tables,
+        locks: &mut Locks,
+    ) -> Result<Vec<Said>, StepError> {
+        if let Some(diagnostic) = refused_apart(tables, &self.association, selection) {
+            return Err(StepError::Refused(diagnostic));
+        }
+        let Ok(mut said) = Vec::with_capacity(alloc, 1) else {
+            return Err(StepError::NoMemory);
+        };
+        let holder = Holder::Party {
+            link: self.association.link,
+        };
+        let wanted = joined(not_opened(), selection.controls);
+        match locks.grant(alloc, &selection.file, &holder, &wanted) {
+            Ok(()) => {}
+            Err(GrantError::NoMemory) => return Err(StepError::NoMemory),
+            Err(GrantError::Clash(conflict)) => {
+                return Err(StepError::Refused(refused_by(&conflict)));
+            }
+        }
+        said.push_reserved(Said::Pdu(Pdu::SelectResponse { diagnostic: None }));
+        Ok(said)
+    }
+
+    /// The state of this selection.
+    pub fn selecting(self, selection: Selection) -> Selected {
+        Selected {
+            associated: self,
+            selection,
+        }
     }
 }

@@ -6,7 +6,7 @@ ghost use Rattle.vf_pdu.specs.PduNumbers.{number_of};
 
 use crate::{Associated, Said, Selected, Step, StepError};
 use std::alloc::Global;
-use vf_base::Moment;
+use vf_base::{Moment, NoMemory};
 use vf_locks::{Holder, Locks};
 use vf_pdu::Pdu;
 use vf_tables::{Changes, Tables};
@@ -46,5 +46,21 @@ impl Selected {
             said,
             changes: Changes::new(alloc),
         })
+    }
+
+    /// The party no longer holds the file; gives the answer.
+    pub fn let_go(&self, alloc: Global, locks: &mut Locks) -> Result<Vec<Said>, NoMemory> {
+        let mut said = Vec::with_capacity(alloc, 1)?;
+        let holder = Holder::Party {
+            link: self.associated.association.link,
+        };
+        locks.release(&self.selection.file, &holder);
+        said.push_reserved(Said::Pdu(Pdu::DeselectResponse { diagnostic: None }));
+        Ok(said)
+    }
+
+    /// The state around the selection.
+    pub fn around(self) -> Associated {
+        self.associated
     }
 }

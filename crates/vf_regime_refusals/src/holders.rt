@@ -7,7 +7,7 @@ use crate::access::number_of;
 use std::alloc::Global;
 use vf_base::{Action, Controls, Diagnostic, Name, NoMemory};
 use vf_filestore::diagnostics::CONCURRENCY_CONFLICT;
-use vf_locks::{GrantError, Holder, Locks};
+use vf_locks::{Conflict, GrantError, Holder, Locks};
 
 /// The refusal by the first other holder of the file whose controls clash with these, on the lowest such action.
 /// Memory is taken only to name it.
@@ -39,6 +39,11 @@ pub(crate) fn alone_row(locks: &Locks, link: u32, file: &Name, action: Action) -
     let holder = Holder::Party { link };
     let other = locks.first_other(file, &holder)?;
     Some(conflict_with(action, other))
+}
+
+/// The refusal by this conflict.
+pub fn refused_by(conflict: &Conflict) -> Diagnostic {
+    conflict_with(conflict.action, &conflict.holder)
 }
 
 /// Diagnostic 16, which tells the action and the holder that stands against it.

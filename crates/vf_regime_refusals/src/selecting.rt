@@ -34,6 +34,26 @@ pub fn refused_select(
     Ok(row)
 }
 
+/// What refuses a selection but for who else holds the file: as `refused_select` does, but for 16.
+pub fn refused_apart(
+    tables: &Tables,
+    association: &Association,
+    selection: &Selection,
+) -> Option<Diagnostic> {
+    let Some(file) = named(&tables.files, &selection.file) else {
+        return refused(NAME_UNKNOWN);
+    };
+    if !attributes_usable(selection.requested, selection.controls) {
+        return refused(NOT_PERMITTED);
+    }
+    access_row(
+        file,
+        &association.identity,
+        selection.password.as_ref(),
+        selection.requested,
+    )
+}
+
 /// What refuses the selection of a file that is there, or that is to be made.
 pub(crate) fn refused_selection(
     alloc: Global,
