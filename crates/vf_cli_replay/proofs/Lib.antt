@@ -11,3 +11,4 @@ pub mod Opening
 pub mod Told
 pub mod Printing
 pub mod Firsts
+pub mod FilesLines
