@@ -11,4 +11,3 @@ pub mod Opening
 pub mod Told
 pub mod Printing
 pub mod Firsts
-pub mod FilesLines

@@ -1,5 +1,5 @@
 use Rattle.std.proofs.Common.{◌≡◌, ℕ, List, [], OnOk, append-nil, refl, subst, sym}
-use Rattle.vf_cli_calling.specs.Calling.{Calling}
+use Rattle.vf_cli_calling.specs.Calling.{Calling, SaysAll}
 use Rattle.vf_cli_calling.specs.Represents.{Represents, Speaks}
 use Rattle.vf_cli_calling.specs.declared.caller.Caller.{Caller}
 use Rattle.vf_cli_script.specs.declared.line.Act.{Act}
@@ -10,7 +10,7 @@ use Rattle.vf_cli_replay.proofs.saying.say.Goals as goal
 pub returns-in-Said : goal.returns-in-Said
 returns-in-Said c = λ calling represents.
     subst (λ (act : Act). OnOk c.say_all.result (Speaks (SaysLine calling act) c.args.octets.now.items c.say_all.new.self c.say_all.new.out.items)) (sym c.in-Said.is)
-    (subst (λ l. OnOk c.say_all.result (Speaks (SaysLine calling (acts.Said c.in-Said.moment.now l)) c.args.octets.now.items c.say_all.new.self c.say_all.new.out.items)) c.as_slice.ensures (c.say_all.ensures calling represents))
+    (subst (λ l. OnOk c.say_all.result (Speaks (SaysAll calling l) c.args.octets.now.items c.say_all.new.self c.say_all.new.out.items)) c.as_slice.ensures (c.say_all.ensures calling represents))
 
 pub returns-in-Check : goal.returns-in-Check
 returns-in-Check c = λ calling represents.
