@@ -66,7 +66,8 @@ fn live_on(
     match Responder::open(alloc, disk, life.limit) {
         Ok(responder) => live_in(alloc, life, responder, text),
         Err((disk, error)) => {
-            append_halt(life.stop, halt_of(error)?, text)?;
+            let halt = halt_of(error)?;
+            append_halt(life.stop, halt, text)?;
             Ok(disk)
         }
     }
@@ -87,7 +88,8 @@ fn live_in(
         callers: IndexMap::new(alloc),
     };
     for line in life.lines.as_slice() {
-        if let Some(halt) = links.happens(alloc, line, text)? {
+        let halted = links.happens(alloc, line, text)?;
+        if let Some(halt) = halted {
             append_halt(life.stop, halt, text)?;
             return Ok(links.responder.close());
         }

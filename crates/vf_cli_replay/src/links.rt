@@ -92,7 +92,8 @@ impl Links {
             → IfOk result (HasHappened running (Comes (script.Arrived link) ∷ Begins link sync ∷ []) text.old.items self.old.responder.store.journal.limit self.new text.new.items) }
         ensures limit { self.new.responder.store.journal.limit ≡ self.old.responder.store.journal.limit }
     {
-        match self.arrived(alloc, link, text)? {
+        let halted = self.arrived(alloc, link, text)?;
+        match halted {
             None => self.begin(alloc, link, sync, text),
             Some(halt) => Ok(Some(halt)),
         }
@@ -129,7 +130,8 @@ impl Links {
             → IfOk result (HasHappened running (Speaks link act.now ∷ []) text.old.items self.old.responder.store.journal.limit self.new text.new.items) }
         ensures limit { self.new.responder.store.journal.limit ≡ self.old.responder.store.journal.limit }
     {
-        let Some(octets) = self.speak(alloc, link, act)? else {
+        let spoken = self.speak(alloc, link, act)?;
+        let Some(octets) = spoken else {
             return Ok(None);
         };
         self.come(alloc, link, moment, octets.as_slice(), text)
@@ -162,6 +164,8 @@ impl Links {
         ensures limit { self.new.responder.store.journal.limit ≡ self.old.responder.store.journal.limit }
     {
         let mut replies = Vec::new(alloc);
+        // The checker looks for the type of the moments in an event among those of the function.
+        let _moment = first_moment();
         match self
             .responder
             .deliver(alloc, Event::Arrived { link }, &mut replies)
@@ -220,6 +224,8 @@ impl Links {
         ensures limit { self.new.responder.store.journal.limit ≡ self.old.responder.store.journal.limit }
     {
         let mut replies = Vec::new(alloc);
+        // The checker looks for the type of the moments in an event among those of the function.
+        let _moment = first_moment();
         match self
             .responder
             .deliver(alloc, Event::Ended { link }, &mut replies)

@@ -41,7 +41,7 @@ loop-line-preserved c =
       λ state represents stands.
           let gone = invariant.1 state represents stands in
           let happened = subst (λ (h : Option Halt). HasHappened gone.course.after (events_by line.link line.act) c.loop-line.text.items limit c.happens.new.self c.happens.new.text.items h)
-          c.in_default.is (c.in_ok-happens.ensures.happens gone.course.after gone.stands) in
+          c.in_default.is (c.in_ok-halted.ensures.happens gone.course.after gone.stands) in
           subst (λ (l : List LinkLine). HasGone (opened state) (events_of l) text c.happens.new.self c.happens.new.text.items) (sym (next_is lines place line c.loop-line-test.true c.line-item.is))
           (line_gone (opened state) (take place lines) line text limit c.loop-line.links c.happens.new.self c.loop-line.text.items c.happens.new.text.items gone happened),
     )
@@ -58,7 +58,7 @@ returns-in-Some c = λ state represents stands bound.
     let links = c.happens.new.self in
     let gone = invariant.1 state represents stands in
     let happened = subst (λ (h : Option Halt). HasHappened gone.course.after (events_by line.link line.act) c.loop-line.text.items limit links c.happens.new.text.items h)
-    c.in-Some.is (c.in_ok-happens.ensures.happens gone.course.after gone.stands) in
+    c.in-Some.is (c.in_ok-halted.ensures.happens gone.course.after gone.stands) in
     let all : take place lines ++ line ∷ drop (place + 1) lines ≡ life.lines = among lines place line c.loop-line-test.true c.line-item.is ∙ c.as_slice-line-items.ensures in
     let ended : HasEnded (opened state) (events_of life.lines) text limit c.in-Some.halt links.responder.store.disk c.happens.new.text.items =
     subst (λ (l : List LinkLine). HasEnded (opened state) (events_of l) text limit c.in-Some.halt links.responder.store.disk c.happens.new.text.items) all

@@ -23,6 +23,6 @@ pub returns-in-Err : goal.returns-in-Err
 returns-in-Err c = λ state keeps.
     let life = c.args.life.now in
     let is = c.stopping-disk.ensures in
-    stops_opening life state c.args.text.now.items c.append_halt.new.text.items c.args.disk c.stopping-disk.result c.in-Err.disk c.in-Err.error c.in_ok-halt_of.field-0
-    c.stopping-disk.result.faults c.in-Err.disk.faults keeps is c.in_ok-halt_of.ensures c.in-Err.ensures.causes c.in-Err.ensures.looks.calls
-    (c.in-Err.ensures.any_moment (tables_of state) (leaves_it life.stop c.args.disk c.stopping-disk.result state keeps is)) c.in_ok-append_halt.ensures.line c.in_ok-append_halt.ensures.asked
+    stops_opening life state c.args.text.now.items c.append_halt.new.text.items c.args.disk c.stopping-disk.result c.in-Err.disk c.in-Err.error c.in_ok-halt-in-Err.halt
+    c.stopping-disk.result.faults c.in-Err.disk.faults keeps is c.in_ok-halt-in-Err.ensures c.in-Err.ensures.causes c.in-Err.ensures.looks.calls
+    (c.in-Err.ensures.any_moment (tables_of state) (leaves_it life.stop c.args.disk c.stopping-disk.result state keeps is)) c.in_ok-append_halt-in-Err.ensures.line c.in_ok-append_halt-in-Err.ensures.asked

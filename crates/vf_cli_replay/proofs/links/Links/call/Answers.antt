@@ -1,7 +1,8 @@
-use Rattle.std.proofs.Common.{◌≡◌, ℕ, List, [], ◌∷◌, None, Some, refl, subst}
+use Rattle.std.proofs.Common.{◌≡◌, ℕ, List, [], ◌∷◌, Option, None, Some, refl, subst}
 use Rattle.vf_base.specs.declared.events.ScriptEvent.TheVariants.{Arrived}
 use Rattle.vf_cli_replay.specs.Running.{Begins, Comes, Event}
-use Rattle.vf_cli_replay.specs.Standing.{HasGone, HasHappened}
+use Rattle.vf_cli_replay.specs.Standing.{HasCome, HasGone, HasHappened}
+use Rattle.vf_cli_replay.specs.declared.halt.Halt.{Halt}
 use Rattle.vf_cli_replay.proofs.Delivering.{if_ok}
 use Rattle.vf_cli_replay.proofs.Going.{ended_before, event_comes, happens_then}
 use Rattle.vf_cli_replay.proofs.links.Links.call.Goals as goal
@@ -13,7 +14,8 @@ returns-in-None-clause-happens c = λ running stands.
     let text = c.args.text.now.items in
     let arrival : Event = Comes (Arrived link) in
     let gone : HasGone running (arrival ∷ []) text c.arrived.new.self c.arrived.new.text.items =
-    event_comes running running arrival (Arrived link) text limit c.arrived.new.self c.arrived.new.text.items None (refl, refl) (c.in-None.ensures.comes running stands) in
+    event_comes running running arrival (Arrived link) text limit c.arrived.new.self c.arrived.new.text.items None (refl, refl)
+    (subst (λ (h : Option Halt). HasCome running (Arrived link) text limit c.arrived.new.self c.arrived.new.text.items h) c.in-None.is (c.in_ok-halted.ensures.comes running stands)) in
     if_ok c.begin.result _ (HasHappened running (arrival ∷ Begins link c.args.sync ∷ []) text limit c.begin.new.self c.begin.new.text.items)
     (λ halt happens.
     happens_then running (arrival ∷ []) (Begins link c.args.sync ∷ []) text limit c.arrived.new.self c.begin.new.self c.arrived.new.text.items c.begin.new.text.items halt gone
@@ -27,4 +29,5 @@ returns-in-Some-clause-happens c = λ running stands.
     let text = c.args.text.now.items in
     let arrival : Event = Comes (Arrived link) in
     ended_before running (arrival ∷ []) (Begins link c.args.sync ∷ []) text limit c.in-Some.halt c.arrived.new.self.responder.store.disk c.arrived.new.text.items
-    (event_comes running running arrival (Arrived link) text limit c.arrived.new.self c.arrived.new.text.items (Some c.in-Some.halt) (refl, refl) (c.in-Some.ensures.comes running stands))
+    (event_comes running running arrival (Arrived link) text limit c.arrived.new.self c.arrived.new.text.items (Some c.in-Some.halt) (refl, refl)
+    (subst (λ (h : Option Halt). HasCome running (Arrived link) text limit c.arrived.new.self c.arrived.new.text.items h) c.in-Some.is (c.in_ok-halted.ensures.comes running stands)))

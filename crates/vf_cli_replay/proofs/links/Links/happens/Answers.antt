@@ -9,7 +9,7 @@ use Rattle.vf_cli_replay.proofs.links.Links.happens.Goals as goal
 pub returns-in-Arrive-clause-happens : goal.returns-in-Arrive-clause-happens
 returns-in-Arrive-clause-happens c = λ running stands.
     let line = c.args.line.now in
-    line_happens running line.link c.args.text.now.items c.args.self.now.responder.store.journal.limit c.arrive.new.self c.arrive.new.text.items c.arrive.result line.act (acts.Arrive c.in-Arrive.kind.now)
+    line_happens running line.link c.args.text.now.items c.args.self.now.responder.store.journal.limit c.arrive.new.self c.arrive.new.text.items c.arrive.result line.act (acts.Arrive c.in-Arrive.kind)
     c.in-Arrive.is (c.arrive.ensures.happens running stands)
 
 pub returns-in-End-clause-happens : goal.returns-in-End-clause-happens
@@ -22,7 +22,7 @@ returns-in-End-clause-happens c = λ running stands.
 pub returns-in-Said-clause-happens : goal.returns-in-Said-clause-happens
 returns-in-Said-clause-happens c = λ running stands.
     let line = c.args.line.now in
-    let act = acts.Said c.in-Said.moment.now c.in-Said.messages.now in
+    let act = acts.Said c.in-Said.moment c.in-Said.messages in
     line_says running line.link c.args.text.now.items c.args.self.now.responder.store.journal.limit c.says-in-Said.new.self c.says-in-Said.new.text.items c.says-in-Said.result line.act act
     c.in-Said.is refl (c.says-in-Said.ensures.happens running stands (sym (ap moment_of c.in-Said.is)))
 
@@ -31,30 +31,30 @@ returns-in-Octets-clause-happens c = λ running stands.
     let line = c.args.line.now in
     let limit = c.args.self.now.responder.store.journal.limit in
     let text = c.args.text.now.items in
-    line_happens running line.link text limit c.come.new.self c.come.new.text.items c.come.result line.act (acts.Octets c.in-Octets.moment.now c.in-Octets.octets.now) c.in-Octets.is
-    (line_comes running line.link text limit c.come.new.self c.come.new.text.items c.come.result (Octets line.link c.in-Octets.moment.now c.in-Octets.octets.now)
-    (subst (λ (o : List ℕ). IfOk c.come.result (HasCome running (Octets line.link c.in-Octets.moment.now o) text limit c.come.new.self c.come.new.text.items)) c.as_slice.ensures (c.come.ensures.comes running stands)))
+    line_happens running line.link text limit c.come.new.self c.come.new.text.items c.come.result line.act (acts.Octets c.in-Octets.moment c.in-Octets.octets) c.in-Octets.is
+    (line_comes running line.link text limit c.come.new.self c.come.new.text.items c.come.result (Octets line.link c.in-Octets.moment c.in-Octets.octets)
+    (subst (λ (o : List ℕ). IfOk c.come.result (HasCome running (Octets line.link c.in-Octets.moment o) text limit c.come.new.self c.come.new.text.items)) c.as_slice.ensures (c.come.ensures.comes running stands)))
 
 pub returns-in-Check-clause-happens : goal.returns-in-Check-clause-happens
 returns-in-Check-clause-happens c = λ running stands.
     let line = c.args.line.now in
-    line_says running line.link c.args.text.now.items c.args.self.now.responder.store.journal.limit c.says-in-Check.new.self c.says-in-Check.new.text.items c.says-in-Check.result line.act (acts.Check c.in-Check.moment.now)
+    line_says running line.link c.args.text.now.items c.args.self.now.responder.store.journal.limit c.says-in-Check.new.self c.says-in-Check.new.text.items c.says-in-Check.result line.act (acts.Check c.in-Check.moment)
     c.in-Check.is refl (c.says-in-Check.ensures.happens running stands (sym (ap moment_of c.in-Check.is)))
 
 pub returns-in-Acknowledge-clause-happens : goal.returns-in-Acknowledge-clause-happens
 returns-in-Acknowledge-clause-happens c = λ running stands.
     let line = c.args.line.now in
-    line_says running line.link c.args.text.now.items c.args.self.now.responder.store.journal.limit c.says-in-Acknowledge.new.self c.says-in-Acknowledge.new.text.items c.says-in-Acknowledge.result line.act (acts.Acknowledge c.in-Acknowledge.moment.now c.in-Acknowledge.point.now)
+    line_says running line.link c.args.text.now.items c.args.self.now.responder.store.journal.limit c.says-in-Acknowledge.new.self c.says-in-Acknowledge.new.text.items c.says-in-Acknowledge.result line.act (acts.Acknowledge c.in-Acknowledge.moment c.in-Acknowledge.point)
     c.in-Acknowledge.is refl (c.says-in-Acknowledge.ensures.happens running stands (sym (ap moment_of c.in-Acknowledge.is)))
 
 pub returns-in-Restart-clause-happens : goal.returns-in-Restart-clause-happens
 returns-in-Restart-clause-happens c = λ running stands.
     let line = c.args.line.now in
-    line_says running line.link c.args.text.now.items c.args.self.now.responder.store.journal.limit c.says-in-Restart.new.self c.says-in-Restart.new.text.items c.says-in-Restart.result line.act (acts.Restart c.in-Restart.moment.now c.in-Restart.point.now)
+    line_says running line.link c.args.text.now.items c.args.self.now.responder.store.journal.limit c.says-in-Restart.new.self c.says-in-Restart.new.text.items c.says-in-Restart.result line.act (acts.Restart c.in-Restart.moment c.in-Restart.point)
     c.in-Restart.is refl (c.says-in-Restart.ensures.happens running stands (sym (ap moment_of c.in-Restart.is)))
 
 pub returns-in-Pass-clause-happens : goal.returns-in-Pass-clause-happens
 returns-in-Pass-clause-happens c = λ running stands.
     let line = c.args.line.now in
-    line_says running line.link c.args.text.now.items c.args.self.now.responder.store.journal.limit c.says-in-Pass.new.self c.says-in-Pass.new.text.items c.says-in-Pass.result line.act (acts.Pass c.in-Pass.moment.now)
+    line_says running line.link c.args.text.now.items c.args.self.now.responder.store.journal.limit c.says-in-Pass.new.self c.says-in-Pass.new.text.items c.says-in-Pass.result line.act (acts.Pass c.in-Pass.moment)
     c.in-Pass.is refl (c.says-in-Pass.ensures.happens running stands (sym (ap moment_of c.in-Pass.is)))

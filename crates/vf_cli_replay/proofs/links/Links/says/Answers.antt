@@ -12,7 +12,7 @@ pub returns-in_default-clause-happens : goal.returns-in_default-clause-happens
 returns-in_default-clause-happens c = λ running stands is.
     let link = c.args.link in
     let act = c.args.act.now in
-    let spoken = c.in_ok-speak.ensures.spoken running stands in
+    let spoken = c.in_ok-spoken.ensures.spoken running stands in
     let none = none_of running link act (end_on link running.ends) c.speak.new.self
     (subst (λ o. HasSpoken running link act (option_map (λ v. v.items) o) c.speak.new.self) c.in_default.is spoken) in
     nothing_comes running (Speaks link act) c.args.text.now.items c.speak.new.self none.0 none.1
@@ -23,7 +23,7 @@ returns-clause-happens c = λ running stands is.
     let act = c.args.act.now in
     let text = c.args.text.now.items in
     let limit = c.args.self.now.responder.store.journal.limit in
-    let spoken = c.in_ok-speak.ensures.spoken running stands in
+    let spoken = c.in_ok-spoken.ensures.spoken running stands in
     let octets = c.in-Some.octets.items in
     let comes = comes_of running link act (end_on link running.ends) octets c.speak.new.self
     (subst (λ o. HasSpoken running link act (option_map (λ v. v.items) o) c.speak.new.self) c.in-Some.is spoken) in
