@@ -83,7 +83,8 @@ fn live_all(
 {
     let mut disk = disk;
     for life in lives {
-        disk = live(alloc, life, disk, text)?;
+        let left = live(alloc, life, disk, text)?;
+        disk = left;
     }
     Ok(disk)
 }

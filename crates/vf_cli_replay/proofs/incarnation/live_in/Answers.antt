@@ -64,8 +64,8 @@ returns-in-Some c = λ state represents stands bound.
     subst (λ (l : List LinkLine). HasEnded (opened state) (events_of l) text limit c.in-Some.halt links.responder.store.disk c.happens.new.text.items) all
     (line_ended (opened state) (take place lines) line (drop (place + 1) lines) text limit c.loop-line.links links c.loop-line.text.items c.happens.new.text.items c.in-Some.halt gone happened) in
     subst (λ (disk : Memory). LivesOn (LivesOpened life.stop life state) state text disk c.append_halt.new.text.items) (sym c.close-in-Some.ensures)
-    (lives_to_halt life state text c.happens.new.text.items c.append_halt.new.text.items limit c.in-Some.halt links.responder.store.disk ended (invariant.0 ∙ bound) c.in_ok-append_halt.ensures.asked
-    c.in_ok-append_halt.ensures.line)
+    (lives_to_halt life state text c.happens.new.text.items c.append_halt.new.text.items limit c.in-Some.halt links.responder.store.disk ended (invariant.0 ∙ bound) c.in_ok-append_halt-in-Some.ensures.asked
+    c.in_ok-append_halt-in-Some.ensures.line)
 
 pub returns : goal.returns
 returns c = λ state represents stands bound.

@@ -21,8 +21,8 @@ loop-life-preserved c = λ state keeps.
     let life = c.life-item.result in
     let text = c.args.text.now.items in
     let have = c.loop-life.invariant state keeps in
-    let left = c.in_ok-live.field-0 in
-    let has = c.in_ok-live.ensures (after_all (episodes_of have.all) state) have.keeps in
+    let left = c.in_ok-left.left in
+    let has = c.in_ok-left.ensures (after_all (episodes_of have.all) state) have.keeps in
     subst (λ (l : List Life). HaveLived state l text left c.live.new.text.items) (sym (next_is lives place life c.loop-life-test.true c.life-item.is))
     (one_lived state (take place lives) life text c.loop-life.text.items c.live.new.text.items c.loop-life.disk left have has)
 

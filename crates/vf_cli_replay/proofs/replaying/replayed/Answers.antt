@@ -11,8 +11,8 @@ pub returns : goal.returns
 returns c = λ good.
     let state = begun_by c.args.script in
     let keeps = c.in_ok-first.ensures good in
-    let have : HaveLived state c.args.script.lives c.new-text.result.items c.in_ok-last.last c.live_all-last.new.text.items =
-    subst (λ (l : List Life). HaveLived state l c.new-text.result.items c.in_ok-last.last c.live_all-last.new.text.items) c.as_slice.ensures (c.in_ok-last.ensures state keeps) in
+    let have : HaveLived state c.args.script.lives c.new-text.result.items c.in_ok-last.last c.live_all.new.text.items =
+    subst (λ (l : List Life). HaveLived state l c.new-text.result.items c.in_ok-last.last c.live_all.new.text.items) c.as_slice.ensures (c.in_ok-last.ensures state keeps) in
     let files = c.in_ok-append_files.ensures (after_all (episodes_of have.all) state) have.keeps in
     record {
       all = have.all;
