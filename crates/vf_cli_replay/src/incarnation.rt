@@ -83,10 +83,8 @@ fn live_in(
     ensures { (state : State) → Represents responder (unheard state) → IsRepresented shown may_leave responder.store → responder.store.journal.limit ≡ life.now.limit
         → IfOk result (λ left. LivesOn (LivesOpened life.now.stop life.now state) state text.old.items left text.new.items) }
 {
-    let mut links = Links {
-        responder,
-        callers: IndexMap::new(alloc),
-    };
+    let callers = IndexMap::new(alloc);
+    let mut links = Links { responder, callers };
     for line in life.lines.as_slice() {
         let halted = links.happens(alloc, line, text)?;
         if let Some(halt) = halted {

@@ -25,8 +25,8 @@ pub loop-line-init : goal.loop-line-init
 loop-line-init c = (
   refl,
   λ state represents stands.
-      none_gone (opened state) c.args.text.now.items (record { responder = c.args.responder; callers = c.new-links.result })
-      (record { responder = represents; stored = stands; callers = no_ends c.new-links.result.entries c.new-links.ensures.entries }),
+      none_gone (opened state) c.args.text.now.items (record { responder = c.args.responder; callers = c.new-callers.result })
+      (record { responder = represents; stored = stands; callers = no_ends c.new-callers.result.entries c.new-callers.ensures.entries }),
 )
 
 pub loop-line-preserved : goal.loop-line-preserved

@@ -19,8 +19,8 @@ returns-in-Ok c = λ state keeps.
     (c.live_in.ensures state (c.in-Ok.ensures.begins keeps.image (tables_of state) (unheard state) shows keeps.represents (begins_so state keeps.begins))
     (c.in-Ok.ensures.represented keeps.image (tables_of state) shows keeps.represents).1 c.in-Ok.ensures.limit)
 
-pub returns-in-Err : goal.returns-in-Err
-returns-in-Err c = λ state keeps.
+pub returns : goal.returns
+returns c = λ state keeps.
     let life = c.args.life.now in
     let is = c.stopping-disk.ensures in
     stops_opening life state c.args.text.now.items c.append_halt.new.text.items c.args.disk c.stopping-disk.result c.in-Err.disk c.in-Err.error c.in_ok-halt-in-Err.halt
