@@ -7,3 +7,5 @@ pub mod Hearing
 pub mod Disks
 pub mod Standing
 pub mod Users
+pub mod Calls
+pub mod CallExamples

@@ -6,8 +6,10 @@ mod ends;
 mod halt;
 mod hearing;
 mod incarnation;
+mod laws;
 mod links;
 mod replaying;
 mod saying;
 
+pub use laws::lives_compute;
 pub use replaying::replay;
