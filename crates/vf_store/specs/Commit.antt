@@ -3,7 +3,7 @@
 use Rattle.std.specs.Prelude.{◌≡◌, ℕ, ◌+◌, ◌≤◌, true, not, List, [], ◌∷◌, ◌++◌, length, Option, None, Some, IfSome}
 use Rattle.std.specs.Option.{option_map}
 use Rattle.vf_disk.specs.declared.step.Step.{Step}
-use Rattle.vf_journal.specs.JournalState.{JournalState, new_start, placing}
+use Rattle.vf_journal.specs.JournalState.{JournalState, after_append, after_switch, new_area, new_start, placing}
 use Rattle.vf_journal.specs.Records.{IsArea, IsEntry, area_with, entry_of}
 use Rattle.vf_journal.specs.Writes.{append_steps, prepare_steps, switch_steps}
 use Rattle.vf_journal.specs.declared.placing.Placing.{Placing}
@@ -44,6 +44,16 @@ written_steps journal (Some area) entry =
 -- those of a commit
 abbrev pub commit_steps : JournalState → Tables → List Change → List Step
 commit_steps journal tables changes = written_steps journal (area_planned tables (placed journal tables changes).switch) (entry_of (record_of changes))
+
+-- the journal after a move to an area, where there is one
+abbrev pub after_move : JournalState → Option (List ℕ) → JournalState
+after_move journal None = journal
+after_move journal (Some area) = after_switch journal (new_area journal (length area))
+
+-- and after a commit
+abbrev pub after_commit : JournalState → Tables → List Change → JournalState
+after_commit journal tables changes =
+    after_append (after_move journal (area_planned tables (placed journal tables changes).switch)) (length (record_of changes))
 
 -- an area of one record that makes these tables
 abbrev pub IsAreaOf : Tables → List ℕ → Type 0

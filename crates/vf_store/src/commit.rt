@@ -9,7 +9,7 @@ ghost use Rattle.vf_journal.specs.Writes.{Shows};
 ghost use Rattle.vf_store_record.specs.Records.{changes_of, record_of};
 ghost use Rattle.vf_store.specs.Answers.{CommitAnswers, CommitSteps};
 ghost use Rattle.vf_store.specs.Built.{IsBuilt, LeadsOn};
-ghost use Rattle.vf_store.specs.Commit.{AreFitting, commit_steps, placed};
+ghost use Rattle.vf_store.specs.Commit.{AreFitting, after_commit, commit_steps, placed};
 ghost use Rattle.vf_store.specs.Represented.{RepresentsEither, made};
 ghost use Rattle.vf_store.specs.StoreState.{TablesStand};
 ghost use Rattle.vf_tables.specs.Changes.{after_all};
@@ -156,6 +156,7 @@ pub(crate) fn commit_on<D: Disk>(
         → LeavesOnly D.moment D.left_since disk.old disk.new (RepresentsEither tables.old (after_all tables.old changes.now)) }
     ensures answers { CommitAnswers {S = JournalState × D × TablesMeant} (journal.old, disk.old, tables.old) (journal.new, disk.new, tables.new) (placed journal.old tables.old changes.now).end journal.old.limit (D.fault_count disk.old) (D.fault_count disk.new) result }
     ensures steps { CommitSteps (commit_steps journal.old tables.old changes.now) (D.plan disk.old) (D.plan disk.new) (D.state disk.old) (D.state disk.new) (D.lack_count disk.old) (D.lack_count disk.new) result }
+    ensures moved { OnOk result (journal.new ≡ after_commit journal.old tables.old changes.now) }
     ensures limit { journal.new.limit ≡ journal.old.limit }
     ensures within { IsWithin journal.new (D.size disk.new) }
 {

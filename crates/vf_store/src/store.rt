@@ -9,7 +9,7 @@ ghost use Rattle.vf_journal.specs.Layout.{new_journal};
 ghost use Rattle.vf_journal.specs.Looking.{IsSyncedAndLookedAt};
 ghost use Rattle.vf_journal.specs.Writes.{Shows, create_steps};
 ghost use Rattle.vf_store.specs.Answers.{CommitAnswers, CommitSteps, OpenAnswers};
-ghost use Rattle.vf_store.specs.Commit.{AreFitting, commit_steps, placed};
+ghost use Rattle.vf_store.specs.Commit.{AreFitting, after_commit, commit_steps, placed};
 ghost use Rattle.vf_store.specs.Counts.{counts_of};
 ghost use Rattle.vf_store.specs.Represented.{IsNoneOrNew, Represents, RepresentsEither, read_from};
 ghost use Rattle.vf_store.specs.StoreState.{IsRepresented, answer_of, disk_of};
@@ -160,6 +160,7 @@ impl<D: Disk> Store<D> {
             → LeavesOnly D.moment D.left_since self.old.disk self.new.disk (RepresentsEither self.old.tables (after_all self.old.tables changes)) }
         ensures answers { CommitAnswers self.old self.new (placed self.old.journal self.old.tables changes).end self.old.journal.limit (D.fault_count self.old.disk) (D.fault_count self.new.disk) result }
         ensures steps { CommitSteps (commit_steps self.old.journal self.old.tables changes) (D.plan self.old.disk) (D.plan self.new.disk) (D.state self.old.disk) (D.state self.new.disk) (D.lack_count self.old.disk) (D.lack_count self.new.disk) result }
+        ensures journal { OnOk result (self.new.journal ≡ after_commit self.old.journal self.old.tables changes) }
         ensures limit { self.new.journal.limit ≡ self.old.journal.limit }
     {
         commit_on(

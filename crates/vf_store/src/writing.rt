@@ -7,7 +7,7 @@ ghost use Rattle.vf_journal.specs.Answers.{FaultAlone};
 ghost use Rattle.vf_journal.specs.JournalState.{IsWithin, after_append, after_prepare, after_switch, new_area, new_start};
 ghost use Rattle.vf_journal.specs.Records.{IsArea, IsEntry};
 ghost use Rattle.vf_journal.specs.Writes.{Shows, append_steps, prepare_steps, switch_steps};
-ghost use Rattle.vf_store.specs.Commit.{IsAreaOf, IsEntryOf, IsWritable, Leads, end_of, written_steps};
+ghost use Rattle.vf_store.specs.Commit.{IsAreaOf, IsEntryOf, IsWritable, Leads, after_move, end_of, written_steps};
 ghost use Rattle.vf_store.specs.Represented.{Represents, RepresentsEither};
 ghost use Rattle.vf_store.specs.StoreState.{TablesStand};
 ghost use Rattle.vf_tables.specs.declared.tables.Tables.{Tables};
@@ -77,6 +77,7 @@ pub(crate) fn write<D: Disk>(
         → Shows (D.shown disk.new) (RepresentsEither before after) }
     ensures any_moment { (before after : Tables) → Leads (option_map (λ octets. octets.items) area.now) entry.now before after → TablesStand D.shown D.may_leave journal.old disk.old before
         → LeavesOnly D.moment D.left_since disk.old disk.new (RepresentsEither before after) }
+    ensures moved { OnOk result (journal.new ≡ after_append (after_move journal.old (option_map (λ octets. octets.items) area.now)) (length entry.now - 5)) }
     ensures limit { journal.new.limit ≡ journal.old.limit }
     ensures within { IsWithin journal.new (D.size disk.new) }
     ensures steps { MakesSteps (written_steps journal.old (option_map (λ octets. octets.items) area.now) entry.now) (D.plan disk.old) (D.plan disk.new) (D.state disk.old) (D.state disk.new) (is_err result) (D.lack_count disk.old) (D.lack_count disk.new) }

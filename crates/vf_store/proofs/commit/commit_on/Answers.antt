@@ -1,9 +1,13 @@
-use Rattle.std.proofs.Common.{◌<◌, ◌≤◌, ◌∙◌, List, ap, arith, refl}
+use Rattle.std.proofs.Common.{◌≡◌, ◌<◌, ◌≤◌, ◌-◌, ◌∙◌, ℕ, List, length, ap, arith, refl}
 use Rattle.std.proofs.lemmas.Result.{err_from_is_err_and}
 use Rattle.vf_tables.specs.Changes.{after_all}
 use Rattle.vf_tables.specs.declared.change.Change.{Change}
 use Rattle.vf_store.specs.Built.{area_in}
-use Rattle.vf_store.specs.Commit.{placed}
+use Rattle.vf_journal.proofs.Lengths.{length-entry_of}
+use Rattle.vf_journal.specs.JournalState.{after_append}
+use Rattle.vf_journal.specs.Records.{entry_of}
+use Rattle.vf_store_record.specs.Records.{record_of}
+use Rattle.vf_store.specs.Commit.{after_move, area_planned, placed}
 use Rattle.vf_store.proofs.Causes.{only_fault}
 use Rattle.vf_store.proofs.Committing.{writable}
 use Rattle.vf_store.proofs.Runs.{idle_either, idle_seen}
@@ -88,3 +92,9 @@ returns-in_err-write-clause-steps g c =
 
 pub returns-clause-steps : goal.returns-clause-steps
 returns-clause-steps g c = rw (c.as_slice-2.ensures.value, c.in_ok-built.ensures.built.entry, c.in_ok-built.ensures.built.area) at c.in_ok-write.ensures.steps
+
+pub returns-clause-moved : goal.returns-clause-moved
+returns-clause-moved g c =
+    let moved = rw (c.as_slice-2.ensures.value, c.in_ok-built.ensures.built.entry, c.in_ok-built.ensures.built.area) at c.in_ok-write.ensures.moved in
+    let count : length (entry_of (record_of c.args.changes.now)) - 5 ≡ length (record_of c.args.changes.now) = omega (arith, length-entry_of (record_of c.args.changes.now)) in
+    moved ∙ ap (λ (n : ℕ). after_append (after_move c.args.journal.now (area_planned c.args.tables.now (placed c.args.journal.now c.args.tables.now c.args.changes.now).switch)) n) count

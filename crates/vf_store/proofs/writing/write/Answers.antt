@@ -1,8 +1,8 @@
-use Rattle.std.proofs.Common.{inl, ◌+◌, ◌++◌, length, not, true, false}
+use Rattle.std.proofs.Common.{inl, ◌∙◌, ◌+◌, ◌-◌, ◌++◌, ap, length, not, true, false}
 use Rattle.std.proofs.lemmas.Result.{err_from_is_err_and}
 use Rattle.vf_disk.proofs.Rows.{steps_failed, steps_joined}
 use Rattle.vf_disk.proofs.Runs.{joined, weaker}
-use Rattle.vf_journal.specs.JournalState.{new_start}
+use Rattle.vf_journal.specs.JournalState.{JournalState, after_append, new_start}
 use Rattle.vf_journal.specs.Writes.{append_steps, prepare_steps, switch_steps}
 use Rattle.vf_store.specs.Represented.{Represents, RepresentsEither}
 use Rattle.vf_store.proofs.Runs.{shows_weaker}
@@ -76,3 +76,8 @@ returns-in-Some-clause-steps g c =
     rw c.in-Some.is (steps_joined (prepare_steps start c.in-Some.area.items (not c.args.journal.now.second) ++ switch_steps (not c.args.journal.now.second)) (append_steps (start + length c.in-Some.area.items) c.args.entry.now)
     (g.D.Disk.plan c.args.disk.now) (g.D.Disk.plan c.move_over.new.disk) (g.D.Disk.plan c.append.new.disk) (g.D.Disk.state c.args.disk.now) (g.D.Disk.state c.move_over.new.disk) (g.D.Disk.state c.append.new.disk)
     false (g.D.Disk.lack_count c.args.disk.now) (g.D.Disk.lack_count c.move_over.new.disk) (g.D.Disk.lack_count c.append.new.disk) first second)
+
+pub returns-in-Some-clause-moved : goal.returns-in-Some-clause-moved
+returns-in-Some-clause-moved g c =
+    let first = rw c.as_slice.ensures.value at c.in_ok-move_over.ensures.moved in
+    rw c.in-Some.is (c.in_ok-append.ensures.moved ∙ ap (λ (journal : JournalState). after_append journal (length c.args.entry.now - 5)) first)
