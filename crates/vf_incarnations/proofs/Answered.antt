@@ -32,13 +32,14 @@ use Rattle.vf_stack.specs.declared.indication.Indication.{Indication}
 use Rattle.vf_stack.specs.declared.indication.Indication.TheVariants as indications
 use Rattle.vf_responder.proofs.ReadLemmas.{all-read}
 use Rattle.vf_responder.specs.Answers.{Answer, after_octet, answering, answering_on, arrival, at_end, breaking, ended, giving_way, most_links, octet_heard, octets_heard, says, setting_at, speaking, told, told_all, with_octet}
+use Rattle.vf_responder.specs.AnswersTo.{any_setting, to_arrival, to_break, to_ending, to_event, to_indication, to_indication_of, to_indications, to_meant, to_octet, to_octets, to_way}
 use Rattle.vf_responder.specs.Meanings.{Meaning, meaning, transfer_check}
 use Rattle.vf_responder.specs.Meanings as meant
 use Rattle.vf_responder.specs.Run.{run, trail}
 use Rattle.vf_responder.specs.Serving.{Serving, stands, with_association}
 use Rattle.vf_responder.specs.Steps.{IsReadMeaning, IsReadTold}
 use Rattle.vf_incarnations.specs.Laws.{AreTo, Does, EventsAreAnswered, IsTo}
-use Rattle.vf_incarnations.specs.Messages.{any_setting, to_arrival, to_break, to_ending, to_event, to_events, to_indication, to_indication_of, to_indications, to_meant, to_octet, to_octets, to_way}
+use Rattle.vf_incarnations.specs.Messages.{to_events}
 
 -- ---- answers one after another
 

@@ -17,6 +17,7 @@ use Rattle.vf_tables.specs.declared.tables.Tables.{Tables}
 use Rattle.vf_responder.proofs.ChainLemmas.{at_end-join, spoken-join}
 use Rattle.vf_responder.proofs.Lives.{run-append}
 use Rattle.vf_responder.specs.Along.{RepresentsPast}
+use Rattle.vf_responder.specs.AnswersTo.{to_event}
 use Rattle.vf_responder.specs.Answers.{Answer, at_end, ended, spoken_in}
 use Rattle.vf_responder.specs.Run.{after, run, tables_in, trail}
 use Rattle.vf_responder.specs.Served.{IsFront, IsSent, KeepsAnswered, Serves, answered, breaks_at, but_last, is_noted_at, lived, lived_from, lived_with, octets_by, octets_on, octets_to}
@@ -28,7 +29,7 @@ use Rattle.vf_incarnations.proofs.Answered.{event-to, events_are_answered, to-re
 use Rattle.vf_incarnations.proofs.Lives.{incarnations_are_serial}
 use Rattle.vf_incarnations.specs.Incarnations.{Incarnation, Incarnates, Stop, answers, cut_short, left_by}
 use Rattle.vf_incarnations.specs.Laws.{MayBegin}
-use Rattle.vf_incarnations.specs.Messages.{to_event, to_events}
+use Rattle.vf_incarnations.specs.Messages.{to_events}
 use Rattle.vf_incarnations.specs.Served.{EachMomentIsAStop, EndsSo, IsIncarnation, IsSentBy, IsSerial, ServingIncarnates, events_to}
 
 -- ---- the first of some answers

@@ -14,12 +14,13 @@ use Rattle.vf_serial.proofs.Serial.{runs_serial}
 use Rattle.vf_serial.specs.Laws.{AreNew, EachUse, IsUsedSerially}
 use Rattle.vf_serial.specs.Moves.{Happening, Happens, state_after}
 use Rattle.vf_responder.specs.Answers.{Answer, at_end}
+use Rattle.vf_responder.specs.AnswersTo.{to_event}
 use Rattle.vf_responder.specs.Run.{trail}
 use Rattle.vf_responder.specs.Serving.{Serving, unheard}
 use Rattle.vf_incarnations.proofs.Answered.{event-to, events_are_answered, to-join, to-reached, to-take}
 use Rattle.vf_incarnations.specs.Incarnations.{Incarnation, Stop, Episode, Incarnates, Drops, answers, cut_short, left_by, whole}
 use Rattle.vf_incarnations.specs.Laws.{AreTo, BeginsSo, IncarnationsAreOneRun, IncarnationsAreRuns, IncarnationsAreSerial, MayBegin, NewStoresBegin}
-use Rattle.vf_incarnations.specs.Messages.{events_among, happenings, to_cut_short, to_event, to_events, to_incarnation}
+use Rattle.vf_incarnations.specs.Messages.{events_among, happenings, to_cut_short, to_events, to_incarnation}
 
 -- ---- the events of answers, as a run
 

@@ -4,36 +4,24 @@ use Rattle.std.specs.Prelude.{ℕ, ◌+◌, ◌-◌, Bool, true, false, not, ◌
 use Rattle.vf_base.specs.declared.events.ScriptEvent.{ScriptEvent}
 use Rattle.vf_disk.specs.declared.crash_form.CrashForm.{CrashForm}
 use Rattle.vf_disk.specs.declared.crash_form.CrashForm.TheVariants.{Keep, Lose, Fill}
-use Rattle.vf_filestore.specs.Records.{changes_by}
-use Rattle.vf_filestore.specs.Runs.{Event, Takes}
+use Rattle.vf_filestore.specs.Runs.{Event}
 use Rattle.vf_filestore.specs.State.{State}
-use Rattle.vf_journal.specs.JournalState.{JournalState, after_append, after_switch, new_area}
-use Rattle.vf_journal.specs.Records.{area_with}
-use Rattle.vf_store.specs.Commit.{commit_steps, placed}
-use Rattle.vf_store_record.specs.Records.{record_of}
-use Rattle.vf_tables.specs.Snapshot.{snapshot}
+use Rattle.vf_journal.specs.JournalState.{JournalState}
+use Rattle.vf_store.specs.Commit.{after_commit, commit_steps, placed}
 use Rattle.vf_tables.specs.declared.change.Change.{Change}
 use Rattle.vf_tables.specs.declared.tables.Tables.{Tables}
 use Rattle.vf_responder.specs.Answers.{Answer, at_end}
+use Rattle.vf_responder.specs.AnswersTo.{to_event}
+use Rattle.vf_responder.specs.Commits.{changes_in}
 use Rattle.vf_responder.specs.Run.{tables_in, trail}
 use Rattle.vf_responder.specs.Serving.{Serving, unheard}
 use Rattle.vf_incarnations.specs.Incarnations.{Incarnation}
-use Rattle.vf_incarnations.specs.Messages.{to_event}
 
 -- where a stop is to be: so many calls from now on, up to and with the stopped one, and what the crash then leaves of what wasn't
 -- synced
 pub record Plan : Type 0 where
   pub left : Option ℕ
   pub form : CrashForm
-
--- THE JOURNAL after a commit, which moves to another area where that is due and possible
-abbrev pub after_move : JournalState → Tables → Option ℕ → JournalState
-after_move journal tables None = journal
-after_move journal tables (Some start) = after_switch journal (new_area journal (length (area_with (record_of (snapshot tables)))))
-
-abbrev pub after_commit : JournalState → Tables → List Change → JournalState
-after_commit journal tables changes =
-    after_append (after_move journal tables (placed journal tables changes).switch) (length (record_of changes))
 
 -- A COMMIT goes through, stops, so that its changes stand or don't, or is full. They stand where the stopped call is one of its
 -- last two, by which its gate is opened, unless the crash takes that write away or makes it an octet 0.
@@ -65,10 +53,6 @@ pub record Course : Type 0 where
   pub answers : ℕ
   pub progress : Progress
 
-abbrev pub changes_to : State → Option Event → List Change
-changes_to state (Some (Takes link setting message)) = changes_by state link setting message
-changes_to state _ = []
-
 abbrev pub with_one : Course → Course
 with_one course = record course { answers = course.answers + 1 }
 
@@ -80,7 +64,7 @@ then_goes later IsFull = record { answers = 0; progress = IsFull }
 abbrev pub course : Plan → JournalState → Serving → List Answer → List (Option Event) → Course
 course plan journal serving (answer ∷ later) (event ∷ events) =
     then_goes (λ plan journal. course plan journal answer.state later events)
-    (committing plan journal (tables_in serving) (changes_to serving.filestore event))
+    (committing plan journal (tables_in serving) (changes_in serving.filestore event))
 course plan journal serving _ _ = record { answers = 0; progress = Goes plan journal }
 
 abbrev pub course_of : Plan → JournalState → Serving → ScriptEvent → Course

@@ -8,9 +8,11 @@ use Rattle.vf_disk.proofs.Runs.{weaker}
 use Rattle.vf_disk.specs.Disk.{LeavesOnly}
 use Rattle.vf_filestore.specs.Dockets.{broken}
 use Rattle.vf_filestore.specs.HoldersAfter.{Keeps}
+use Rattle.vf_filestore.specs.Sound.{IsSound}
 use Rattle.vf_filestore.specs.State.{StandingParty, party_of}
 use Rattle.vf_filestore.specs.Transition.{leaves}
 use Rattle.vf_journal.specs.declared.error.JournalError.{JournalError}
+use Rattle.vf_journal.specs.declared.error.JournalError.TheVariants.{NoMemory}
 use Rattle.vf_party.specs.Turns.{IsParty, LeavesParty}
 use Rattle.vf_party.specs.declared.party.Party.{Party}
 use Rattle.vf_session.specs.declared.units.TokenSide.{TokenSide}
@@ -27,8 +29,10 @@ use Rattle.vf_stack.specs.declared.indication.Indication.TheVariants as indicati
 use Rattle.vf_store.specs.StoreState.{StoreState}
 use Rattle.vf_tpkt.specs.Wanting.{lacking}
 use Rattle.vf_responder.proofs.ChainLemmas.{along-front, along-later, joined-answers}
+use Rattle.vf_responder.proofs.CommitLemmas.{all-made, up-front}
+use Rattle.vf_responder.proofs.CommitParts.{ending-commits}
 use Rattle.vf_responder.proofs.FullLemmas.{full-to}
-use Rattle.vf_responder.proofs.Heard.{IsSame, few-heard, few-heard-full, heard_by, whole}
+use Rattle.vf_responder.proofs.Heard.{IsSame, few-heard, few-heard-commits, few-heard-full, heard_by, whole}
 use Rattle.vf_responder.proofs.MapLemmas.{last-free, link_of-own}
 use Rattle.vf_responder.proofs.MoveLemmas.{none-by}
 use Rattle.vf_responder.proofs.PieceLoopLemmas.{apart-on}
@@ -37,6 +41,8 @@ use Rattle.vf_responder.proofs.SaysLemmas.{says-gone}
 use Rattle.vf_responder.proofs.StandLemmas.{IsOn, on-link, stands-by, stays-on}
 use Rattle.vf_responder.specs.Along.{RepresentsAlong}
 use Rattle.vf_responder.specs.Answers.{Answer, after_octet, at_end, breaking, octets_heard, says, speaking, told_all}
+use Rattle.vf_responder.specs.AnswersTo.{to_ending}
+use Rattle.vf_responder.specs.Commits.{AreMade, AreMadeUpTo, Commit, DiskTells, commits, commits_heard, commits_told_all}
 use Rattle.vf_responder.specs.Hears.{IsHeard}
 use Rattle.vf_responder.specs.Replies.{sending_all}
 use Rattle.vf_responder.specs.Full.{AtFull, IsFullAt}
@@ -206,6 +212,35 @@ module _ {D : Type 0} (moment : ℕ) (link link' : Link) (kept : Kept D) (octets
         subst (λ (b : Bool). Answers turns heard.state mid (put_back b link2 kept') mid') is
         (subst (λ (answers : List Answer). Answers answers heard.state mid (put_back goes link2 kept') mid') turns-are (does heard.state heard-represents))
 
+    -- the commits of the turns, and then of what comes after
+    abbrev then : Serving
+    then = at_end heard.state turns
+
+    abbrev ending : List Commit
+    ending = commits then (after_octet link.number then) (to_ending then (party_of link.number then.filestore.parties))
+
+    commits-are : commits_heard moment link.number serving octets ≡ commits_told_all moment link'.number heard.state told ++ ending
+    commits-are =
+        few-heard-commits moment link.number octets serving some (ap (λ (p : Option StandingParty). is_some p) on_link.found)
+        (subst (λ (side : TokenSide). TellsLast side (serving.associations link.number) octets) on_link.is.called.called
+        (few-last link.stack (serving.associations link.number) octets on_link.is.called.represents few))
+        ∙ sym (ap (λ (n : ℕ). commits_told_all moment n heard.state told ++ ending) numbered
+        ∙ ap (λ (all : List Indication). commits_told_all moment link.number heard.state all ++ ending) is_heard.told_is)
+
+    commits-made : (tells : DiskTells D) (store : StoreState D) → IsSound then.filestore → AreMade tells (commits_told_all moment link'.number heard.state told) kept.store store
+        → AreMade tells (commits_heard moment link.number serving octets) kept.store store
+    commits-made tells store sound made =
+        let front = commits_told_all moment link'.number heard.state told in
+        let none : ending ≡ [] = ending-commits link.number then (party_of link.number then.filestore.parties) sound refl in
+        subst (λ (all : List Commit). AreMade tells all kept.store store)
+        (sym (commits-are ∙ ap (λ (more : List Commit). front ++ more) none ∙ append-nil front)) made
+
+    commits-up : (tells : DiskTells D) (store : StoreState D) (error : JournalError) → AreMadeUpTo tells error (commits_told_all moment link'.number heard.state told) kept.store store
+        → AreMadeUpTo tells error (commits_heard moment link.number serving octets) kept.store store
+    commits-up tells store error up =
+        subst (λ (all : List Commit). AreMadeUpTo tells error all kept.store store) (sym commits-are)
+        (up-front tells error (commits_told_all moment link'.number heard.state told) ending kept.store store up)
+
   abbrev Told : Type 0
   Told = AllByRecursion IsReadTold told
 
@@ -233,8 +268,28 @@ module _ {D : Type 0} (moment : ℕ) (link link' : Link) (kept : Kept D) (octets
       (few-last link.stack (serving.associations link.number) octets (on_link serving represents).is.called.represents few))
       (subst (λ (answers : List Answer). IsFullAt answers s store place) (turns-are serving represents) at))
 
+  pub few-up : (tells : DiskTells D) (store : StoreState D) (error : JournalError)
+      → (Told → (s : Serving) → Represents (with_link link' kept) s → AreMadeUpTo tells error (commits_told_all moment link'.number s told) kept.store store)
+      → (s : Serving) → Represents (with_link link kept) s → AreMadeUpTo tells error (commits_heard moment link.number s octets) kept.store store
+  few-up tells store error up serving represents =
+      commits-up serving represents tells store error (up (told-read serving represents) (heard serving represents).state (heard-represents serving represents))
+
+  -- memory is wanting after the turns
+  pub few-then : (tells : DiskTells D) (store : StoreState D)
+      → (Told → (s : Serving) → Represents (with_link link' kept) s → AreMade tells (commits_told_all moment link'.number s told) kept.store store)
+      → (s : Serving) → Represents (with_link link kept) s → AreMadeUpTo tells NoMemory (commits_heard moment link.number s octets) kept.store store
+  few-then tells store made =
+      few-up tells store NoMemory (λ read s stood. all-made tells (commits_told_all moment link'.number s told) kept.store store (made read s stood))
+
   -- With the turns the link's party is gone, or it goes on, or it breaks then.
   module _ (goes : Bool) (link2 : Link) (kept' : Kept D) (mid' : List Reply) (does : Told → Does (λ s. told_all moment link'.number s told) (with_link link' kept) mid (put_back goes link2 kept') mid') where
+    pub few-made : (tells : DiskTells D) (store : StoreState D)
+        → (Told → (s : Serving) → Represents (with_link link' kept) s → AreMade tells (commits_told_all moment link'.number s told) kept.store store)
+        → (s : Serving) → Represents (with_link link kept) s → AreMade tells (commits_heard moment link.number s octets) kept.store store
+    few-made tells store made serving represents =
+        let took = turned serving represents goes goes link2 kept' mid' refl (does (told-read serving represents)) in
+        commits-made serving represents tells store took.represents.reached.sound (made (told-read serving represents) (heard serving represents).state (heard-represents serving represents))
+
     pub few-gone : goes ≡ false → (link_of link'.number kept.links ≡ None → link_of link'.number kept'.links ≡ None) → Does (λ s. octets_heard moment link.number s octets) (with_link link kept) old kept' mid'
     few-gone is apart serving represents =
         let took = turned serving represents false goes link2 kept' mid' is (does (told-read serving represents)) in

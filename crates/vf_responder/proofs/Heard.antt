@@ -4,6 +4,7 @@ use Rattle.std.proofs.Common.{◌≡◌, ◌<◌, ℕ, zero, suc, Bool, true, fa
 use Rattle.std.specs.Prelude.{is_some, if◌then◌else◌}
 use Rattle.vf_filestore.specs.State.{StandingParty, party_of}
 use Rattle.vf_filestore.specs.Diagnostics.{superseded}
+use Rattle.vf_filestore.specs.Runs.{Event}
 use Rattle.vf_filestore.specs.Transition.{aborts, leaves}
 use Rattle.vf_filestore.specs.Dockets.{broken}
 use Rattle.vf_filestore.proofs.Others.{breaks_leave_none}
@@ -19,12 +20,16 @@ use Rattle.vf_store.specs.Represented.{Represents as ImageRepresents}
 use Rattle.vf_store.specs.StoreState.{StoreState}
 use Rattle.vf_tables.specs.declared.tables.Tables.{Tables}
 use Rattle.vf_responder.proofs.ChainLemmas.{at_end-join}
+use Rattle.vf_responder.proofs.CommitLemmas.{commits-join}
+use Rattle.vf_responder.proofs.CommitParts.{commits_octet, first-commits, gone-commits, told_all-each}
 use Rattle.vf_responder.proofs.FewLemmas.{IsOver, says-over}
 use Rattle.vf_responder.proofs.FullLemmas.{full-after, full-front}
 use Rattle.vf_responder.proofs.StandLemmas.{with-own}
 use Rattle.vf_responder.proofs.TellLemmas.{heard-gone}
 use Rattle.vf_responder.specs.Along.{RepresentsAlong}
 use Rattle.vf_responder.specs.Answers.{Answer, after_octet, answering, answering_on, at_end, breaking, given_to, giving_way, in_the_way, octet_heard, octets_heard, says, setting_at, speaking, spoken_in, told, told_all}
+use Rattle.vf_responder.specs.AnswersTo.{to_ending, to_indications, to_octets}
+use Rattle.vf_responder.specs.Commits.{Commit, commits, commits_heard, commits_told_all}
 use Rattle.vf_responder.specs.Full.{IsFullAt}
 use Rattle.vf_responder.specs.Meanings.{Meaning, meaning, transfer_check}
 use Rattle.vf_responder.specs.Run.{tables_in}
@@ -123,19 +128,23 @@ module _ (link : ℕ) where
       ap (λ (b : Bool). if b then first ++ octets_heard moment link (at_end serving first) later else []) there
 
   -- no other says anything
+  last_rest : (moment octet : ℕ) (later : List ℕ) (serving : Serving) → IsLast Responder (serving.associations link) octet later
+      → octets_heard moment link (at_end serving (octet_heard moment link serving octet)) later ≡ []
+  last_rest moment octet later serving last = by last.last
+    where
+      by : (later ≡ []) ⊎ (is_ended (piece_received Responder (serving.associations link) (octet ∷ [])).association.exchange.ending ≡ true)
+          → octets_heard moment link (at_end serving (octet_heard moment link serving octet)) later ≡ []
+      by (inl none) = ap (λ (octets : List ℕ). octets_heard moment link (at_end serving (octet_heard moment link serving octet)) octets) none
+      by (inr ended) =
+          heard-gone moment link (at_end serving (octet_heard moment link serving octet)) later
+          (whole_breaks moment serving (piece_received Responder (serving.associations link) (octet ∷ [])) ended)
+
   last_heard : (moment octet : ℕ) (later : List ℕ) (serving : Serving) → stands link serving.filestore ≡ true → IsLast Responder (serving.associations link) octet later
       → octets_heard moment link serving (octet ∷ later) ≡ whole moment link serving (octets_received Responder (serving.associations link) (octet ∷ later))
   last_heard moment octet later serving there last =
       let first = octet_heard moment link serving octet in
-      first_heard moment octet later serving there ∙ ap (λ (rest : List Answer). first ++ rest) (rest last.last)
+      first_heard moment octet later serving there ∙ ap (λ (rest : List Answer). first ++ rest) (last_rest moment octet later serving last)
       ∙ append-nil first ∙ ap (λ (fed : Fed). whole moment link serving fed) (sym last.whole)
-    where
-      rest : (later ≡ []) ⊎ (is_ended (piece_received Responder (serving.associations link) (octet ∷ [])).association.exchange.ending ≡ true)
-          → octets_heard moment link (at_end serving (octet_heard moment link serving octet)) later ≡ []
-      rest (inl none) = ap (λ (octets : List ℕ). octets_heard moment link (at_end serving (octet_heard moment link serving octet)) octets) none
-      rest (inr ended) =
-          heard-gone moment link (at_end serving (octet_heard moment link serving octet)) later
-          (whole_breaks moment serving (piece_received Responder (serving.associations link) (octet ∷ [])) ended)
 
   -- ---- a silent octet
 
@@ -262,6 +271,59 @@ module _ (link : ℕ) where
       (few_full moment after later store place now there
       (subst (λ (one : Association). TellsLast Responder one (after ∷ later)) (sym (with-own link a1 serving)) rest) turned))
 
+  -- ---- the commits
+
+  abbrev whole_to : (moment : ℕ) → Serving → Fed → List (Option Event)
+  whole_to moment serving fed =
+      let heard = (heard_by link serving fed).state in
+      let now = at_end heard (told_all moment link heard fed.indications) in
+      None ∷ to_indications moment link heard fed.indications ++ to_ending now (party_of link now.filestore.parties)
+
+  abbrev commits_fed : (moment : ℕ) → Serving → Fed → List Commit
+  commits_fed moment serving fed = commits serving (whole moment link serving fed) (whole_to moment serving fed)
+
+  -- the state that it begins with counts for the other links alone
+  from_commits : (moment : ℕ) (serving : Serving) (one : Association) (fed : Fed) → commits_fed moment (with_association link one serving) fed ≡ commits_fed moment serving fed
+  from_commits moment serving one fed =
+      ap (λ (heard : Serving).
+      let turns = told_all moment link heard fed.indications in
+      let now = at_end heard turns in
+      commits heard (turns ++ after_octet link now) (to_indications moment link heard fed.indications ++ to_ending now (party_of link now.filestore.parties)))
+      (with_twice serving one fed.association)
+
+  silent_commits : (moment : ℕ) (serving : Serving) (a : Association) → is_ended a.exchange.ending ≡ false → commits_fed moment serving (nothing_fed a) ≡ []
+  silent_commits moment serving a goes =
+      ap (λ (answers : List Answer). commits serving answers (whole_to moment serving (nothing_fed a))) (whole_silent moment serving a goes)
+
+  last_commits : (moment octet : ℕ) (later : List ℕ) (serving : Serving) → stands link serving.filestore ≡ true → IsLast Responder (serving.associations link) octet later
+      → commits_heard moment link serving (octet ∷ later) ≡ commits_fed moment serving (octets_received Responder (serving.associations link) (octet ∷ later))
+  last_commits moment octet later serving there last =
+      let now = at_end serving (octet_heard moment link serving octet) in
+      let one = commits_octet moment link serving octet in
+      first-commits moment link serving octet later there
+      ∙ ap (λ (rest : List Commit). one ++ rest) (gone-commits now (octets_heard moment link now later) (to_octets moment link now later) (last_rest moment octet later serving last))
+      ∙ append-nil one ∙ ap (λ (fed : Fed). commits_fed moment serving fed) (sym last.whole)
+
+  few_commits : (moment octet : ℕ) (later : List ℕ) (serving : Serving) → stands link serving.filestore ≡ true → TellsLast Responder (serving.associations link) (octet ∷ later)
+      → commits_heard moment link serving (octet ∷ later) ≡ commits_fed moment serving (octets_received Responder (serving.associations link) (octet ∷ later))
+  few_commits moment octet later serving there (inr last) = last_commits moment octet later serving there last
+  few_commits moment octet [] serving there (inl (still, rest)) = last_commits moment octet [] serving there (only_still octet serving still)
+  few_commits moment octet (after ∷ later) serving there (inl (still, rest)) =
+      let a = serving.associations link in
+      let a1 = lengthened a (octet ∷ []) in
+      let now = with_association link a1 serving in
+      let octets = after ∷ later in
+      let fed = octets_received Responder a (octet ∷ octets) in
+      let first : octet_heard moment link serving octet ≡ silent serving a1 ∷ [] = ap (λ (f : Fed). whole moment link serving f) still.nothing ∙ whole_silent moment serving a1 still.goes in
+      let none : commits_octet moment link serving octet ≡ [] = ap (λ (f : Fed). commits_fed moment serving f) still.nothing ∙ silent_commits moment serving a1 still.goes in
+      let feds : octets_received Responder (now.associations link) octets ≡ fed =
+      ap (λ (one : Association). octets_received Responder one octets) (with-own link a1 serving) ∙ sym still.others in
+      first-commits moment link serving octet octets there
+      ∙ ap (λ (one : List Commit). one ++ commits_heard moment link (at_end serving (octet_heard moment link serving octet)) octets) none
+      ∙ ap (λ (answers : List Answer). commits_heard moment link (at_end serving answers) octets) first
+      ∙ few_commits moment after later now there (subst (λ (one : Association). TellsLast Responder one (after ∷ later)) (sym (with-own link a1 serving)) rest)
+      ∙ ap (λ (f : Fed). commits_fed moment now f) feds ∙ from_commits moment serving a1 fed
+
 -- Some octets, of which only the last tells something or one that ends receiving
 pub few-heard : (moment link : ℕ) (octets : List ℕ) (serving : Serving) → 0 < length octets → stands link serving.filestore ≡ true → TellsLast Responder (serving.associations link) octets
     → IsSame serving (octets_heard moment link serving octets) (whole moment link serving (octets_received Responder (serving.associations link) octets))
@@ -276,3 +338,20 @@ pub few-heard-full : {D : Type 0} (moment link : ℕ) (octets : List ℕ) (servi
     → IsFullAt (octets_heard moment link serving octets) serving store place
 few-heard-full moment link [] serving store place some there tells full = absurd (omega arith)
 few-heard-full moment link (octet ∷ later) serving store place some there tells full = few_full link moment octet later store place serving there tells full
+
+-- The commits of these octets are those of what they tell, and then of a break.
+pub few-heard-commits : (moment link : ℕ) (octets : List ℕ) (serving : Serving) → 0 < length octets → stands link serving.filestore ≡ true → TellsLast Responder (serving.associations link) octets
+    → (let fed = octets_received Responder (serving.associations link) octets in
+    let heard = (heard_by link serving fed).state in
+    let now = at_end heard (told_all moment link heard fed.indications) in
+    commits_heard moment link serving octets
+    ≡ commits_told_all moment link heard fed.indications ++ commits now (after_octet link now) (to_ending now (party_of link now.filestore.parties)))
+few-heard-commits moment link [] serving some there tells = absurd (omega arith)
+few-heard-commits moment link (octet ∷ later) serving some there tells =
+    let fed = octets_received Responder (serving.associations link) (octet ∷ later) in
+    let heard = (heard_by link serving fed).state in
+    let turns = told_all moment link heard fed.indications in
+    let now = at_end heard turns in
+    few_commits link moment octet later serving there tells
+    ∙ commits-join heard turns (after_octet link now) (to_indications moment link heard fed.indications) (to_ending now (party_of link now.filestore.parties))
+    (told_all-each moment link heard fed.indications)

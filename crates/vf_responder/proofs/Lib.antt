@@ -13,6 +13,9 @@ pub mod MoveLemmas
 pub mod ArriveLemmas
 pub mod GiveLemmas
 pub mod LoopLemmas
+pub mod CommitLemmas
+pub mod CommitParts
+pub mod CommitRounds
 pub mod FewLemmas
 pub mod Absent
 pub mod Avoided

@@ -12,6 +12,7 @@ use Rattle.vf_filestore.specs.Conclusion.{Answered}
 use Rattle.vf_filestore.specs.Decision.{decision}
 use Rattle.vf_filestore.specs.Ranges.{IsReached, IsRead}
 use Rattle.vf_filestore.specs.Records.{changes_by, changes_of_party, changes_where, given_way}
+use Rattle.vf_filestore.specs.Runs.{Takes}
 use Rattle.vf_filestore.specs.Sound.{IsSound}
 use Rattle.vf_filestore.specs.State.{State, StandingParty, party_of}
 use Rattle.vf_filestore.specs.Tables.{tables_of}
@@ -41,6 +42,8 @@ use Rattle.vf_responder.proofs.StoreLemmas.{idle-along}
 use Rattle.vf_responder.proofs.StandLemmas.{leaves-it, on-link, stays-on}
 use Rattle.vf_responder.specs.Along.{RepresentsAlong}
 use Rattle.vf_responder.specs.Answers.{Answer, at_end, giving_way, says, setting_at}
+use Rattle.vf_responder.specs.AnswersTo.{to_way}
+use Rattle.vf_responder.specs.Commits.{to_taking, to_taking_by}
 use Rattle.vf_responder.specs.Replies.{sending_all}
 use Rattle.vf_responder.specs.Represents.{Answers, Does, GivesWay, IsLink, Kept, Represents, put_back, way_by, way_of, with_link}
 use Rattle.vf_responder.specs.Run.{tables_in}
@@ -186,6 +189,8 @@ pub record IsTakenSo {D : Type 0} (link : Link) (kept mid_kept : Kept D) (locks 
   pub linked : link.number ≡ party.link
   pub trail : taking moment link.number serving indication message
       ≡ way_first serving party message ++ says party.link indication (now_of serving party message) (given_in moment indication serving party message) ∷ []
+  pub trail_to : to_taking moment link.number serving indication message
+      ≡ to_way (superseded_by serving.filestore party message) ++ Some (Takes party.link (setting_in moment indication serving party message) message) ∷ []
   pub way : Answers (way_first serving party message) serving old (with_link link mid_kept) mid
   pub alone : Answering (now_of serving party message).filestore party (setting_in moment indication serving party message) message
   pub is : IsLink party.link link party ((now_of serving party message).associations party.link)
@@ -208,6 +213,8 @@ taken-so link kept mid_kept locks serving moment indication asked message outcom
       linked = on.linked;
       trail = ap (λ (n : ℕ). taking_by moment indication serving (party_of n serving.filestore.parties) message) on.linked
           ∙ ap (λ (found : Option StandingParty). taking_by moment indication serving found message) on.found;
+      trail_to = ap (λ (n : ℕ). to_taking_by moment indication serving (party_of n serving.filestore.parties) message) on.linked
+          ∙ ap (λ (found : Option StandingParty). to_taking_by moment indication serving found message) on.found;
       way = way';
       alone = alone;
       is = stood.is;

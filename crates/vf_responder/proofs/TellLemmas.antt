@@ -39,7 +39,7 @@ pub asks-so : {D : Type 0} (link : Link) (kept : Kept D) (serving : Serving) (se
     → ((party : StandingParty) → IsParty link.party party → last ≡ transfer_check party.history) → AsksSo link kept serving serial last
 asks-so link kept serving serial last numbered checked = record { serial_is = λ a called. numbered a called.represents; last_is = λ on. checked on.party on.is.represented }
 
-meant-so : {D : Type 0} (link : Link) (kept : Kept D) (serving : Serving) (on : IsOn link kept serving) (serial : ℕ) (last : Option ℕ) (indication : Indication) (meant : run.Meaning)
+pub meant-so : {D : Type 0} (link : Link) (kept : Kept D) (serving : Serving) (on : IsOn link kept serving) (serial : ℕ) (last : Option ℕ) (indication : Indication) (meant : run.Meaning)
     → AsksSo link kept serving serial last → meant ≡ run.meaning serial last indication
     → meant ≡ run.meaning (next (serving.associations on.party.link).exchange.trace) (transfer_check on.party.history) indication
 meant-so link kept serving on serial last indication meant asks is =

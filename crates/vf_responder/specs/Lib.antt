@@ -2,6 +2,7 @@ pub mod Serving
 pub mod Meanings
 pub mod Replies
 pub mod Answers
+pub mod AnswersTo
 pub mod Run
 pub mod FilestoreRuns
 pub mod Cut
@@ -9,6 +10,7 @@ pub mod Events
 pub mod Along
 pub mod Represents
 pub mod Full
+pub mod Commits
 pub mod Steps
 pub mod Hears
 pub mod Served

@@ -6,6 +6,7 @@ ghost use Rattle.vf_filestore.specs.Ranges.{IsRead};
 ghost use Rattle.vf_filestore.specs.State.{StandingParty};
 ghost use Rattle.vf_party.specs.Turns.{IsParty};
 ghost use Rattle.vf_responder.specs.Answers.{octets_heard, told, told_all};
+ghost use Rattle.vf_responder.specs.Commits.{CommitsAlong, CommitsSo, commit_of, commits_heard, commits_taking, commits_told, commits_told_all, telling};
 ghost use Rattle.vf_responder.specs.Full.{FullAlong, WhereFull};
 ghost use Rattle.vf_responder.specs.Represents.{AnswerCauses, Does, GivesWay, IsErrorOf, IsWith, KeepsAlong, kept_of, Represents, link_of, put_back, recovered_by, with_link};
 ghost use Rattle.vf_responder.specs.declared.link.Link.{Link as LinkMeant};
@@ -73,6 +74,7 @@ impl<D: Disk> Keeping<D> {
         ensures represented { (serving : Serving) → Represents (kept_of self.old) serving → IsRepresented D.shown D.may_leave self.old.store → OnOk result (IsRepresented D.shown D.may_leave self.new.store) }
         ensures any_moment { KeepsAlong (λ serving. octets_heard moment number serving octets.now) D.shown D.may_leave D.moment D.left_since (kept_of self.old) (kept_of self.new) }
         ensures full { FullAlong (λ serving. octets_heard moment number serving octets.now) (kept_of self.old) self.new.store result }
+        ensures commits { CommitsAlong (telling D.plan D.state D.lack_count) (λ serving. commits_heard moment number serving octets.now) (kept_of self.old) self.new.store result }
         ensures causes { AnswerCauses self.old.store.journal.limit (D.fault_count self.old.store.disk) (D.fault_count self.new.store.disk) result }
         ensures limit { self.new.store.journal.limit ≡ self.old.store.journal.limit }
         ensures bound { length self.old.links.entries ≤ 64 → length self.new.links.entries ≤ 64 }
@@ -125,6 +127,7 @@ impl<D: Disk> Keeping<D> {
         ensures represented { (serving : Serving) → Represents (with_link link.old (kept_of self.old)) serving → IsRepresented D.shown D.may_leave self.old.store → OnOk result (IsRepresented D.shown D.may_leave self.new.store) }
         ensures any_moment { KeepsAlong (λ serving. octets_heard moment link.old.number serving octets.now) D.shown D.may_leave D.moment D.left_since (with_link link.old (kept_of self.old)) (kept_of self.new) }
         ensures full { FullAlong (λ serving. octets_heard moment link.old.number serving octets.now) (with_link link.old (kept_of self.old)) self.new.store result }
+        ensures commits { CommitsAlong (telling D.plan D.state D.lack_count) (λ serving. commits_heard moment link.old.number serving octets.now) (with_link link.old (kept_of self.old)) self.new.store result }
         ensures causes { AnswerCauses self.old.store.journal.limit (D.fault_count self.old.store.disk) (D.fault_count self.new.store.disk) result }
         ensures limit { self.new.store.journal.limit ≡ self.old.store.journal.limit }
         ensures number { link.new.number ≡ link.old.number }
@@ -157,6 +160,7 @@ impl<D: Disk> Keeping<D> {
         ensures represented { (serving : Serving) → Represents (with_link link.old (kept_of self.old)) serving → IsRepresented D.shown D.may_leave self.old.store → OnOk result (IsRepresented D.shown D.may_leave self.new.store) }
         ensures any_moment { KeepsAlong (λ serving. octets_heard moment link.old.number serving octets.now) D.shown D.may_leave D.moment D.left_since (with_link link.old (kept_of self.old)) (kept_of self.new) }
         ensures full { FullAlong (λ serving. octets_heard moment link.old.number serving octets.now) (with_link link.old (kept_of self.old)) self.new.store result }
+        ensures commits { CommitsAlong (telling D.plan D.state D.lack_count) (λ serving. commits_heard moment link.old.number serving octets.now) (with_link link.old (kept_of self.old)) self.new.store result }
         ensures causes { AnswerCauses self.old.store.journal.limit (D.fault_count self.old.store.disk) (D.fault_count self.new.store.disk) result }
         ensures limit { self.new.store.journal.limit ≡ self.old.store.journal.limit }
         ensures number { link.new.number ≡ link.old.number }
@@ -186,6 +190,7 @@ impl<D: Disk> Keeping<D> {
         ensures represented { AllByRecursion IsReadTold indications.items → (serving : Serving) → Represents (with_link link.old (kept_of self.old)) serving → IsRepresented D.shown D.may_leave self.old.store → OnOk result (IsRepresented D.shown D.may_leave self.new.store) }
         ensures any_moment { AllByRecursion IsReadTold indications.items → KeepsAlong (λ serving. told_all moment link.old.number serving indications.items) D.shown D.may_leave D.moment D.left_since (with_link link.old (kept_of self.old)) (kept_of self.new) }
         ensures full { AllByRecursion IsReadTold indications.items → FullAlong (λ serving. told_all moment link.old.number serving indications.items) (with_link link.old (kept_of self.old)) self.new.store result }
+        ensures commits { AllByRecursion IsReadTold indications.items → CommitsAlong (telling D.plan D.state D.lack_count) (λ serving. commits_told_all moment link.old.number serving indications.items) (with_link link.old (kept_of self.old)) self.new.store result }
         ensures causes { AnswerCauses self.old.store.journal.limit (D.fault_count self.old.store.disk) (D.fault_count self.new.store.disk) result }
         ensures limit { self.new.store.journal.limit ≡ self.old.store.journal.limit }
         ensures number { link.new.number ≡ link.old.number }
@@ -213,6 +218,7 @@ impl<D: Disk> Keeping<D> {
         ensures represented { IsReadTold indication → (serving : Serving) → Represents (with_link link.old (kept_of self.old)) serving → IsRepresented D.shown D.may_leave self.old.store → OnOk result (IsRepresented D.shown D.may_leave self.new.store) }
         ensures any_moment { IsReadTold indication → KeepsAlong (λ serving. told moment link.old.number serving indication) D.shown D.may_leave D.moment D.left_since (with_link link.old (kept_of self.old)) (kept_of self.new) }
         ensures full { IsReadTold indication → FullAlong (λ serving. told moment link.old.number serving indication) (with_link link.old (kept_of self.old)) self.new.store result }
+        ensures commits { IsReadTold indication → CommitsAlong (telling D.plan D.state D.lack_count) (λ serving. commits_told moment link.old.number serving indication) (with_link link.old (kept_of self.old)) self.new.store result }
         ensures causes { AnswerCauses self.old.store.journal.limit (D.fault_count self.old.store.disk) (D.fault_count self.new.store.disk) result }
         ensures limit { self.new.store.journal.limit ≡ self.old.store.journal.limit }
         ensures number { link.new.number ≡ link.old.number }
@@ -246,6 +252,7 @@ impl<D: Disk> Keeping<D> {
         ensures represented { (serving : Serving) → Represents (with_link link.old (kept_of self.old)) serving → (indication : IndicationMeant) → IsRead message → IsAsked asked indication → IsRepresented D.shown D.may_leave self.old.store → OnOk result (IsRepresented D.shown D.may_leave self.new.store) }
         ensures any_moment { (indication : IndicationMeant) → IsRead message → IsAsked asked indication → KeepsAlong (λ serving. taking moment link.old.number serving indication message) D.shown D.may_leave D.moment D.left_since (with_link link.old (kept_of self.old)) (kept_of self.new) }
         ensures full { (indication : IndicationMeant) → IsRead message → IsAsked asked indication → FullAlong (λ serving. taking moment link.old.number serving indication message) (with_link link.old (kept_of self.old)) self.new.store result }
+        ensures commits { (indication : IndicationMeant) → IsAsked asked indication → CommitsAlong (telling D.plan D.state D.lack_count) (λ serving. commits_taking moment link.old.number serving indication message) (with_link link.old (kept_of self.old)) self.new.store result }
         ensures causes { AnswerCauses self.old.store.journal.limit (D.fault_count self.old.store.disk) (D.fault_count self.new.store.disk) result }
         ensures limit { self.new.store.journal.limit ≡ self.old.store.journal.limit }
         ensures number { link.new.number ≡ link.old.number }
@@ -278,6 +285,7 @@ impl<D: Disk> Keeping<D> {
         ensures any_moment { AreFitting self.old.store.tables changes → IsRepresented D.shown D.may_leave self.old.store
             → LeavesOnly D.moment D.left_since self.old.store.disk self.new.store.disk (RepresentsEither self.old.store.tables (after_all self.old.store.tables changes)) }
         ensures full { WhereFull result (λ place. (place ≡ (placed self.old.store.journal self.old.store.tables changes).end) × (self.new.store ≡ self.old.store)) }
+        ensures commits { CommitsSo (telling D.plan D.state D.lack_count) (commit_of self.old.store.tables changes) self.old.store self.new.store result }
         ensures causes { AnswerCauses self.old.store.journal.limit (D.fault_count self.old.store.disk) (D.fault_count self.new.store.disk) result }
         ensures rest { (self.new.links ≡ self.old.links) × (self.new.locks ≡ self.old.locks) }
         ensures limit { self.new.store.journal.limit ≡ self.old.store.journal.limit }

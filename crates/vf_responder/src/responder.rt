@@ -9,6 +9,7 @@ ghost use Rattle.vf_journal.specs.Looking.{IsSyncedAndLookedAt};
 ghost use Rattle.vf_base.specs.declared.events.ScriptEvent.TheVariants as script;
 ghost use Rattle.vf_responder.specs.declared.event.Reply.{Reply as ReplyMeant};
 ghost use Rattle.vf_journal.specs.declared.error.JournalError.TheVariants as errors;
+ghost use Rattle.vf_responder.specs.Commits.{CommitsAlong, commits_by, telling};
 ghost use Rattle.vf_responder.specs.Events.{event_meant, is_end, is_octets};
 ghost use Rattle.vf_responder.specs.Full.{FullAlong};
 ghost use Rattle.vf_responder.specs.Represents.{AnswerCauses, Does, KeepsAlong, Represents, answer_of, disk_of};
@@ -98,6 +99,7 @@ impl<D: Disk> Responder<D> {
         ensures represented { (serving : Serving) → Represents self.old serving → IsRepresented D.shown D.may_leave self.old.store → OnOk result (IsRepresented D.shown D.may_leave self.new.store) }
         ensures any_moment { KeepsAlong (trail (event_meant event.entry)) D.shown D.may_leave D.moment D.left_since self.old self.new }
         ensures full { FullAlong (trail (event_meant event.entry)) self.old self.new.store result }
+        ensures commits { CommitsAlong (telling D.plan D.state D.lack_count) (commits_by (event_meant event.entry)) self.old self.new.store result }
         ensures octets { is_octets (event_meant event.entry) ≡ false → IfErr result (λ error. error ≡ errors.NoMemory) }
         ensures causes { AnswerCauses self.old.store.journal.limit (D.fault_count self.old.store.disk) (D.fault_count self.new.store.disk) result }
         ensures limit { self.new.store.journal.limit ≡ self.old.store.journal.limit }

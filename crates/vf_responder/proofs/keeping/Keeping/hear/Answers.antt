@@ -9,6 +9,9 @@ use Rattle.vf_responder.specs.Represents.{Answers, Does, KeepsAlong, kept_of, li
 use Rattle.vf_responder.specs.declared.link.Link.{Link}
 use Rattle.vf_responder.proofs.FullLemmas.{back-full}
 use Rattle.vf_responder.proofs.keeping.Keeping.hear.Given.{Over}
+use Rattle.vf_responder.proofs.CommitLemmas.{all-made}
+use Rattle.vf_responder.proofs.CommitRounds.{back-commits, none-heard-commits}
+use Rattle.vf_responder.specs.Commits.{CommitsAlong, commits_heard, telling}
 use Rattle.vf_responder.proofs.keeping.Keeping.hear.Goals as goal
 use Rattle.vf_responder.proofs.keeping.Keeping.hear.Goals.{After-put_back}
 
@@ -70,3 +73,28 @@ returns-in_err-put_back-clause-full g c = λ serving represents.
     rw (p.1, p.2) (back-full c.args.moment c.args.number c.in-Some.link c.args.octets.now (kept_of c.args.self.now) (record (kept_of c.args.self.now) { links = c.swap_remove.new.self.entries })
     c.hear_all-heard.new.self.store c.put_back.new.self.store c.hear_all-heard.result (Err c.in_err-put_back.field-0.0) (taken_out g (goal.at.returns-in_err-put_back-clause-full g c).After-put_back)
     c.hear_all-heard.ensures.full c.put_back.ensures.rest.0 c.in_err-put_back.ensures.error serving represents)
+
+pub returns-in_default-clause-commits : goal.returns-in_default-clause-commits
+returns-in_default-clause-commits g c = λ serving represents.
+    let none : link_of c.args.number c.args.self.now.links.entries ≡ None = sym c.swap_remove.ensures.value ∙ c.in_default.is in
+    none-heard-commits (telling g.D.Disk.plan g.D.Disk.state g.D.Disk.lack_count) c.args.moment c.args.number c.args.octets.now (kept_of c.args.self.now) none serving represents
+
+pub returns-in_err-put_back-clause-commits : goal.returns-in_err-put_back-clause-commits
+returns-in_err-put_back-clause-commits g c = λ serving represents.
+    let p = err_from_is_err_and c.from_residual.result c.from_residual.ensures.1 in
+    rw (p.1, p.2) (back-commits (telling g.D.Disk.plan g.D.Disk.state g.D.Disk.lack_count) c.args.moment c.args.number c.in-Some.link c.args.octets.now (kept_of c.args.self.now) (record (kept_of c.args.self.now) { links = c.swap_remove.new.self.entries })
+    c.hear_all-heard.new.self.store c.put_back.new.self.store c.hear_all-heard.result (Err c.in_err-put_back.field-0.0) (taken_out g (goal.at.returns-in_err-put_back-clause-commits g c).After-put_back)
+    c.hear_all-heard.ensures.commits c.put_back.ensures.rest.0 c.in_err-put_back.ensures.error serving represents)
+
+pub returns-in_err-append-clause-commits : goal.returns-in_err-append-clause-commits
+returns-in_err-append-clause-commits g c = λ serving represents.
+    all-made (telling g.D.Disk.plan g.D.Disk.state g.D.Disk.lack_count) (commits_heard c.args.moment c.args.number serving c.args.octets.now) c.args.self.now.store c.put_back.new.self.store
+    (back-commits (telling g.D.Disk.plan g.D.Disk.state g.D.Disk.lack_count) c.args.moment c.args.number c.in-Some.link c.args.octets.now (kept_of c.args.self.now) (record (kept_of c.args.self.now) { links = c.swap_remove.new.self.entries })
+    c.hear_all-heard.new.self.store c.put_back.new.self.store c.hear_all-heard.result (Ok tt) (taken_out g (goal.at.returns-in_err-append-clause-commits g c).After-put_back)
+    c.hear_all-heard.ensures.commits c.put_back.ensures.rest.0 c.in_ok-put_back.ensures.error serving represents)
+
+pub returns-clause-commits : goal.returns-clause-commits
+returns-clause-commits g c =
+    back-commits (telling g.D.Disk.plan g.D.Disk.state g.D.Disk.lack_count) c.args.moment c.args.number c.in-Some.link c.args.octets.now (kept_of c.args.self.now) (record (kept_of c.args.self.now) { links = c.swap_remove.new.self.entries })
+    c.hear_all-heard.new.self.store c.put_back.new.self.store c.hear_all-heard.result (Ok tt) (taken_out g (goal.at.returns-clause-commits g c).After-put_back)
+    c.hear_all-heard.ensures.commits c.put_back.ensures.rest.0 c.in_ok-put_back.ensures.error

@@ -5,6 +5,9 @@ use Rattle.vf_responder.proofs.HearLemmas.{few-ended, few-gone, few-open, few-re
 use Rattle.vf_responder.specs.Answers.{octets_heard}
 use Rattle.vf_responder.specs.Represents.{kept_of, with_link}
 use Rattle.vf_responder.proofs.HearLemmas.{few-full}
+use Rattle.vf_responder.proofs.CommitLemmas.{none-begun}
+use Rattle.vf_responder.proofs.HearLemmas.{few-made, few-then, few-up}
+use Rattle.vf_responder.specs.Commits.{commits_heard, telling}
 use Rattle.vf_responder.proofs.keeping.Keeping.hear_few.Goals as goal
 
 pub returns-in_err-told-clause-any_moment : goal.returns-in_err-told-clause-any_moment
@@ -88,3 +91,41 @@ returns-in_err-tell_all-clause-full g c = λ serving represents.
     rw (p.1, p.2) (few-full c.args.moment c.args.link.now c.hear.new.self (kept_of c.args.self.now) c.args.octets.now c.in_ok-told.told.items c.args.replies.now.items c.hear.new.replies.items
     c.in_ok-told.ensures.heard c.hear.ensures.party c.hear.ensures.number c.requires.few c.requires.some
     c.tell_all.new.self.store c.in_err-tell_all.field-0.0 c.in_err-tell_all.ensures.full serving represents)
+
+pub returns-in_err-told-clause-commits : goal.returns-in_err-told-clause-commits
+returns-in_err-told-clause-commits g c = λ serving represents.
+    none-begun (telling g.D.Disk.plan g.D.Disk.state g.D.Disk.lack_count) (commits_heard c.args.moment c.args.link.now.number serving c.args.octets.now) c.args.self.now.store c.args.self.now.store refl
+
+pub returns-in_err-tell_all-clause-commits : goal.returns-in_err-tell_all-clause-commits
+returns-in_err-tell_all-clause-commits g c = λ serving represents.
+    let p = err_from_is_err_and c.from_residual-in_err-tell_all.result c.from_residual-in_err-tell_all.ensures.1 in
+    rw (p.1, p.2) (few-up c.args.moment c.args.link.now c.hear.new.self (kept_of c.args.self.now) c.args.octets.now c.in_ok-told.told.items c.args.replies.now.items c.hear.new.replies.items
+    c.in_ok-told.ensures.heard c.hear.ensures.party c.hear.ensures.number c.requires.few c.requires.some
+    (telling g.D.Disk.plan g.D.Disk.state g.D.Disk.lack_count) c.tell_all.new.self.store c.in_err-tell_all.field-0.0 c.in_err-tell_all.ensures.commits serving represents)
+
+pub returns-then-not-branch-clause-commits : goal.returns-then-not-branch-clause-commits
+returns-then-not-branch-clause-commits g c =
+    few-made c.args.moment c.args.link.now c.hear.new.self (kept_of c.args.self.now) c.args.octets.now c.in_ok-told.told.items c.args.replies.now.items c.hear.new.replies.items
+    c.in_ok-told.ensures.heard c.hear.ensures.party c.hear.ensures.number c.requires.few c.requires.some
+    c.in_ok-tell_all.field-0 c.tell_all.new.link (kept_of c.tell_all.new.self) c.tell_all.new.replies.items c.in_ok-tell_all.ensures.answers
+    (telling g.D.Disk.plan g.D.Disk.state g.D.Disk.lack_count) c.tell_all.new.self.store c.in_ok-tell_all.ensures.commits
+
+pub returns-in_err-leave-clause-commits : goal.returns-in_err-leave-clause-commits
+returns-in_err-leave-clause-commits g c =
+    few-then c.args.moment c.args.link.now c.hear.new.self (kept_of c.args.self.now) c.args.octets.now c.in_ok-told.told.items c.args.replies.now.items c.hear.new.replies.items
+    c.in_ok-told.ensures.heard c.hear.ensures.party c.hear.ensures.number c.requires.few c.requires.some
+    (telling g.D.Disk.plan g.D.Disk.state g.D.Disk.lack_count) c.tell_all.new.self.store c.in_ok-tell_all.ensures.commits
+
+pub returns-then-ended-clause-commits : goal.returns-then-ended-clause-commits
+returns-then-ended-clause-commits g c =
+    few-made c.args.moment c.args.link.now c.hear.new.self (kept_of c.args.self.now) c.args.octets.now c.in_ok-told.told.items c.args.replies.now.items c.hear.new.replies.items
+    c.in_ok-told.ensures.heard c.hear.ensures.party c.hear.ensures.number c.requires.few c.requires.some
+    c.in_ok-tell_all.field-0 c.tell_all.new.link (kept_of c.tell_all.new.self) c.tell_all.new.replies.items c.in_ok-tell_all.ensures.answers
+    (telling g.D.Disk.plan g.D.Disk.state g.D.Disk.lack_count) c.tell_all.new.self.store c.in_ok-tell_all.ensures.commits
+
+pub returns-clause-commits : goal.returns-clause-commits
+returns-clause-commits g c =
+    few-made c.args.moment c.args.link.now c.hear.new.self (kept_of c.args.self.now) c.args.octets.now c.in_ok-told.told.items c.args.replies.now.items c.hear.new.replies.items
+    c.in_ok-told.ensures.heard c.hear.ensures.party c.hear.ensures.number c.requires.few c.requires.some
+    c.in_ok-tell_all.field-0 c.tell_all.new.link (kept_of c.tell_all.new.self) c.tell_all.new.replies.items c.in_ok-tell_all.ensures.answers
+    (telling g.D.Disk.plan g.D.Disk.state g.D.Disk.lack_count) c.tell_all.new.self.store c.in_ok-tell_all.ensures.commits

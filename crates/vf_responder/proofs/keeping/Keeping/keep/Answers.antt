@@ -2,6 +2,10 @@ use Rattle.vf_store.proofs.Runs.{idle_either}
 use Rattle.vf_tables.specs.Changes.{after_all}
 use Rattle.vf_responder.proofs.StoreLemmas.{commit-causes}
 use Rattle.vf_responder.proofs.FullLemmas.{commit-full}
+use Rattle.std.proofs.Common.{◌≡◌, ◌<◌, length, arith}
+use Rattle.std.proofs.lemmas.Grind.{common_steps}
+use Rattle.vf_responder.specs.Commits.{telling}
+use Rattle.vf_responder.proofs.CommitLemmas.{keep-commits, none-kept}
 use Rattle.vf_responder.proofs.keeping.Keeping.keep.Goals as goal
 
 pub returns-then-is_empty-clause-any_moment : goal.returns-then-is_empty-clause-any_moment
@@ -14,3 +18,14 @@ returns-clause-causes g c = commit-causes g.D.Disk.fault_count c.args.self.now.s
 
 pub returns-clause-full : goal.returns-clause-full
 returns-clause-full g c = commit-full c.args.self.now.store c.commit.new.self _ c.args.self.now.store.journal.limit _ _ c.commit.result c.commit.ensures.answers
+
+pub returns-then-is_empty-clause-commits : goal.returns-then-is_empty-clause-commits
+returns-then-is_empty-clause-commits g c =
+    let none : length c.args.changes ≡ 0 = grind (arith, common_steps) in
+    none-kept (telling g.D.Disk.plan g.D.Disk.state g.D.Disk.lack_count) c.args.changes c.args.self.now.store none
+
+pub returns-clause-commits : goal.returns-clause-commits
+returns-clause-commits g c =
+    let some : 0 < length c.args.changes = grind (arith, common_steps) in
+    keep-commits (telling g.D.Disk.plan g.D.Disk.state g.D.Disk.lack_count) c.args.changes c.args.self.now.store c.commit.new.self (g.D.Disk.fault_count c.args.self.now.store.disk) (g.D.Disk.fault_count c.commit.new.self.disk) c.commit.result some
+    c.commit.ensures.answers c.commit.ensures.steps c.commit.ensures.journal

@@ -1,5 +1,6 @@
-use Rattle.std.proofs.Common.{◌≡◌, sym, subst, ◌∙◌}
+use Rattle.std.proofs.Common.{◌≡◌, Bool, Ok, Err, sym, subst, ◌∙◌}
 use Rattle.vf_filestore.specs.Ranges.{IsRead}
+use Rattle.vf_journal.specs.declared.error.JournalError.TheVariants.{NoMemory}
 use Rattle.vf_party_steps.specs.Steps.{HoldersOfFiles}
 use Rattle.vf_stack.specs.declared.indication.Indication.{Indication}
 use Rattle.vf_store.specs.StoreState.{IsRepresented}
@@ -9,6 +10,9 @@ use Rattle.vf_responder.specs.Steps.{IsAsked, TakesOn, taking}
 use Rattle.vf_responder.proofs.TakeLemmas.{said-of, still-along, take-along, take-answers, take-kept}
 use Rattle.vf_responder.proofs.FullLemmas.{take-full}
 use Rattle.vf_responder.proofs.keeping.Keeping.take.Given.{Over}
+use Rattle.vf_responder.proofs.CommitLemmas.{all-made, none-begun}
+use Rattle.vf_responder.proofs.CommitParts.{take-commits}
+use Rattle.vf_responder.specs.Commits.{CommitsSo, commit_of, commits_taking, telling}
 use Rattle.vf_responder.proofs.keeping.Keeping.take.Goals as goal
 use Rattle.vf_responder.proofs.keeping.Keeping.take.Goals.{After-give_way, After-keep}
 
@@ -75,3 +79,29 @@ returns-in-Err-clause-full g c = λ indication read ask serving represents.
     take-full c.args.link.now (kept_of c.args.self.now) (kept_of c.give_way.new.self) c.turn.new.locks c.args.moment c.args.asked c.args.message c.in_ok-party.field-0
     c.args.replies.now.items c.give_way.new.replies.items c.keep.new.self.store c.in-Err.error c.in-Ok.ensures.way (turned g (goal.at.returns-in-Err-clause-full g c).After-keep)
     c.in-Err.ensures.full indication ask serving represents
+
+pub returns-in_default-clause-commits : goal.returns-in_default-clause-commits
+returns-in_default-clause-commits g c = λ indication ask serving represents.
+    none-begun (telling g.D.Disk.plan g.D.Disk.state g.D.Disk.lack_count) (commits_taking c.args.moment c.args.link.now.number serving indication c.args.message) c.args.self.now.store c.give_way.new.self.store c.give_way.ensures.store
+
+pub returns-in_err-party-clause-commits : goal.returns-in_err-party-clause-commits
+returns-in_err-party-clause-commits g c = λ indication ask serving represents.
+    none-begun (telling g.D.Disk.plan g.D.Disk.state g.D.Disk.lack_count) (commits_taking c.args.moment c.args.link.now.number serving indication c.args.message) c.args.self.now.store c.give_way.new.self.store c.give_way.ensures.store
+
+pub returns-in-Err-clause-commits : goal.returns-in-Err-clause-commits
+returns-in-Err-clause-commits g c =
+    take-commits {T = Bool} (telling g.D.Disk.plan g.D.Disk.state g.D.Disk.lack_count) c.args.link.now (kept_of c.args.self.now) (kept_of c.give_way.new.self) c.turn.new.locks c.args.moment c.args.asked c.args.message c.in_ok-party.field-0
+    c.args.replies.now.items c.give_way.new.replies.items c.keep.new.self.store (Err c.in-Err.error) c.give_way.ensures.store c.in-Ok.ensures.way (turned g (goal.at.returns-in-Err-clause-commits g c).After-keep)
+    c.in-Err.ensures.commits
+
+pub returns-in_err-goes-clause-commits : goal.returns-in_err-goes-clause-commits
+returns-in_err-goes-clause-commits g c =
+    take-commits {T = Bool} (telling g.D.Disk.plan g.D.Disk.state g.D.Disk.lack_count) c.args.link.now (kept_of c.args.self.now) (kept_of c.give_way.new.self) c.turn.new.locks c.args.moment c.args.asked c.args.message c.in_ok-party.field-0
+    c.args.replies.now.items c.give_way.new.replies.items c.keep.new.self.store (Err NoMemory) c.give_way.ensures.store c.in-Ok.ensures.way (turned g (goal.at.returns-in_err-goes-clause-commits g c).After-keep)
+    (all-made (telling g.D.Disk.plan g.D.Disk.state g.D.Disk.lack_count) (commit_of c.give_way.new.self.store.tables c.in_ok-party.field-0.changes) c.give_way.new.self.store c.keep.new.self.store c.in_default-keep.ensures.commits)
+
+pub returns-clause-commits : goal.returns-clause-commits
+returns-clause-commits g c =
+    take-commits {T = Bool} (telling g.D.Disk.plan g.D.Disk.state g.D.Disk.lack_count) c.args.link.now (kept_of c.args.self.now) (kept_of c.give_way.new.self) c.turn.new.locks c.args.moment c.args.asked c.args.message c.in_ok-party.field-0
+    c.args.replies.now.items c.give_way.new.replies.items c.keep.new.self.store (Ok c.in_ok-goes.goes) c.give_way.ensures.store c.in-Ok.ensures.way (turned g (goal.at.returns-clause-commits g c).After-keep)
+    c.in_default-keep.ensures.commits

@@ -6,6 +6,9 @@ use Rattle.vf_responder.proofs.TellLemmas.{asks-so, read-so, run-takes, tell-tak
 use Rattle.vf_responder.specs.Answers.{Answer}
 use Rattle.vf_responder.specs.Full.{IsFullAt, WhereFull}
 use Rattle.vf_responder.proofs.TellLemmas.{told-takes}
+use Rattle.vf_responder.proofs.CommitLemmas.{none-begun}
+use Rattle.vf_responder.proofs.CommitParts.{made-none, none-taken, nothing-taken, tell-commits}
+use Rattle.vf_responder.specs.Commits.{commits_told, telling}
 use Rattle.vf_responder.proofs.keeping.Keeping.tell.Goals as goal
 
 pub returns-in_err-said-in-Faults-clause-any_moment : goal.returns-in_err-said-in-Faults-clause-any_moment
@@ -60,3 +63,28 @@ returns-in-Takes-clause-full g c = λ read serving represents.
     (sym (told-takes c.args.moment c.args.link.now (kept_of c.args.self.now) serving c.args.indication c.next_serial-next.result c.last_check_of.result c.in-Takes.message represents
     (asks-so c.args.link.now (kept_of c.args.self.now) serving c.next_serial-next.result c.last_check_of.result c.next_serial-next.ensures.association c.last_check_of.ensures) c.in-Takes.ensures))
     (c.take.ensures.full c.args.indication (read-so c.args.indication c.next_serial-next.result c.last_check_of.result c.in-Takes.message read c.in-Takes.ensures) c.asked_by-asked.ensures serving represents)
+
+pub returns-in-Takes-clause-commits : goal.returns-in-Takes-clause-commits
+returns-in-Takes-clause-commits g c = λ read.
+    tell-commits (telling g.D.Disk.plan g.D.Disk.state g.D.Disk.lack_count) c.args.moment c.args.link.now (kept_of c.args.self.now) c.args.indication c.next_serial-next.result c.last_check_of.result c.in-Takes.message c.take.new.self.store c.take.result
+    c.in-Takes.ensures (λ serving. asks-so c.args.link.now (kept_of c.args.self.now) serving c.next_serial-next.result c.last_check_of.result c.next_serial-next.ensures.association c.last_check_of.ensures) (c.take.ensures.commits c.args.indication c.asked_by-asked.ensures)
+
+pub returns-in_err-said-in-Faults-clause-commits : goal.returns-in_err-said-in-Faults-clause-commits
+returns-in_err-said-in-Faults-clause-commits g c = λ read serving represents.
+    none-begun (telling g.D.Disk.plan g.D.Disk.state g.D.Disk.lack_count) (commits_told c.args.moment c.args.link.now.number serving c.args.indication) c.args.self.now.store c.args.self.now.store refl
+
+pub returns-in_err-leave-in-Faults-clause-commits : goal.returns-in_err-leave-in-Faults-clause-commits
+returns-in_err-leave-in-Faults-clause-commits g c = λ read serving represents.
+    none-begun (telling g.D.Disk.plan g.D.Disk.state g.D.Disk.lack_count) (commits_told c.args.moment c.args.link.now.number serving c.args.indication) c.args.self.now.store c.args.self.now.store refl
+
+pub returns-in_ok-leave-in-Faults-clause-commits : goal.returns-in_ok-leave-in-Faults-clause-commits
+returns-in_ok-leave-in-Faults-clause-commits g c = λ read serving represents.
+    made-none (telling g.D.Disk.plan g.D.Disk.state g.D.Disk.lack_count) (commits_told c.args.moment c.args.link.now.number serving c.args.indication) c.args.self.now.store
+    (none-taken c.args.moment c.args.link.now (kept_of c.args.self.now) serving c.args.indication c.next_serial-next.result c.last_check_of.result c.in-Faults.number c.in-Faults.place represents
+    (asks-so c.args.link.now (kept_of c.args.self.now) serving c.next_serial-next.result c.last_check_of.result c.next_serial-next.ensures.association c.last_check_of.ensures) c.in-Faults.ensures)
+
+pub returns-in-Nothing-clause-commits : goal.returns-in-Nothing-clause-commits
+returns-in-Nothing-clause-commits g c = λ read serving represents.
+    made-none (telling g.D.Disk.plan g.D.Disk.state g.D.Disk.lack_count) (commits_told c.args.moment c.args.link.now.number serving c.args.indication) c.args.self.now.store
+    (nothing-taken c.args.moment c.args.link.now (kept_of c.args.self.now) serving c.args.indication c.next_serial-next.result c.last_check_of.result represents
+    (asks-so c.args.link.now (kept_of c.args.self.now) serving c.next_serial-next.result c.last_check_of.result c.next_serial-next.ensures.association c.last_check_of.ensures) c.in-Nothing.ensures)

@@ -11,6 +11,9 @@ use Rattle.vf_responder.specs.Answers.{at_end, told, told_all}
 use Rattle.vf_responder.specs.Represents.{Does, kept_of, put_back, with_link}
 use Rattle.vf_responder.specs.Steps.{IsReadTold}
 use Rattle.vf_responder.proofs.FullLemmas.{tell-full}
+use Rattle.vf_responder.proofs.CommitLemmas.{IsCommitted, committed-none}
+use Rattle.vf_responder.proofs.CommitRounds.{tell-committed, tell-up, told-committed}
+use Rattle.vf_responder.specs.Commits.{commits_told_all, telling}
 use Rattle.vf_responder.proofs.keeping.Keeping.tell_all.Goals as goal
 
 pub loop-indication-init : goal.loop-indication-init
@@ -26,6 +29,9 @@ loop-indication-init g c =
       represented = λ all serving represents stands. stands;
       run = λ all. still-along g.D.Disk.shown g.D.Disk.may_leave g.D.Disk.moment g.D.Disk.left_since g.met.D.Disk.only_now c.args.link.now (kept_of c.args.self.now) c.args.self.now.store
           (λ serving. told_all c.args.moment number serving c.args.indications.items) refl;
+      commits = λ all serving represents.
+          subst (λ (items : List Indication). IsCommitted (telling g.D.Disk.plan g.D.Disk.state g.D.Disk.lack_count) (commits_told_all c.args.moment number serving c.args.indications.items) kept c.args.self.now.store c.args.self.now.store (λ s. commits_told_all c.args.moment number s items)) same
+          (committed-none (telling g.D.Disk.plan g.D.Disk.state g.D.Disk.lack_count) serving kept c.args.self.now.store (λ s. commits_told_all c.args.moment number s c.args.indications.items) represents);
       faults = refl;
       limit = refl;
       number = refl;
@@ -91,6 +97,12 @@ loop-indication-preserved g c =
           (told_all c.args.moment number serving c.args.indications.items) serving c.args.replies.now.items c.loop-indication.replies.items before
           c.in-Some.indication c.next.new.self.rest.items c.loop-indication.indication-iterator.rest.items now.number c.in-Some.ensures.steps.0 (now.answers all serving represents) (now.run all serving represents stands)
           (λ here stood. c.tell.ensures.any_moment (read all).0 here stood (now.represented all serving represents stands));
+      commits = λ all serving represents.
+          tell-committed (telling g.D.Disk.plan g.D.Disk.state g.D.Disk.lack_count) c.args.moment number c.loop-indication.link.number (commits_told_all c.args.moment c.args.link.now.number serving c.args.indications.items) before (with_link c.tell.new.link (kept_of c.tell.new.self)) c.args.self.now.store c.loop-indication.self.store c.tell.new.self.store now.number
+          c.in-Some.indication c.next.new.self.rest.items c.loop-indication.indication-iterator.rest.items c.in-Some.ensures.steps.0 (now.commits all serving represents)
+          c.loop-indication.replies.items c.tell.new.replies.items
+          (subst (λ (b : Bool). Does (λ s. told c.args.moment c.loop-indication.link.number s c.in-Some.indication) before c.loop-indication.replies.items (put_back b c.tell.new.link (kept_of c.tell.new.self)) c.tell.new.replies.items) goes
+          (c.in_ok-tell.ensures.answers (read all).0)) (c.in_ok-tell.ensures.commits (read all).0);
       faults = c.in_ok-tell.ensures.causes ∙ now.faults;
       limit = c.tell.ensures.limit ∙ now.limit;
       number = c.tell.ensures.number ∙ now.number;
@@ -107,3 +119,27 @@ returns-in_err-tell-clause-full g c = λ all serving represents.
     (told_all c.args.moment c.args.link.now.number serving c.args.indications.items) serving c.args.replies.now.items c.loop-indication.replies.items (with_link c.loop-indication.link (kept_of c.loop-indication.self))
     c.in-Some.indication c.next.new.self.rest.items c.loop-indication.indication-iterator.rest.items now.number c.in-Some.ensures.steps.0 (now.answers all serving represents)
     (λ here stood. c.in_err-tell.ensures.full read.0 here stood))
+
+pub returns-in_err-tell-clause-commits : goal.returns-in_err-tell-clause-commits
+returns-in_err-tell-clause-commits g c = λ all serving represents.
+    let p = err_from_is_err_and c.from_residual.result c.from_residual.ensures.1 in
+    let now = c.loop-indication.invariant in
+    let read = subst (λ (items : List Indication). AllByRecursion IsReadTold items) c.in-Some.ensures.steps.0 (now.read all) in
+    rw (p.1, p.2) (tell-up (telling g.D.Disk.plan g.D.Disk.state g.D.Disk.lack_count) c.args.moment c.args.link.now.number c.loop-indication.link.number (commits_told_all c.args.moment c.args.link.now.number serving c.args.indications.items) (with_link c.loop-indication.link (kept_of c.loop-indication.self)) (with_link c.loop-indication.link (kept_of c.loop-indication.self)) c.args.self.now.store c.loop-indication.self.store c.tell.new.self.store now.number
+    c.in-Some.indication c.next.new.self.rest.items c.loop-indication.indication-iterator.rest.items c.in-Some.ensures.steps.0 (now.commits all serving represents) c.in_err-tell.field-0.0 (c.in_err-tell.ensures.commits read.0))
+
+pub returns-then-not-branch-clause-commits : goal.returns-then-not-branch-clause-commits
+returns-then-not-branch-clause-commits g c = λ all serving represents.
+    let now = c.loop-indication.invariant in
+    let number = c.args.link.now.number in
+    let before = with_link c.loop-indication.link (kept_of c.loop-indication.self) in
+    let read = subst (λ (items : List Indication). AllByRecursion IsReadTold items) c.in-Some.ensures.steps.0 (now.read all) in
+    let goes : c.in_ok-tell.field-0 ≡ false = grind (arith, common_steps) in
+    let does = subst (λ (b : Bool). Does (λ s. told c.args.moment c.loop-indication.link.number s c.in-Some.indication) before c.loop-indication.replies.items (put_back b c.tell.new.link (kept_of c.tell.new.self)) c.tell.new.replies.items) goes
+    (c.in_ok-tell.ensures.answers read.0) in
+    told-committed (telling g.D.Disk.plan g.D.Disk.state g.D.Disk.lack_count) c.args.moment number (commits_told_all c.args.moment c.args.link.now.number serving c.args.indications.items) (kept_of c.tell.new.self) c.args.self.now.store c.tell.new.self.store c.next.new.self.rest.items
+    (tell-committed (telling g.D.Disk.plan g.D.Disk.state g.D.Disk.lack_count) c.args.moment number c.loop-indication.link.number (commits_told_all c.args.moment c.args.link.now.number serving c.args.indications.items) before (kept_of c.tell.new.self) c.args.self.now.store c.loop-indication.self.store c.tell.new.self.store now.number
+    c.in-Some.indication c.next.new.self.rest.items c.loop-indication.indication-iterator.rest.items c.in-Some.ensures.steps.0 (now.commits all serving represents)
+    c.loop-indication.replies.items c.tell.new.replies.items does (c.in_ok-tell.ensures.commits read.0))
+    (apart-next number c.loop-indication.link.number c.loop-indication.self.links.entries c.tell.new.self.links.entries now.number c.tell.ensures.apart
+    (now.apart (last-free c.args.self.now.links.entries number c.args.link.now represents.distinct)))
