@@ -4,3 +4,5 @@ pub mod Calls
 pub mod Recovered
 pub mod InARow
 pub mod Dropped
+pub mod Stopped
+pub mod Deliveries

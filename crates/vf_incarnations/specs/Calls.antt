@@ -1,18 +1,25 @@
 -- Within which message an incarnation stops, where that is told by a call of the disk (profile). Writes and syncs are counted from
 -- the begin of the incarnation on: one as its store is opened, four of a commit, and nine of one that moves to another area.
-use Rattle.std.specs.Prelude.{ℕ, ◌+◌, ◌-◌, Bool, true, false, not, ◌&&◌, nat_eq, nat_le, nat_lt, List, [], ◌∷◌, length, Option, None, Some, if◌then◌else◌}
+use Rattle.std.specs.Prelude.{◌≡◌, ℕ, ◌+◌, ◌-◌, ◌≤◌, Bool, true, false, not, ◌&&◌, nat_eq, nat_le, nat_lt, List, [], ◌∷◌, length, Option, None, Some, IsSome, Result, Ok, Err, if◌then◌else◌}
+use Rattle.vf_base.specs.Faults.{HasRisen}
 use Rattle.vf_base.specs.declared.events.ScriptEvent.{ScriptEvent}
+use Rattle.vf_disk.specs.Disk.{greatest_length}
+use Rattle.vf_disk.specs.Plans.{StopPlan}
 use Rattle.vf_disk.specs.declared.crash_form.CrashForm.{CrashForm}
 use Rattle.vf_disk.specs.declared.crash_form.CrashForm.TheVariants.{Keep, Lose, Fill}
 use Rattle.vf_filestore.specs.Runs.{Event}
 use Rattle.vf_filestore.specs.State.{State}
 use Rattle.vf_journal.specs.JournalState.{JournalState}
+use Rattle.vf_journal.specs.declared.error.JournalError.{JournalError}
+use Rattle.vf_journal.specs.declared.error.JournalError.TheVariants.{NotAStore, Full, DiskFault, NoMemory}
 use Rattle.vf_store.specs.Commit.{after_commit, commit_steps, placed}
+use Rattle.vf_store.specs.StoreState.{StoreState}
 use Rattle.vf_tables.specs.declared.change.Change.{Change}
 use Rattle.vf_tables.specs.declared.tables.Tables.{Tables}
 use Rattle.vf_responder.specs.Answers.{Answer, at_end}
 use Rattle.vf_responder.specs.AnswersTo.{to_event}
-use Rattle.vf_responder.specs.Commits.{changes_in}
+use Rattle.vf_responder.specs.Commits.{CommitsAlong, DiskTells, changes_in, commits_by}
+use Rattle.vf_responder.specs.Represents.{Kept, Represents}
 use Rattle.vf_responder.specs.Run.{tables_in, trail}
 use Rattle.vf_responder.specs.Serving.{Serving, unheard}
 use Rattle.vf_incarnations.specs.Incarnations.{Incarnation}
@@ -91,3 +98,26 @@ incarnation_by (Some call) plan journal state events =
 
 abbrev pub incarnation_of : Plan → JournalState → State → List ScriptEvent → Incarnation
 incarnation_of plan journal state events = incarnation_by plan.left plan journal state events
+
+-- A DELIVERY on a disk that tells its plan, and of which no call is to fail but by a stop, goes as its course says: at `Ok` it goes
+-- through, by that plan and to that journal; by a fault it stops; and the store is full. Want of memory is free.
+pub record StopsBy (left : Option ℕ) (plan : Option StopPlan) : Type 0 where
+  pub stop : StopPlan
+  pub told : plan ≡ Some stop
+  pub failing : stop.numbers.failing ≡ []
+  pub until : stop.until_stop ≡ left
+
+abbrev pub GoesSo : {D T : Type 0} → DiskTells D → Course → StoreState D → Result T JournalError → Type 0
+GoesSo tells course new (Ok done) = (plan : Plan) × (course.progress ≡ Goes plan new.journal) × StopsBy plan.left (tells.plan new.disk)
+GoesSo tells course new (Err DiskFault) = (stands : Bool) × (course.progress ≡ Stops stands)
+GoesSo tells course new (Err (Full place limit)) = course.progress ≡ IsFull
+GoesSo tells course new (Err NoMemory) = Unit {0}
+GoesSo tells course new (Err (NotAStore place found expected)) = ⊥
+
+-- So does each delivery that commits as it owes. No call of its disk found no memory, and the limit is at most that of a disk.
+abbrev pub DeliveriesGoSo : {D : Type 0} → DiskTells D → Type 0
+DeliveriesGoSo {D} tells =
+    (plan : Plan) (event : ScriptEvent) (serving : Serving) (kept : Kept D) (new : StoreState D) (result : Result (Unit {0}) JournalError)
+    → CommitsAlong tells (commits_by event) kept new result → Represents kept serving
+    → StopsBy plan.left (tells.plan kept.store.disk) → IsSome (tells.state kept.store.disk) → (HasRisen (tells.lacks kept.store.disk) (tells.lacks new.disk) → ⊥)
+    → kept.store.journal.limit ≤ greatest_length → GoesSo tells (course_of plan kept.store.journal serving event) new result

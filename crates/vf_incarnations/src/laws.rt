@@ -1,9 +1,11 @@
 //! Laws of the definitions, each the contract of a function that does nothing.
+ghost use Rattle.vf_incarnations.specs.Calls.{DeliveriesGoSo};
 ghost use Rattle.vf_incarnations.specs.Examples.{CallExamples, IncarnationExamples, RecoveryExamples};
 ghost use Rattle.vf_incarnations.specs.InARow.{ActsAreOneRun, DropsAreWritten};
 ghost use Rattle.vf_incarnations.specs.Laws.{BeginsSo, EventsAreAnswered, IncarnationsAreOneRun, IncarnationsAreRuns, IncarnationsAreSerial, NewStoresBegin};
 ghost use Rattle.vf_incarnations.specs.Recovery.{GoodEndsPerformIt, OwnListStands, RecoveriesAreRestarts, RecoveriesGoOn};
 ghost use Rattle.vf_incarnations.specs.Served.{EachMomentIsAStop, ServingIncarnates};
+ghost use Rattle.vf_responder.specs.Commits.{telling};
 
 use vf_disk::Disk;
 
@@ -15,6 +17,12 @@ pub fn incarnations_compute()
 /// Within which message an incarnation stops at a call of its disk, and whether that message's changes then stand.
 pub fn stops_compute()
     ensures { CallExamples }
+{}
+
+/// A delivery on a disk in memory of which a call is stopped goes as its course says, where no call finds no memory: through, to that
+/// journal and with so many calls left, or up to the stop within its commits, or the store is full.
+pub fn deliveries_go_so<D: Disk>()
+    ensures { DeliveriesGoSo (telling D.plan D.state D.lack_count) }
 {}
 
 /// What a recoverable write comes to where the responder stops within its end: it goes on or was concluded, and the file is

@@ -92,7 +92,7 @@ module _ {D : Type 0} (tells : DiskTells D) where
     is = refl;
     between = old;
     first = refl;
-    next = (answers.3, refl, answers.1);
+    next = (answers.3, refl, answers.1, subst (λ (n : ℕ). old.journal.limit < n) (sym answers.1) answers.0);
   }
   keep-commits (change ∷ changes) old new before now (Err NoMemory) some answers steps journal = none-begun (commit_of old.tables (change ∷ changes)) old new answers
   keep-commits (change ∷ changes) old new before now (Err (NotAStore place found expected)) some answers steps journal = absurd answers
@@ -137,14 +137,14 @@ module _ {D : Type 0} (tells : DiskTells D) where
   pub committed-none : (serving : Serving) (kept : Kept D) (store : StoreState D) (rest : Serving → List Commit) → Represents kept serving → IsCommitted tells (rest serving) kept store store rest
   committed-none serving kept store rest represents = record { now = serving; represents = represents; made = []; first = refl; is = refl }
 
-  pub committed-next : (all : List Commit) (kept kept' : Kept D) (old mid new : StoreState D) (rest rest' : Serving → List Commit) (o : IsCommitted tells all kept old mid rest) (next : List Commit) (then : Serving)
-      → rest o.now ≡ next ++ rest' then → Represents kept' then → AreMade tells next mid new → IsCommitted tells all kept' old new rest'
-  committed-next all kept kept' old mid new rest rest' o next then splits represents made = record {
-    now = then;
+  pub committed-next : (all : List Commit) (kept kept' : Kept D) (old mid new : StoreState D) (rest rest' : Serving → List Commit) (o : IsCommitted tells all kept old mid rest) (next : List Commit) (after : Serving)
+      → rest o.now ≡ next ++ rest' after → Represents kept' after → AreMade tells next mid new → IsCommitted tells all kept' old new rest'
+  committed-next all kept kept' old mid new rest rest' o next after splits represents made = record {
+    now = after;
     represents = represents;
     made = o.made ++ next;
     first = made-join tells o.made next old mid new o.first made;
-    is = o.is ∙ ap (λ (more : List Commit). o.made ++ more) splits ∙ sym (append_assoc o.made next (rest' then));
+    is = o.is ∙ ap (λ (more : List Commit). o.made ++ more) splits ∙ sym (append_assoc o.made next (rest' after));
   }
 
   -- an error comes in the next part
@@ -169,9 +169,9 @@ pub break-changes : (state : State) (party : StandingParty) (setting : Setting) 
 break-changes state party setting sound found =
     let heard = with_message Break party in
     let leaves : decision state party setting Break ≡ Leaves = decided (pending party.trace) state party setting in
-    let after : tables_of (answered state party setting Break).state ≡ tables_of state =
+    let stays : tables_of (answered state party setting Break).state ≡ tables_of state =
     ap (λ (one : Decision). tables_of (met (record state { parties = with_party heard state.parties }) heard setting Break one).state) leaves
     ∙ ap tables_of (broken_same state party.link party (Break ∷ party.trace) sound.linked found) ∙ breaks_keep state party.link sound in
     ap (λ (standing : Option StandingParty). changes_of_party state setting Break standing) found
     ∙ ap (λ (one : Decision). changes_where state party setting Break one) leaves
-    ∙ no_change (tables_of state) state (answered state party setting Break).state sound refl after
+    ∙ no_change (tables_of state) state (answered state party setting Break).state sound refl stays

@@ -213,11 +213,11 @@ module _ {D : Type 0} (moment : ℕ) (link link' : Link) (kept : Kept D) (octets
         (subst (λ (answers : List Answer). Answers answers heard.state mid (put_back goes link2 kept') mid') turns-are (does heard.state heard-represents))
 
     -- the commits of the turns, and then of what comes after
-    abbrev then : Serving
-    then = at_end heard.state turns
+    abbrev last : Serving
+    last = at_end heard.state turns
 
     abbrev ending : List Commit
-    ending = commits then (after_octet link.number then) (to_ending then (party_of link.number then.filestore.parties))
+    ending = commits last (after_octet link.number last) (to_ending last (party_of link.number last.filestore.parties))
 
     commits-are : commits_heard moment link.number serving octets ≡ commits_told_all moment link'.number heard.state told ++ ending
     commits-are =
@@ -227,11 +227,11 @@ module _ {D : Type 0} (moment : ℕ) (link link' : Link) (kept : Kept D) (octets
         ∙ sym (ap (λ (n : ℕ). commits_told_all moment n heard.state told ++ ending) numbered
         ∙ ap (λ (all : List Indication). commits_told_all moment link.number heard.state all ++ ending) is_heard.told_is)
 
-    commits-made : (tells : DiskTells D) (store : StoreState D) → IsSound then.filestore → AreMade tells (commits_told_all moment link'.number heard.state told) kept.store store
+    commits-made : (tells : DiskTells D) (store : StoreState D) → IsSound last.filestore → AreMade tells (commits_told_all moment link'.number heard.state told) kept.store store
         → AreMade tells (commits_heard moment link.number serving octets) kept.store store
     commits-made tells store sound made =
         let front = commits_told_all moment link'.number heard.state told in
-        let none : ending ≡ [] = ending-commits link.number then (party_of link.number then.filestore.parties) sound refl in
+        let none : ending ≡ [] = ending-commits link.number last (party_of link.number last.filestore.parties) sound refl in
         subst (λ (all : List Commit). AreMade tells all kept.store store)
         (sym (commits-are ∙ ap (λ (more : List Commit). front ++ more) none ∙ append-nil front)) made
 

@@ -1,6 +1,6 @@
 -- Which commits of the store answers take, one after another, and how far they are made (profile). What a message changes is
 -- one commit, and a message that changes nothing takes none. So what the disk is called for follows from the answers alone.
-use Rattle.std.specs.Prelude.{◌≡◌, ℕ, ◌≤◌, Bool, true, false, List, [], ◌∷◌, ◌++◌, Option, None, Some, Result, Ok, Err}
+use Rattle.std.specs.Prelude.{◌≡◌, ℕ, ◌<◌, ◌≤◌, Bool, true, false, List, [], ◌∷◌, ◌++◌, Option, None, Some, Result, Ok, Err}
 use Rattle.vf_base.specs.declared.events.ScriptEvent.{ScriptEvent}
 use Rattle.vf_disk.specs.Plans.{StopPlan}
 use Rattle.vf_disk.specs.State.{State as DiskState}
@@ -79,7 +79,7 @@ IsNext tells DiskFault [] old new = ⊥
 IsNext tells DiskFault (commit ∷ later) old new = IsWritten tells commit old new true
 IsNext tells (Full place limit) [] old new = ⊥
 IsNext tells (Full place limit) (commit ∷ later) old new =
-    (new ≡ old) × (old.tables ≡ commit.tables) × (place ≡ (placed old.journal commit.tables commit.changes).end)
+    (new ≡ old) × (old.tables ≡ commit.tables) × (place ≡ (placed old.journal commit.tables commit.changes).end) × (old.journal.limit < place)
 IsNext tells NoMemory rest old new = new ≡ old
 IsNext tells (NotAStore place found expected) rest old new = ⊥
 
