@@ -1,8 +1,9 @@
 -- Answers one after another, what is said in them, and what the disk represents along them.
-use Rattle.std.proofs.Common.{◌≡◌, ℕ, zero, suc, List, [], ◌∷◌, ◌++◌, take, Option, refl, ap, sym, subst, ◌∙◌, append_assoc, append-nil}
+use Rattle.std.proofs.Common.{◌≡◌, ℕ, List, [], ◌∷◌, ◌++◌, take, Option, refl, ap, sym, subst, ◌∙◌, append_assoc, append-nil}
 use Rattle.vf_disk.proofs.Runs.{joined, weaker}
 use Rattle.vf_disk.specs.Disk.{LeavesOnly}
 use Rattle.vf_store.specs.Represented.{Represents as ImageRepresents}
+use Rattle.vf_responder.proofs.Alongside.{along_first, along_later}
 use Rattle.vf_responder.specs.Along.{RepresentsAlong}
 use Rattle.vf_responder.specs.Answers.{Answer, at_end, spoken_in}
 use Rattle.vf_responder.specs.Represents.{Answers, Kept, Represents}
@@ -19,40 +20,13 @@ spoken-join [] second = refl
 spoken-join (answer ∷ first) second =
     ap (λ (said : List Reply). answer.spoken ++ said) (spoken-join first second) ∙ sym (append_assoc answer.spoken (spoken_in first) (spoken_in second))
 
--- So many answers from the beginning are so many of the first ones,
-front-count : (count : ℕ) (first rest : List Answer) → (n : ℕ) × (take n (first ++ rest) ≡ take count first)
-front-count zero first rest = (0, refl)
-front-count (suc count) [] rest = (0, refl)
-front-count (suc count) (answer ∷ first) rest =
-    let more = front-count count first rest in (suc more.0, ap (λ (answers : List Answer). answer ∷ answers) more.1)
-
--- and after these so many of the next ones.
-later-count : (count : ℕ) (first next : List Answer) → (n : ℕ) × (take n (first ++ next) ≡ first ++ take count next)
-later-count count [] next = (count, refl)
-later-count count (answer ∷ first) next =
-    let more = later-count count first next in (suc more.0, ap (λ (answers : List Answer). answer ∷ answers) more.1)
-
-pub along-front : (state : Serving) (first rest : List Answer) (image : List ℕ) → RepresentsAlong state first image → RepresentsAlong state (first ++ rest) image
-along-front state first rest image along =
-    let n = front-count along.0 first rest in
-    (n.0, subst (λ (answers : List Answer). ImageRepresents image (tables_in (at_end state answers))) (sym n.1) along.1)
-
-pub along-later : (state : Serving) (first next : List Answer) (image : List ℕ) → RepresentsAlong (at_end state first) next image → RepresentsAlong state (first ++ next) image
-along-later state first next image along =
-    let n = later-count along.0 first next in
-    let is : at_end state (take n.0 (first ++ next)) ≡ at_end (at_end state first) (take along.0 next) =
-    ap (at_end state) n.1 ∙ at_end-join state first (take along.0 next) in
-    (n.0, subst (λ (s : Serving). ImageRepresents image (tables_in s)) (sym is) along.1)
-
 -- the tables before the first answer, and after the last one
 pub along-none : (state : Serving) (answers : List Answer) (image : List ℕ) → ImageRepresents image (tables_in state) → RepresentsAlong state answers image
 along-none state answers image represents = (0, represents)
 
 pub along-all : (state : Serving) (answers : List Answer) (image : List ℕ) → ImageRepresents image (tables_in (at_end state answers)) → RepresentsAlong state answers image
 along-all state answers image represents =
-    let n = later-count 0 answers [] in
-    let is : take n.0 answers ≡ answers = subst (λ (whole : List Answer). take n.0 whole ≡ answers ++ []) (append-nil answers) n.1 ∙ append-nil answers in
-    (n.0, subst (λ (some : List Answer). ImageRepresents image (tables_in (at_end state some))) (sym is) represents)
+    subst (λ (some : List Answer). RepresentsAlong state some image) (append-nil answers) (along_later state answers [] image (0, represents))
 
 -- ANSWERED SO FAR. Of all answers these were made, and the rest is what the state then has left.
 pub record IsOnward {D : Type 0} (all : List Answer) (serving : Serving) (old : List Reply) (kept : Kept D) (new : List Reply) (rest : Serving → List Answer) : Type 0 where
@@ -99,7 +73,7 @@ pub onward-along : {D : Type 0} (all : List Answer) (serving : Serving) (old mid
 onward-along all serving old mid kept rest o next later splits image along =
     let is : all ≡ o.done ++ (next ++ later) = o.whole ∙ ap (λ (answers : List Answer). o.done ++ answers) splits in
     subst (λ (answers : List Answer). RepresentsAlong serving answers image) (sym is)
-    (along-later serving o.done (next ++ later) image (along-front (at_end serving o.done) next later image along))
+    (along_later serving o.done (next ++ later) image (along_first (at_end serving o.done) next later image along))
 
 module _ {D : Type 0} (moment : D → ℕ) (left_since : D → ℕ → List ℕ → Type 0) where
   -- a run goes on along all

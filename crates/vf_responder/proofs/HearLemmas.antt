@@ -28,7 +28,8 @@ use Rattle.vf_stack.specs.declared.indication.Indication.{Indication}
 use Rattle.vf_stack.specs.declared.indication.Indication.TheVariants as indications
 use Rattle.vf_store.specs.StoreState.{StoreState}
 use Rattle.vf_tpkt.specs.Wanting.{lacking}
-use Rattle.vf_responder.proofs.ChainLemmas.{along-front, along-later, joined-answers}
+use Rattle.vf_responder.proofs.Alongside.{along_first, along_later}
+use Rattle.vf_responder.proofs.ChainLemmas.{joined-answers}
 use Rattle.vf_responder.proofs.CommitLemmas.{all-made, up-front}
 use Rattle.vf_responder.proofs.CommitParts.{ending-commits}
 use Rattle.vf_responder.proofs.FullLemmas.{full-to}
@@ -193,7 +194,7 @@ module _ {D : Type 0} (moment : ℕ) (link link' : Link) (kept : Kept D) (octets
     turns-along image along =
         let rest = after_octet link.number (at_end heard.state turns) in
         let now : RepresentsAlong heard.state turns image = subst (λ (answers : List Answer). RepresentsAlong heard.state answers image) turns-are along in
-        is-same.along image (along-later serving (heard ∷ []) (turns ++ rest) image (along-front heard.state turns rest image now))
+        is-same.along image (along_later serving (heard ∷ []) (turns ++ rest) image (along_first heard.state turns rest image now))
 
     all-answers : (kept1 kept2 : Kept D) (mid' new : List Reply) → Answers turns heard.state mid kept1 mid' → Answers (after_octet link.number (at_end heard.state turns)) (at_end heard.state turns) mid' kept2 new
         → Answers (octets_heard moment link.number serving octets) serving old kept2 new

@@ -33,3 +33,4 @@ pub mod BegunLemmas
 pub mod PieceLoopLemmas
 pub mod AskedLemmas
 pub mod WayLemmas
+pub mod UnbegunLemmas

@@ -5,11 +5,11 @@ use Rattle.vf_filestore.specs.State.{StandingParty, party_of}
 use Rattle.vf_stack.specs.declared.indication.Indication.{Indication}
 use Rattle.vf_disk.specs.Disk.{LeavesOnly}
 use Rattle.vf_responder.proofs.ChainLemmas.{IsOnward, onward-all, onward-along, onward-next, run-next}
-use Rattle.vf_responder.proofs.MoveLemmas.{none-by}
+use Rattle.vf_responder.proofs.MoveLemmas.{nobody-on}
 use Rattle.vf_responder.proofs.TellLemmas.{heard-cut, heard-gone, told-gone}
 use Rattle.vf_responder.specs.Along.{RepresentsAlong}
 use Rattle.vf_responder.specs.Answers.{Answer, at_end, octets_heard, told, told_all}
-use Rattle.vf_responder.specs.Represents.{Answers, Does, IsLinkOf, Kept, Represents, link_of}
+use Rattle.vf_responder.specs.Represents.{Answers, Does, Kept, Represents, link_of}
 use Rattle.vf_responder.specs.Serving.{Serving}
 use Rattle.vf_responder.specs.declared.event.Reply.{Reply}
 use Rattle.vf_responder.specs.declared.link.Link.{Link}
@@ -29,24 +29,18 @@ round-next all part rest number other serving old mid new kept kept' same o does
     onward-next all serving old mid new kept kept' (λ s. part number s ++ rest number (at_end s (part number s))) (rest number) o (part number now) refl
     (does-now part number other now kept kept' mid new same does o.answers.represents)
 
--- nobody stands on the link once it isn't put back
-nobody-by : {D : Type 0} (number : ℕ) (kept : Kept D) (serving : Serving) → Represents kept serving → link_of number kept.links ≡ None → party_of number serving.filestore.parties ≡ None
-nobody-by number kept serving represents free =
-    none-by number (party_of number serving.filestore.parties) (serving.associations number)
-    (subst (λ (l : Option Link). IsLinkOf number l (party_of number serving.filestore.parties) (serving.associations number)) free (represents.links number))
-
 pub told-end : {D : Type 0} (moment number : ℕ) (all : List Answer) (serving : Serving) (old new : List Reply) (kept : Kept D) (rest : List Indication)
     → IsOnward all serving old kept new (λ s. told_all moment number s rest) → link_of number kept.links ≡ None → Answers all serving old kept new
 told-end moment number all serving old new kept rest o free =
     onward-all all serving old new kept (λ s. told_all moment number s rest) o
-    (told-gone moment number (at_end serving o.done) rest (nobody-by number kept (at_end serving o.done) o.answers.represents free))
+    (told-gone moment number (at_end serving o.done) rest (nobody-on number kept (at_end serving o.done) o.answers.represents free))
 
 pub heard-end : {D : Type 0} (moment number : ℕ) (all : List Answer) (serving : Serving) (old new : List Reply) (kept : Kept D) (rest : List ℕ)
     → IsOnward all serving old kept new (λ s. octets_heard moment number s rest) → link_of number kept.links ≡ None → Answers all serving old kept new
 heard-end moment number all serving old new kept rest o free =
     onward-all all serving old new kept (λ s. octets_heard moment number s rest) o
     (heard-gone moment number (at_end serving o.done) rest
-    (ap (λ (p : Option StandingParty). is_some p) (nobody-by number kept (at_end serving o.done) o.answers.represents free)))
+    (ap (λ (p : Option StandingParty). is_some p) (nobody-on number kept (at_end serving o.done) o.answers.represents free)))
 
 -- a piece is cut into its front and the rest
 pub cut-onward : {D : Type 0} (moment number : ℕ) (all : List Answer) (serving : Serving) (old new : List Reply) (kept : Kept D) (whole front more : List ℕ) → whole ≡ front ++ more

@@ -16,3 +16,4 @@ pub mod Hears
 pub mod Served
 pub mod Sends
 pub mod Examples
+pub mod Unbegun

@@ -17,7 +17,9 @@ mod serving;
 
 pub use error::ServeError;
 pub use event::{Event, Reply};
-pub use laws::{examples_compute, octets_may_be_cut, runs_are_filestore_runs};
+pub use laws::{
+    examples_compute, octets_may_be_cut, runs_are_filestore_runs, some_tables_begin_none,
+};
 pub use responder::Responder;
 pub use serving::{Served, serve};
 pub use vf_store::StoreError as RespondError;

@@ -54,8 +54,6 @@ impl<D: Disk> Responder<D> {
     /// otherwise only looked at. With an error the disk is given back.
     pub fn open(alloc: Global, disk: D, limit: u64) -> Result<Responder<D>, (D, StoreError)>
         ensures answers { (image : List ℕ) → D.shown disk ≡ Some image → OpenAnswers image (answer_of result) }
-        ensures begins { (image : List ℕ) (tables : TablesMeant) (serving : Serving) → D.shown disk ≡ Some image → ImageRepresents image tables → IsBegun tables serving
-            → IfOk result (λ responder. Represents responder serving) }
         ensures begun { (serving : Serving) → IfOk result (λ responder. IsBegun responder.store.tables serving → Represents responder serving) }
         ensures tables { (image : List ℕ) → D.shown disk ≡ Some image → IfOk result (λ responder. responder.store.tables ≡ read_from (records_of image) no_tables) }
         ensures represented { (image : List ℕ) (tables : TablesMeant) → D.shown disk ≡ Some image → ImageRepresents image tables
