@@ -10,22 +10,15 @@ ghost use Rattle.vf_transact.specs.Starting.{IsAmong, IsTakenUp, ReadsByCause, T
 ghost use Rattle.vf_transact.specs.Transaction.{BreaksByCause, DiskByCause, DoesTransact, IsRefused, StoreByCause};
 
 use crate::connecting::{Outcome, connect};
-use crate::limits::{BLOCK, STORE_LIMIT};
+use crate::limits::STORE_LIMIT;
+use crate::reading::room_for_a_block;
 use crate::starting::{Begun, take_up};
 use crate::{PlanWords, TransactError};
 use std::alloc::Global;
-use vf_base::{Dial, NoMemory, Sink, Source};
+use vf_base::{Dial, Sink, Source};
 use vf_disk::Disk;
 use vf_initiator::{Plan, Report};
 use vf_store::Store;
-
-fn room_for_a_block(alloc: Global) -> Result<Vec<u8>, NoMemory>
-    ensures { IfOk result (λ room. 65535 ≤ length room.items) }
-{
-    let mut room = Vec::new(alloc);
-    room.resize(BLOCK, 0)?;
-    Ok(room)
-}
 
 /// Tries connections until the task isn't going on; answers how many octets of strings were received.
 fn connect_all<D: Disk, C: Dial, O: Sink>(
