@@ -27,11 +27,18 @@ use crate::stage::Stage;
 use crate::{Doing, Plan, TaskError};
 use std::alloc::Global;
 use vf_base::{Elements, NoMemory};
-use vf_stack::{Indication, Request, Stack, few_octets_tell_last};
+use vf_stack::{Indication, Item, Request, Stack, few_octets_tell_last};
 use vf_tables::{Changes, Task as KeptTask, Way};
+use vf_tree::octets_of;
 
 /// One connection gives at most so many octets.
 const BUDGET: u64 = 1_073_741_824;
+
+/// What stands around the octets of an element where it is sent; a long one may have more.
+const AROUND_ELEMENT: usize = 64;
+
+/// What the other requests of a transfer are sent in.
+const AROUND_PDU: usize = 64;
 
 /// The initiator of one connection: it says what its task wants (ISO 8571-3), and takes what the other end says to it.
 #[derive(Drop)]
@@ -303,6 +310,33 @@ fn append_all(octets: Vec<u8>, out: &mut Vec<u8>) -> Result<(), NoMemory>
     Ok(())
 }
 
+/// About how many octets a request is sent in. No promise rests on it: where it has more, the room for it grows.
+fn room_of(request: &Request) -> usize {
+    match request {
+        Request::Item(Item::Element(element)) => {
+            (octets_of(element) as usize).saturating_add(AROUND_ELEMENT)
+        }
+        _ => AROUND_PDU,
+    }
+}
+
+/// About how many octets requests are sent in.
+fn room_for(requests: &[Request]) -> usize {
+    let mut room: usize = 0;
+    for request in requests {
+        room = room.saturating_add(room_of(request));
+    }
+    room
+}
+
+/// Makes the room for what requests are sent in, so that what stands isn't moved as it grows.
+fn make_room(requests: &[Request], out: &mut Vec<u8>) -> Result<(), NoMemory>
+    ensures { out.new.items ≡ out.old.items }
+{
+    out.reserve(room_for(requests))?;
+    Ok(())
+}
+
 /// Sends requests in their order, each where it may be sent.
 fn send_all(
     alloc: Global,
@@ -311,6 +345,19 @@ fn send_all(
     out: &mut Vec<u8>,
 ) -> Result<(), NoMemory>
     // Of every association that the stack represents.
+    ensures sent { (a : Association) → IsStackOf stack.old a → side_of stack.old ≡ sides.Initiator → OnOk result (Sends (AreSent (offer_of stack.old) a requests.now) out.old.items stack.new out.new.items) }
+    ensures end { IsSameEnd stack.old stack.new }
+{
+    make_room(requests, out)?;
+    send_each(alloc, stack, requests, out)
+}
+
+fn send_each(
+    alloc: Global,
+    stack: &mut Stack,
+    requests: &[Request],
+    out: &mut Vec<u8>,
+) -> Result<(), NoMemory>
     ensures sent { (a : Association) → IsStackOf stack.old a → side_of stack.old ≡ sides.Initiator → OnOk result (Sends (AreSent (offer_of stack.old) a requests.now) out.old.items stack.new out.new.items) }
     ensures end { IsSameEnd stack.old stack.new }
 {

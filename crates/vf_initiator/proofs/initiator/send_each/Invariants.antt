@@ -3,7 +3,7 @@ use Rattle.vf_initiator.specs.Owed.{IsSameEnd, SendsOnward}
 use Rattle.vf_session.specs.declared.units.TokenSide.TheVariants as sides
 use Rattle.vf_stack.specs.Association.{Association}
 use Rattle.vf_stack.specs.Represents.{Represents as IsStackOf, offer_of, side_of}
-use Rattle.vf_initiator.proofs.initiator.send_all.Given as goal
+use Rattle.vf_initiator.proofs.initiator.send_each.Given as goal
 
 -- the requests that are left send the rest
 abbrev pub invariant-loop-request : goal.invariant-loop-request
