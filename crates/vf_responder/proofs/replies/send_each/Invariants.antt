@@ -4,7 +4,7 @@ use Rattle.vf_stack.specs.declared.indication.Indication.{Indication}
 use Rattle.vf_responder.specs.Replies.{sending_all}
 use Rattle.vf_responder.specs.Steps.{IsAsked, IsCalled}
 use Rattle.vf_responder.proofs.SendingLemmas.{IsAlong}
-use Rattle.vf_responder.proofs.replies.send_all.Given as goal
+use Rattle.vf_responder.proofs.replies.send_each.Given as goal
 
 abbrev pub invariant-loop-one : goal.invariant-loop-one
 invariant-loop-one l = (association : Association) (indication : Indication) → IsCalled l.fn.stack association → IsAsked l.fn.asked indication
