@@ -1,5 +1,5 @@
 //! A task, from its words to its report.
-ghost use Rattle.std.specs.Prelude.{◌≡◌, ◌≤◌, ℕ, List, IfOk, Some, false, length, true};
+ghost use Rattle.std.specs.Prelude.{◌≡◌, ℕ, List, IfOk, Some, false, true};
 ghost use Rattle.vf_base.specs.Dial.{Connections};
 ghost use Rattle.vf_base.specs.Streams.{IsAtEnd};
 ghost use Rattle.vf_store.specs.Represented.{Represents};
