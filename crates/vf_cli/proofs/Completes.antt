@@ -2,10 +2,13 @@
 use Rattle.std.proofs.Common.{◌≡◌, inl, inr, ⊎_elim, ℕ, Bool, true, false, not, ◌&&◌, List, [], ◌∷◌, nat_eq, nat_lt, if◌then◌else◌, Option, Some, None, Result, Ok, Err, arith, refl, subst, sym, ◌∙◌}
 use Rattle.std.proofs.lemmas.Bool.Decides.{nat_tests}
 use Rattle.vf_attr.specs.declared.file.File.{File}
-use Rattle.vf_cli.specs.Ftam.{drop_statuses, generate_statuses, list_status, serve_statuses, task_statuses}
+use Rattle.vf_cli.specs.Ftam.{drop_statuses, generate_statuses, list_status, replay_status, serve_statuses, task_statuses}
 use Rattle.vf_cli_dialogue.specs.Dialogue.{MeetsDialogue, dialogue}
+use Rattle.vf_cli_replay.specs.Replayed.{EndsReplay, PrintsReplay, PrintsTold}
+use Rattle.vf_cli_script.specs.Scripts.{told_by}
+use Rattle.vf_cli_script.specs.declared.script.Script.{Script}
 use Rattle.vf_cli_generate.specs.Generating.{EndsGenerate, PrintsMade, RefusesGenerate}
-use Rattle.vf_cli_printing.specs.Printed.{IsOneOf, Printed, Prints}
+use Rattle.vf_cli_printing.specs.Printed.{IsOneOf, Printed, Prints, bad_line}
 use Rattle.vf_cli_serve.specs.Served.{EndsServe, PrintsServed}
 use Rattle.vf_cli_transact.specs.Lines.{PrintsAnswer, PrintsReport, failure_status, in_use}
 use Rattle.vf_cli_transact.specs.Tasks.{EndsTask}
@@ -65,6 +68,9 @@ list_never = never (0 ∷ 4 ∷ 5 ∷ 8 ∷ 9 ∷ 12 ∷ [])
 pub drop_never : (number status : ℕ) → is_apart (0 ∷ 1 ∷ 4 ∷ 5 ∷ 8 ∷ 9 ∷ 12 ∷ []) number ≡ true → EndsDrop status → status ≡ number → ⊥
 drop_never = never (0 ∷ 1 ∷ 4 ∷ 5 ∷ 8 ∷ 9 ∷ 12 ∷ [])
 
+pub replay_never : (number status : ℕ) → is_apart (0 ∷ 3 ∷ 4 ∷ 9 ∷ 11 ∷ []) number ≡ true → EndsReplay status → status ≡ number → ⊥
+replay_never = never (0 ∷ 3 ∷ 4 ∷ 9 ∷ 11 ∷ [])
+
 pub serve_never : (number status : ℕ) → is_apart (0 ∷ 4 ∷ 5 ∷ 8 ∷ 9 ∷ 10 ∷ 12 ∷ []) number ≡ true → EndsServe status → status ≡ number → ⊥
 serve_never = never (0 ∷ 4 ∷ 5 ∷ 8 ∷ 9 ∷ 10 ∷ 12 ∷ [])
 
@@ -101,6 +107,14 @@ module _ (status : ℕ) (three : status ≡ 3 → ⊥) (four : status ≡ 4 → 
       → IsOneOf ((dialogue lines).status ∷ 9 ∷ []) status
   dialogue_ends left old new lines is meets =
       ends (3 ∷ 4 ∷ 9 ∷ []) (dialogue lines) old new without_five (subst (λ (l : Option (List ℕ)). MeetsDialogue status l old new) is meets)
+
+  told_ends : (told : Result Script ℕ) (old new : Option (List ℕ)) → PrintsTold told status old new → IsOneOf (replay_status told ∷ 9 ∷ []) status
+  told_ends (Ok script) old new prints = ends (4 ∷ []) (record { octets = prints.0; status = 0 }) old new only_four prints.1.1
+  told_ends (Err number) old new prints = ends (4 ∷ []) (record { octets = bad_line number; status = 11 }) old new only_four prints
+
+  pub replay_ends : (octets : List ℕ) (old new : Option (List ℕ)) → PrintsReplay octets status old new → IsOneOf (replay_status (told_by octets) ∷ 9 ∷ []) status
+  replay_ends octets old new prints =
+      ⊎_elim (λ nothing. inr (⊎_elim (λ e. absurd (three e)) (λ rest. rest) nothing.0)) (λ told. told_ends (told_by octets) old new told) prints
 
   pub list_ends : (refused : Option Refusal) (files : List File) (old new : Option (List ℕ)) → PrintsOpened refused files status old new
       → IsOneOf (list_status refused ∷ 9 ∷ []) status

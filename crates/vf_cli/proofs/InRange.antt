@@ -7,7 +7,7 @@ use Rattle.vf_cli.specs.TaskWords.{task_for, task_in, task_with}
 use Rattle.vf_cli_words.proofs.Values.{given_are_values, value_is}
 use Rattle.vf_cli_words.specs.Words.{Asked, Given, all_fit, are_values, asked_by, asked_with, command_named, given_in, is_given, is_in, is_number, is_value, number_at, number_by, number_in, number_of, place_of, range_of, value_of}
 use Rattle.vf_cli_words.specs.declared.command.Command.{Command}
-use Rattle.vf_cli_words.specs.declared.command.Command.TheVariants.{Dialogue, InitStore, ListFiles, ListDockets, DropKept, Serve, Put, Get, Generate}
+use Rattle.vf_cli_words.specs.declared.command.Command.TheVariants.{Dialogue, InitStore, ListFiles, ListDockets, DropKept, Replay, Serve, Put, Get, Generate}
 use Rattle.vf_cli_words.specs.declared.options.Key.{Key}
 use Rattle.vf_cli_words.specs.declared.options.Key.TheVariants.{Password, Kind, Activity, Tries, Every}
 use Rattle.vf_cli_words.specs.declared.options.Range.{Range}
@@ -83,6 +83,7 @@ for_command InitStore given plan all is = absurd (let wrong : None ≡ Some plan
 for_command ListFiles given plan all is = absurd (let wrong : None ≡ Some plan = is in cc)
 for_command ListDockets given plan all is = absurd (let wrong : None ≡ Some plan = is in cc)
 for_command DropKept given plan all is = absurd (let wrong : None ≡ Some plan = is in cc)
+for_command Replay given plan all is = absurd (let wrong : None ≡ Some plan = is in cc)
 for_command Serve given plan all is = absurd (let wrong : None ≡ Some plan = is in cc)
 for_command Generate given plan all is = absurd (let wrong : None ≡ Some plan = is in cc)
 

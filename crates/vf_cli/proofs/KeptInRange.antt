@@ -5,7 +5,7 @@ use Rattle.vf_cli.specs.KeptWords.{kept_by, kept_for, kept_in, kept_of}
 use Rattle.vf_cli.proofs.InRange.{by_value}
 use Rattle.vf_cli_words.specs.Words.{Asked, Given, asked_by, number_at, value_of}
 use Rattle.vf_cli_words.specs.declared.command.Command.{Command}
-use Rattle.vf_cli_words.specs.declared.command.Command.TheVariants.{Dialogue, InitStore, ListFiles, ListDockets, DropKept, Serve, Put, Get, Generate}
+use Rattle.vf_cli_words.specs.declared.command.Command.TheVariants.{Dialogue, InitStore, ListFiles, ListDockets, DropKept, Replay, Serve, Put, Get, Generate}
 use Rattle.vf_cli_words.specs.declared.options.Key.TheVariants.{Activity, User}
 use Rattle.vf_store_commands.specs.Dropping.{HasActivity}
 use Rattle.vf_store_commands.specs.declared.dropping.KeptEntry.{KeptEntry}
@@ -30,6 +30,7 @@ for_command Dialogue given kept is = absurd (let wrong : None ≡ Some kept = is
 for_command InitStore given kept is = absurd (let wrong : None ≡ Some kept = is in cc)
 for_command ListFiles given kept is = absurd (let wrong : None ≡ Some kept = is in cc)
 for_command ListDockets given kept is = absurd (let wrong : None ≡ Some kept = is in cc)
+for_command Replay given kept is = absurd (let wrong : None ≡ Some kept = is in cc)
 for_command Serve given kept is = absurd (let wrong : None ≡ Some kept = is in cc)
 for_command Put given kept is = absurd (let wrong : None ≡ Some kept = is in cc)
 for_command Get given kept is = absurd (let wrong : None ≡ Some kept = is in cc)

@@ -1,8 +1,11 @@
 -- What the program prints, by its words (profile), and what its call owes of it.
-use Rattle.std.specs.Prelude.{◌≡◌, ◌⊎◌, ℕ, Bool, true, false, List, [], ◌∷◌, ◌++◌, Option, None, Some, codes}
+use Rattle.std.specs.Prelude.{◌≡◌, ◌⊎◌, ℕ, Bool, true, false, List, [], ◌∷◌, ◌++◌, Option, None, Some, Result, Ok, Err, codes}
 use Rattle.vf_cli_dialogue.specs.Dialogue.{MeetsDialogue, dialogue}
 use Rattle.vf_cli_printing.specs.Printed.{IsOneOf, Printed, Prints, line_feed}
 use Rattle.vf_cli_generate.specs.Generating.{DoesGenerate, EndsGenerate}
+use Rattle.vf_cli_replay.specs.Replayed.{EndsReplay, PrintsReplay}
+use Rattle.vf_cli_script.specs.Scripts.{told_by}
+use Rattle.vf_cli_script.specs.declared.script.Script.{Script}
 use Rattle.vf_cli_serve.specs.Served.{EndsServe}
 use Rattle.vf_cli_transact.specs.Tasks.{DoesTask, Ends, EndsTask}
 use Rattle.vf_disk.specs.Disk.{LeavesOnly}
@@ -15,7 +18,7 @@ use Rattle.vf_store_commands.specs.Making.{EndsInit, IsAsBefore, printed_by_init
 use Rattle.vf_store_commands.specs.declared.dropping.KeptEntry.{KeptEntry}
 use Rattle.vf_tables.specs.declared.tables.Tables.{Tables}
 use Rattle.vf_cli_words.specs.declared.command.Command.{Command}
-use Rattle.vf_cli_words.specs.declared.command.Command.TheVariants.{Dialogue, InitStore, ListFiles, ListDockets, DropKept, Serve, Put, Get, Generate}
+use Rattle.vf_cli_words.specs.declared.command.Command.TheVariants.{Dialogue, InitStore, ListFiles, ListDockets, DropKept, Replay, Serve, Put, Get, Generate}
 use Rattle.vf_cli_words.specs.declared.words.Drawn.{Drawn}
 use Rattle.vf_transact.specs.declared.words.PlanWords.{PlanWords}
 
@@ -41,6 +44,9 @@ MeetsList status disk old new = EndsList status × ((image : List ℕ) → disk 
 abbrev pub MeetsDockets : ℕ → (disk old new : Option (List ℕ)) → Type 0
 MeetsDockets status disk old new = EndsList status × ((image : List ℕ) → disk ≡ Some image → PrintsDockets image status old new)
 
+abbrev pub MeetsReplay : ℕ → (left old new : Option (List ℕ)) → Type 0
+MeetsReplay status left old new = EndsReplay status × ((octets : List ℕ) → left ≡ Some octets → PrintsReplay octets status old new)
+
 -- what a call with this command, or with words outside the grammar, owes of what it prints and of its status
 abbrev pub MeetsCommand : Option Command → ℕ → (disk left old new : Option (List ℕ)) → Type 0
 MeetsCommand None status disk left old new = Prints (4 ∷ []) usage status old new
@@ -49,6 +55,7 @@ MeetsCommand (Some InitStore) status disk left old new = MeetsInit status disk l
 MeetsCommand (Some ListFiles) status disk left old new = MeetsList status disk old new
 MeetsCommand (Some ListDockets) status disk left old new = MeetsDockets status disk old new
 MeetsCommand (Some DropKept) status disk left old new = EndsDrop status
+MeetsCommand (Some Replay) status disk left old new = MeetsReplay status left old new
 MeetsCommand (Some Serve) status disk left old new = EndsServe status
 MeetsCommand (Some Put) status disk left old new = EndsTask status
 MeetsCommand (Some Get) status disk left old new = EndsTask status
@@ -107,6 +114,10 @@ abbrev pub generate_statuses : Option Refusal → List ℕ
 generate_statuses None = 0 ∷ 9 ∷ 12 ∷ []
 generate_statuses (Some refused) = 8 ∷ 9 ∷ []
 
+abbrev pub replay_status : Result Script ℕ → ℕ
+replay_status (Ok script) = 0
+replay_status (Err number) = 11
+
 abbrev pub statuses_of : Option Command → (disk input : List ℕ) → List ℕ
 statuses_of None disk input = 2 ∷ 9 ∷ []
 statuses_of (Some Dialogue) disk input = (dialogue input).status ∷ 9 ∷ []
@@ -114,6 +125,7 @@ statuses_of (Some InitStore) disk input = (printed_by_init disk input).status �
 statuses_of (Some ListFiles) disk input = list_status (refusal disk) ∷ 9 ∷ []
 statuses_of (Some ListDockets) disk input = (printed_by_dockets disk).status ∷ 9 ∷ []
 statuses_of (Some DropKept) disk input = drop_statuses (refusal disk)
+statuses_of (Some Replay) disk input = replay_status (told_by input) ∷ 9 ∷ []
 statuses_of (Some Serve) disk input = serve_statuses (refusal disk)
 statuses_of (Some Put) disk input = task_statuses (refusal disk)
 statuses_of (Some Get) disk input = task_statuses (refusal disk)
@@ -127,6 +139,7 @@ uses_disk (Some InitStore) = true
 uses_disk (Some ListFiles) = true
 uses_disk (Some ListDockets) = true
 uses_disk (Some DropKept) = true
+uses_disk (Some Replay) = false
 uses_disk (Some Serve) = true
 uses_disk (Some Put) = true
 uses_disk (Some Get) = true
@@ -140,6 +153,7 @@ only_looks (Some InitStore) = false
 only_looks (Some ListFiles) = true
 only_looks (Some ListDockets) = true
 only_looks (Some DropKept) = false
+only_looks (Some Replay) = false
 only_looks (Some Serve) = false
 only_looks (Some Put) = false
 only_looks (Some Get) = false
@@ -153,6 +167,7 @@ uses_links (Some InitStore) = false
 uses_links (Some ListFiles) = false
 uses_links (Some ListDockets) = false
 uses_links (Some DropKept) = false
+uses_links (Some Replay) = false
 uses_links (Some Serve) = true
 uses_links (Some Put) = false
 uses_links (Some Get) = false
@@ -166,6 +181,7 @@ uses_dial (Some InitStore) = false
 uses_dial (Some ListFiles) = false
 uses_dial (Some ListDockets) = false
 uses_dial (Some DropKept) = false
+uses_dial (Some Replay) = false
 uses_dial (Some Serve) = false
 uses_dial (Some Put) = true
 uses_dial (Some Get) = true

@@ -33,6 +33,7 @@ use vf_base::{Dial, Links, Sink, Source};
 use vf_cli_dialogue::dialogue;
 use vf_cli_generate::generate;
 use vf_cli_printing::{NO_MEMORY, USAGE, print};
+use vf_cli_replay::replay;
 use vf_cli_serve::serve;
 use vf_cli_transact::do_task;
 use vf_cli_words::{Command, drawn_by, parse};
@@ -41,8 +42,8 @@ use vf_store_commands::{dockets, drop_kept, init, list};
 
 /// Runs the command that the words ask for; answers its disk, and its status.
 ///
-/// `words` is the command line without the program's name. The disk is that of the store, which `dialogue` and words outside the
-/// grammar leave alone; only `serve` uses the links, and only `put` and `get` use the dial. The statuses: 0 the command came to
+/// `words` is the command line without the program's name. The disk is that of the store, which `dialogue`, `replay` and words
+/// outside the grammar leave alone; only `serve` uses the links, and only `put` and `get` use the dial. The statuses: 0 the command came to
 /// its end; 1 a diagnostic refused the task, or there is nothing to be dropped; 2 the words are outside the grammar; 3 the input failed; 4 the output failed; 5 the
 /// disk failed; 6 each connection of the task was lost; 7 an abort was said, or the other end of the task is at fault; 8 the disk
 /// has no store, or isn't empty where one is to be made; 9 memory is wanting; 10 the links failed; 11 a line of the input is bad;
@@ -115,6 +116,10 @@ pub fn ftam<L: Links, D: Disk, C: Dial, I: Source, O: Sink>(
         Some(Command::ListFiles) => list(alloc, disk, out),
         Some(Command::ListDockets) => dockets(alloc, disk, out),
         Some(Command::DropKept) => drop_named(alloc, words, disk, out),
+        Some(Command::Replay) => {
+            let status = replay(alloc, input, out);
+            (disk, status)
+        }
         Some(Command::Serve) => serve(alloc, links, disk, out),
         Some(Command::Put) => task(alloc, words, disk, dial, input, out),
         Some(Command::Get) => task(alloc, words, disk, dial, input, out),

@@ -6,7 +6,7 @@ use Rattle.std.specs.List.{list_all, position}
 use Rattle.std.specs.Option.{option_map, unwrap_or}
 use Rattle.vf_base.specs.Name.{is_name}
 use Rattle.vf_cli_words.specs.declared.command.Command.{Command}
-use Rattle.vf_cli_words.specs.declared.command.Command.TheVariants.{Dialogue, InitStore, ListFiles, ListDockets, DropKept, Serve, Put, Get, Generate}
+use Rattle.vf_cli_words.specs.declared.command.Command.TheVariants.{Dialogue, InitStore, ListFiles, ListDockets, DropKept, Replay, Serve, Put, Get, Generate}
 use Rattle.vf_cli_words.specs.declared.command.Wanted.{Wanted}
 use Rattle.vf_cli_words.specs.declared.words.Drawn.{Drawn}
 use Rattle.vf_cli_words.specs.declared.options.Key.{Key}
@@ -158,6 +158,7 @@ use_of InitStore key = a_store key
 use_of ListFiles key = a_store key
 use_of ListDockets key = a_store key
 use_of DropKept key = a_drop key
+use_of Replay key = no_options key
 use_of Serve key = a_place key
 use_of Put key = a_task key
 use_of Get key = a_task key
@@ -243,6 +244,7 @@ command_named name =
     else if is_word name (codes "list") then Some ListFiles
     else if is_word name (codes "dockets") then Some ListDockets
     else if is_word name (codes "drop") then Some DropKept
+    else if is_word name (codes "replay") then Some Replay
     else if is_word name (codes "serve") then Some Serve
     else if is_word name (codes "put") then Some Put
     else if is_word name (codes "get") then Some Get

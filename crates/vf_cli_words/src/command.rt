@@ -14,6 +14,8 @@ pub enum Command {
     ListDockets,
     /// `drop`: a docket or a task of a store is dropped.
     DropKept,
+    /// `replay`: a script of incarnations of the responder, on a disk in memory.
+    Replay,
     /// `serve`: the associations that come to a port, over a store.
     Serve,
     /// `put`: the input becomes the contents of a file of another filestore.

@@ -172,7 +172,7 @@ fn use_of(command: Command, key: Key) -> Use
     ensures { result ≡ use_meant command key }
 {
     match command {
-        Command::Dialogue => Use::Unknown,
+        Command::Dialogue | Command::Replay => Use::Unknown,
         Command::InitStore | Command::ListFiles | Command::ListDockets => match key {
             Key::Store => Use::Required,
             _ => Use::Unknown,

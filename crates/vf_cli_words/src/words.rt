@@ -80,6 +80,9 @@ fn command_named(name: &str) -> Option<Command>
     if name == "drop" {
         return Some(Command::DropKept);
     }
+    if name == "replay" {
+        return Some(Command::Replay);
+    }
     if name == "serve" {
         return Some(Command::Serve);
     }

@@ -28,7 +28,7 @@ fn what_commands_over_a_store_want(rt: HostRuntime) -> Result<(), NoMemory> {
 }
 
 /// Each with its words: they are within the grammar, and want this host and this port, or none.
-const WITHIN: [(&str, &str, u16); 8] = [
+const WITHIN: [(&str, &str, u16); 9] = [
     ("put --store=s --host=h --port=1 --name=a --user=u", "h", 1),
     (
         "get --store=s --host=h.i --port=65535 --name=a --user=u --password=p --kind=1 --tries=0",
@@ -43,6 +43,7 @@ const WITHIN: [(&str, &str, u16); 8] = [
     ("generate --store s --number 4294967295 --count 1000", "", 0),
     ("generate --store s --number 0 --count 1", "", 0),
     ("dockets --store s", "", 0),
+    ("replay", "", 0),
     ("drop --user u --activity 2147483647 --store s", "", 0),
     ("serve --store s --port 80 --idle 1000000000", "", 80),
 ];

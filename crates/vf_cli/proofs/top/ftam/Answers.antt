@@ -2,14 +2,14 @@ use Rattle.std.proofs.Common.{◌≡◌, [], ◌∷◌, inr, Option, Some, None,
 use Rattle.vf_cli.specs.Ftam.{statuses_of, usage}
 use Rattle.vf_cli_words.specs.Words.{command_of}
 use Rattle.vf_cli_words.specs.declared.command.Command.{Command}
-use Rattle.vf_cli_words.specs.declared.command.Command.TheVariants.{Dialogue, InitStore, ListFiles, ListDockets, DropKept, Serve, Put, Get, Generate}
+use Rattle.vf_cli_words.specs.declared.command.Command.TheVariants.{Dialogue, InitStore, ListFiles, ListDockets, DropKept, Replay, Serve, Put, Get, Generate}
 use Rattle.vf_cli_printing.specs.Printed.{IsOneOf}
 use Rattle.vf_journal.specs.Image.{records_of, refusal}
 use Rattle.vf_store.specs.Represented.{read_from}
 use Rattle.vf_store_commands.specs.Dockets.{printed_by_dockets}
 use Rattle.vf_store_commands.specs.Making.{printed_by_init}
 use Rattle.vf_tables.specs.Entries.{no_tables}
-use Rattle.vf_cli.proofs.Completes.{dialogue_ends, dialogue_never, drop_never, ends, generate_never, init_never, list_ends, list_never, serve_ends, serve_never, task_never, usage_ends, usage_never}
+use Rattle.vf_cli.proofs.Completes.{dialogue_ends, dialogue_never, drop_never, ends, generate_never, init_never, list_ends, list_never, replay_ends, replay_never, serve_ends, serve_never, task_never, usage_ends, usage_never}
 use Rattle.vf_cli.proofs.top.ftam.Goals as goal
 
 pub returns-in-Some-Dialogue-clause-completes : goal.returns-in-Some-Dialogue-clause-completes
@@ -160,3 +160,20 @@ returns-in-Some-DropKept-clause-links_cause g c = λ e. absurd (drop_never 10 c.
 
 pub returns-in-Some-DropKept-clause-lost_cause : goal.returns-in-Some-DropKept-clause-lost_cause
 returns-in-Some-DropKept-clause-lost_cause g c = λ e. absurd (drop_never 6 c.drop_named.result.1 refl c.drop_named.ensures.ends e)
+
+pub returns-in-Some-Replay-clause-completes : goal.returns-in-Some-Replay-clause-completes
+returns-in-Some-Replay-clause-completes g c = λ octets lines shows left input out disk.
+    let status = c.replay-status.result in
+    let asked : command_of (map string_bytes c.args.words.now.items) ≡ Some Replay = cc (c.parse.ensures) in
+    subst (λ (o : Option Command). IsOneOf (statuses_of o octets lines) status) (sym asked)
+    (replay_ends status (λ e. input (c.replay-status.ensures.causes.input e)) (λ e. out (c.replay-status.ensures.causes.output e))
+    (replay_never 5 status refl c.replay-status.ensures.ends) lines _ _ (c.replay-status.ensures.prints lines left))
+
+pub returns-in-Some-Replay-clause-disk_cause : goal.returns-in-Some-Replay-clause-disk_cause
+returns-in-Some-Replay-clause-disk_cause g c = λ e. absurd (replay_never 5 c.replay-status.result refl c.replay-status.ensures.ends e)
+
+pub returns-in-Some-Replay-clause-links_cause : goal.returns-in-Some-Replay-clause-links_cause
+returns-in-Some-Replay-clause-links_cause g c = λ e. absurd (replay_never 10 c.replay-status.result refl c.replay-status.ensures.ends e)
+
+pub returns-in-Some-Replay-clause-lost_cause : goal.returns-in-Some-Replay-clause-lost_cause
+returns-in-Some-Replay-clause-lost_cause g c = λ e. absurd (replay_never 6 c.replay-status.result refl c.replay-status.ensures.ends e)

@@ -1,0 +1,13 @@
+pub mod Bools
+pub mod CallerEnds
+pub mod Replies
+pub mod Going
+pub mod Serving
+pub mod Plans
+pub mod Lived
+pub mod InARow
+pub mod Delivering
+pub mod Opening
+pub mod Told
+pub mod Printing
+pub mod Firsts

@@ -1,0 +1,68 @@
+-- A stop at the first call of the disk is one in the opening of its store, and no other is.
+use Rattle.std.proofs.Common.{◌≡◌, ◌∙◌, ⊎_elim, ℕ, zero, suc, ◌+◌, ◌-◌, ◌<◌, ◌≤◌, max, Bool, true, false, nat_eq, nat_le, nat_lt, List, [], Option, None, Some, ap, refl, sym, subst, arith}
+use Rattle.std.specs.Prelude.{◌||◌, IsSome}
+use Rattle.std.proofs.lemmas.Bool.{eqb-true}
+use Rattle.vf_disk.specs.Calls.{SyncsAndLooks, after_looks}
+use Rattle.vf_disk.specs.Memory.{Memory, fresh}
+use Rattle.vf_disk.specs.Plans.{StopPlan, after_change, change_fails, is_after_stop, is_stopped, look_fails, planned}
+use Rattle.vf_cli_script.specs.declared.line.Stop.{Stop}
+use Rattle.vf_cli_replay.specs.Standing.{with_stop}
+
+-- a life that is to stop at the first call
+abbrev pub at_once : Option Stop → Bool
+at_once None = false
+at_once (Some stop) = nat_le stop.call 1
+
+-- nothing fails by its number
+pub record HasNone (plan : StopPlan) (until : Option ℕ) : Type 0 where
+  pub none : plan.numbers.failing ≡ []
+  pub stop : plan.until_stop ≡ until
+
+looks_have : (count : ℕ) (plan : StopPlan) (until : Option ℕ) → HasNone plan until → HasNone (after_looks count plan) until
+looks_have zero plan until has = has
+looks_have (suc count) plan until has = let before = looks_have count plan until has in record { none = before.none; stop = before.stop }
+
+or_none : (b : Bool) → (b || false) ≡ true → b ≡ true
+or_none true is = refl
+or_none false is = is
+
+look_by : (plan : StopPlan) (until : Option ℕ) → HasNone plan until → look_fails plan ≡ true → is_after_stop until ≡ true
+look_by plan until has fails =
+    let same : look_fails (record { numbers = record { failing = []; calls = plan.numbers.calls }; until_stop = until }) ≡ look_fails plan =
+    λ i. look_fails (record { numbers = record { failing = sym has.none i; calls = plan.numbers.calls }; until_stop = sym has.stop i }) in
+    or_none (is_after_stop until) (same ∙ fails)
+
+later_call : (call : ℕ) → 1 < call → max call 1 ≡ call
+later_call call later = omega arith
+
+first_call : (call : ℕ) → nat_le (max call 1) 1 ≡ nat_le call 1
+first_call zero = refl
+first_call (suc zero) = refl
+first_call (suc (suc call)) = ap (λ (n : ℕ). nat_le n 1) (later_call (suc (suc call)) (omega arith))
+
+second_call : (call : ℕ) → nat_eq (max call 1 - 1) 0 ≡ true → nat_le call 1 ≡ true
+second_call zero is = refl
+second_call (suc zero) is = refl
+second_call (suc (suc call)) is = absurd (omega (arith, later_call (suc (suc call)) (omega arith), eqb-true (max (suc (suc call)) 1 - 1) 0 is))
+
+neither : (a b : Bool) → (a || b) ≡ false → a ≡ false
+neither true b is = absurd cc
+neither false b is = refl
+
+abbrev pub plan_of : Option Stop → List ℕ → StopPlan
+plan_of stop image = (with_stop stop (fresh image [])).plan
+
+pub opens_later : (stop : Option Stop) (image : List ℕ) (plan : Option StopPlan) → SyncsAndLooks (Some (plan_of stop image)) plan false → at_once stop ≡ false
+opens_later None image plan looks = refl
+opens_later (Some stop) image plan looks = sym (first_call stop.call) ∙ neither (nat_le (max stop.call 1) 1) false looks.0
+
+pub stops_at_once : (stop : Option Stop) (image : List ℕ) (plan : Option StopPlan) → SyncsAndLooks (Some (plan_of stop image)) plan true → IsSome stop → at_once stop ≡ true
+stops_at_once None image plan looks asked = absurd cc
+stops_at_once (Some stop) image plan looks asked =
+    ⊎_elim (λ first. sym (first_call stop.call) ∙ or_none (nat_le (max stop.call 1) 1) first.0)
+    (λ later.
+    let fails = later.1 in
+    let plan' = after_change (plan_of (Some stop) image) in
+    let has : HasNone plan' (Some (max stop.call 1 - 1)) = record { none = refl; stop = refl } in
+    second_call stop.call (look_by (after_looks fails.0 plan') (Some (max stop.call 1 - 1)) (looks_have fails.0 plan' (Some (max stop.call 1 - 1)) has) fails.2))
+    looks

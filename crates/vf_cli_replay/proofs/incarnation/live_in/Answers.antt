@@ -1,0 +1,79 @@
+use Rattle.std.proofs.Common.{◌≡◌, ◌∙◌, ◌+◌, ◌<◌, ◌++◌, ℕ, List, [], ◌∷◌, Option, None, Some, append_assoc, drop, get_or, length, take, ap, refl, subst, sym}
+use Rattle.std.proofs.lemmas.List.{take-append-drop, take_all, take_more}
+use Rattle.vf_cli_script.specs.declared.line.LinkLine.{LinkLine}
+use Rattle.vf_disk.specs.Memory.{Memory}
+use Rattle.vf_cli_replay.proofs.CallerEnds.{no_ends}
+use Rattle.vf_cli_replay.proofs.Going.{line_ended, line_gone, none_gone}
+use Rattle.vf_cli_replay.proofs.Lived.{lives_through, lives_to_halt}
+use Rattle.vf_cli_replay.specs.Living.{LivesOpened, opened}
+use Rattle.vf_cli_replay.specs.Running.{events_by, events_of}
+use Rattle.vf_cli_replay.specs.Standing.{HasEnded, HasGone, HasHappened, LivesOn}
+use Rattle.vf_cli_replay.specs.declared.halt.Halt.{Halt}
+use Rattle.vf_cli_replay.proofs.incarnation.live_in.Goals as goal
+
+-- one line more, as the loop counts them
+next_is : (lines : List LinkLine) (place : ℕ) (line : LinkLine) → place < length lines → line ≡ get_or lines place line → take (place + 1) lines ≡ take place lines ++ line ∷ []
+next_is lines place line within is = take_more lines place line within ∙ ap (λ (l : LinkLine). take place lines ++ l ∷ []) (sym is)
+
+-- that line among all of them
+among : (lines : List LinkLine) (place : ℕ) (line : LinkLine) → place < length lines → line ≡ get_or lines place line → take place lines ++ line ∷ drop (place + 1) lines ≡ lines
+among lines place line within is =
+    sym (append_assoc (take place lines) (line ∷ []) (drop (place + 1) lines)) ∙ ap (λ (l : List LinkLine). l ++ drop (place + 1) lines) (sym (next_is lines place line within is))
+    ∙ take-append-drop (place + 1) lines
+
+pub loop-line-init : goal.loop-line-init
+loop-line-init c = (
+  refl,
+  λ state represents stands.
+      none_gone (opened state) c.args.text.now.items (record { responder = c.args.responder; callers = c.new-callers.result })
+      (record { responder = represents; stored = stands; callers = no_ends c.new-callers.result.entries c.new-callers.ensures.empty }),
+)
+
+pub loop-line-preserved : goal.loop-line-preserved
+loop-line-preserved c =
+    let invariant = c.loop-line.invariant in
+    let lines : List LinkLine = c.as_slice-line-items.result.now in
+    let place : ℕ = c.loop-line.line-index in
+    let line = c.line-item.result in
+    let text = c.args.text.now.items in
+    let limit = c.loop-line.links.responder.store.journal.limit in (
+      c.happens.ensures.limit ∙ invariant.0,
+      λ state represents stands.
+          let gone = invariant.1 state represents stands in
+          let happened = subst (λ (h : Option Halt). HasHappened gone.course.after (events_by line.link line.act) c.loop-line.text.items limit c.happens.new.self c.happens.new.text.items h)
+          c.in_default.is (c.in_ok-halted.ensures.happens gone.course.after gone.stands) in
+          subst (λ (l : List LinkLine). HasGone (opened state) (events_of l) text c.happens.new.self c.happens.new.text.items) (sym (next_is lines place line c.loop-line-test.true c.line-item.is))
+          (line_gone (opened state) (take place lines) line text limit c.loop-line.links c.happens.new.self c.loop-line.text.items c.happens.new.text.items gone happened),
+    )
+
+pub returns-in-Some : goal.returns-in-Some
+returns-in-Some c = λ state represents stands bound.
+    let invariant = c.loop-line.invariant in
+    let life = c.args.life.now in
+    let lines : List LinkLine = c.as_slice-line-items.result.now in
+    let place : ℕ = c.loop-line.line-index in
+    let line = c.line-item.result in
+    let text = c.args.text.now.items in
+    let limit = c.loop-line.links.responder.store.journal.limit in
+    let links = c.happens.new.self in
+    let gone = invariant.1 state represents stands in
+    let happened = subst (λ (h : Option Halt). HasHappened gone.course.after (events_by line.link line.act) c.loop-line.text.items limit links c.happens.new.text.items h)
+    c.in-Some.is (c.in_ok-halted.ensures.happens gone.course.after gone.stands) in
+    let all : take place lines ++ line ∷ drop (place + 1) lines ≡ life.lines = among lines place line c.loop-line-test.true c.line-item.is ∙ c.as_slice-line-items.ensures in
+    let ended : HasEnded (opened state) (events_of life.lines) text limit c.in-Some.halt links.responder.store.disk c.happens.new.text.items =
+    subst (λ (l : List LinkLine). HasEnded (opened state) (events_of l) text limit c.in-Some.halt links.responder.store.disk c.happens.new.text.items) all
+    (line_ended (opened state) (take place lines) line (drop (place + 1) lines) text limit c.loop-line.links links c.loop-line.text.items c.happens.new.text.items c.in-Some.halt gone happened) in
+    subst (λ (disk : Memory). LivesOn (LivesOpened life.stop life state) state text disk c.append_halt.new.text.items) (sym c.close.ensures)
+    (lives_to_halt life state text c.happens.new.text.items c.append_halt.new.text.items limit c.in-Some.halt links.responder.store.disk ended (invariant.0 ∙ bound) c.in_ok-append_halt.ensures.asked
+    c.in_ok-append_halt.ensures.line)
+
+pub returns : goal.returns
+returns c = λ state represents stands bound.
+    let life = c.args.life.now in
+    let lines : List LinkLine = c.as_slice-line-items.result.now in
+    let text = c.args.text.now.items in
+    let all : take c.loop-line.line-index lines ≡ life.lines = take_all c.loop-line.line-index lines c.loop-line-test.false ∙ c.as_slice-line-items.ensures in
+    let gone : HasGone (opened state) (events_of life.lines) text c.loop-line.links c.loop-line.text.items =
+    subst (λ (l : List LinkLine). HasGone (opened state) (events_of l) text c.loop-line.links c.loop-line.text.items) all (c.loop-line.invariant.1 state represents stands) in
+    subst (λ (disk : Memory). LivesOn (LivesOpened life.stop life state) state text disk c.loop-line.text.items) (sym c.close-2.ensures)
+    (lives_through life state text c.loop-line.text.items c.loop-line.links gone)

@@ -1,0 +1,33 @@
+use Rattle.std.proofs.Common.{◌≡◌, ℕ, List, [], ◌∷◌, Option, None, Some, refl, subst}
+use Rattle.vf_base.specs.declared.events.ScriptEvent.TheVariants.{Arrived}
+use Rattle.vf_cli_replay.specs.Running.{Begins, Comes, Event}
+use Rattle.vf_cli_replay.specs.Standing.{HasCome, HasGone, HasHappened}
+use Rattle.vf_cli_replay.specs.declared.halt.Halt.{Halt}
+use Rattle.vf_cli_replay.proofs.Delivering.{if_ok}
+use Rattle.vf_cli_replay.proofs.Going.{ended_before, event_comes, happens_then}
+use Rattle.vf_cli_replay.proofs.links.Links.call.Goals as goal
+
+pub returns-in-None-clause-happens : goal.returns-in-None-clause-happens
+returns-in-None-clause-happens c = λ running stands.
+    let link = c.args.link in
+    let limit = c.args.self.now.responder.store.journal.limit in
+    let text = c.args.text.now.items in
+    let arrival : Event = Comes (Arrived link) in
+    let gone : HasGone running (arrival ∷ []) text c.arrived.new.self c.arrived.new.text.items =
+    event_comes running running arrival (Arrived link) text limit c.arrived.new.self c.arrived.new.text.items None (refl, refl)
+    (subst (λ (h : Option Halt). HasCome running (Arrived link) text limit c.arrived.new.self c.arrived.new.text.items h) c.in-None.is (c.in_ok-halted.ensures.comes running stands)) in
+    if_ok c.begin.result _ (HasHappened running (arrival ∷ Begins link c.args.sync ∷ []) text limit c.begin.new.self c.begin.new.text.items)
+    (λ halt happens.
+    happens_then running (arrival ∷ []) (Begins link c.args.sync ∷ []) text limit c.arrived.new.self c.begin.new.self c.arrived.new.text.items c.begin.new.text.items halt gone
+    (subst (λ (n : ℕ). HasHappened gone.course.after (Begins link c.args.sync ∷ []) c.arrived.new.text.items n c.begin.new.self c.begin.new.text.items halt) c.arrived.ensures.limit happens))
+    (c.begin.ensures.happens gone.course.after gone.stands)
+
+pub returns-in-Some-clause-happens : goal.returns-in-Some-clause-happens
+returns-in-Some-clause-happens c = λ running stands.
+    let link = c.args.link in
+    let limit = c.args.self.now.responder.store.journal.limit in
+    let text = c.args.text.now.items in
+    let arrival : Event = Comes (Arrived link) in
+    ended_before running (arrival ∷ []) (Begins link c.args.sync ∷ []) text limit c.in-Some.halt c.arrived.new.self.responder.store.disk c.arrived.new.text.items
+    (event_comes running running arrival (Arrived link) text limit c.arrived.new.self c.arrived.new.text.items (Some c.in-Some.halt) (refl, refl)
+    (subst (λ (h : Option Halt). HasCome running (Arrived link) text limit c.arrived.new.self c.arrived.new.text.items h) c.in-Some.is (c.in_ok-halted.ensures.comes running stands)))
