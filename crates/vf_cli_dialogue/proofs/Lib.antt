@@ -9,6 +9,7 @@ mod ReceivedLemmas
 mod ReadingLemmas
 mod TurnLemmas
 mod MessageLemmas
+mod HeaderLemmas
 pub mod HexLemmas
 pub mod HexLineLemmas
 pub mod HexTable

@@ -1,3 +1,4 @@
+pub mod Alone
 pub mod Conversation
 pub mod Dialogue
 pub mod Hex

@@ -1,8 +1,11 @@
 //! A conversation with one party.
-ghost use Rattle.std.specs.Prelude.{◌≡◌, ◌++◌, ◌+◌, ◌<◌, ◌≤◌, [], drop, false, true, if◌then◌else◌, IfOk, All, IfSome, OnOk, Some, length, List, ℕ};
+ghost use Rattle.std.specs.Prelude.{◌≡◌, ◌++◌, ◌+◌, ◌<◌, ◌≤◌, [], drop, false, true, if◌then◌else◌, IfOk, All, IfSome, OnOk, Some, length, List, Ok, ℕ};
 ghost use Rattle.std.specs.List.{flat_map, list_any};
 ghost use Rattle.vf_ber.specs.Reader.{reading};
-ghost use Rattle.vf_ber.specs.Reading.{Read, Short};
+ghost use Rattle.vf_ber.specs.Reading.{IsReading, Read, Short};
+ghost use Rattle.vf_ber.specs.Tree.{Tree, built, none};
+ghost use Rattle.vf_elements.specs.Messages.{message_in};
+ghost use Rattle.vf_elements.specs.declared.message.Message.TheVariants as messages;
 ghost use Rattle.vf_ber.specs.Views.{tree_of};
 ghost use Rattle.vf_ber_scan.specs.Scanned.{HasTaken};
 ghost use Rattle.vf_cli_dialogue.specs.declared.conversation.After.TheVariants as ends;
@@ -24,6 +27,7 @@ use vf_ber_scan::Scan;
 use vf_elements::{Message, Said};
 use vf_locks::Locks;
 use vf_party::{Answered, Party, Setting};
+use vf_pdu::Pdu;
 use vf_tables::{Changes, Doubled};
 
 /// A filestore with one party.
@@ -318,6 +322,10 @@ fn take_first(
     ensures took { IfOk result (λ first. (state : State) → Holds filestore.old state
         → TakesFirst state octets.now replies.old.lines.items replies.new.lines.items filestore.old filestore.new first) }
 {
+    if let Some(request) = request_alone(octets.as_slice()) {
+        let after = take_message(alloc, filestore, Message::Pdu(request), replies)?;
+        return Ok(Some(First { after, length: 2 }));
+    }
     let (value, length) = match vf_ber::read_shared(alloc, octets) {
         Ok(read) => read,
         Err(error) => {
@@ -330,6 +338,40 @@ fn take_first(
     };
     let first = take_value(alloc, filestore, &value, length, replies)?;
     Ok(Some(first))
+}
+
+/// The request without parameters that octets begin with, as its identifier and a length of 0 (ISO 8571-4; ISO 8825, 8.1).
+fn request_alone(octets: &[u8]) -> Option<Pdu>
+    ensures { IfSome result (λ request. (tree : Tree) × IsReading octets.now (Read tree 2) × (message_in tree ≡ Ok (messages.Pdu request))) }
+{
+    let number = number_alone(octets)?;
+    request_numbered(number)
+}
+
+/// The number of the value of context class without parts that octets begin with, where it fits one octet with its class
+/// and its form, and its length is in the short form (ISO 8825, 8.1).
+fn number_alone(octets: &[u8]) -> Option<u16>
+    ensures { IfSome result (λ number. IsReading octets.now (Read (built (record { class = 2; number = number }) none) 2)) }
+{
+    let (first, rest) = octets.split_first()?;
+    let (second, _) = rest.split_first()?;
+    if *second != 0 || *first < 160 || *first > 190 {
+        return None;
+    }
+    Some(u16::from(*first - 160))
+}
+
+/// The request without parameters that a value of this number without parts means (ISO 8571-4).
+fn request_numbered(number: u16) -> Option<Pdu>
+    ensures { IfSome result (λ request. message_in (built (record { class = 2; number = number }) none) ≡ Ok (messages.Pdu request)) }
+{
+    match number {
+        8 => Some(Pdu::DeselectRequest),
+        12 => Some(Pdu::DeleteRequest),
+        20 => Some(Pdu::CloseRequest),
+        24 => Some(Pdu::EndGroupRequest),
+        _ => None,
+    }
 }
 
 /// What the party makes of a value of so many octets.

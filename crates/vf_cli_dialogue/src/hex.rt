@@ -196,7 +196,7 @@ fn first_half(text: &[u8]) -> Option<u8>
     half(text[0])
 }
 
-fn digit(half: u8) -> u8
+pub(crate) fn digit(half: u8) -> u8
     requires { half < 16 }
     ensures { result ≡ digit_of half }
 {

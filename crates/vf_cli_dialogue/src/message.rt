@@ -1,10 +1,11 @@
 //! Where octets have a fault, and replies as lines.
-ghost use Rattle.std.specs.Prelude.{◌≡◌, ◌++◌, Err, IfOk, List, OnOk, Result, ℕ};
+ghost use Rattle.std.specs.Prelude.{◌≡◌, ◌++◌, [], ◌∷◌, Err, IfOk, IfSome, List, OnOk, Result, ℕ};
 ghost use Rattle.vf_ber.specs.Limits.{IsTooLarge};
 ghost use Rattle.vf_ber.specs.Reader.{reading};
 ghost use Rattle.vf_ber.specs.Results.{IsAnswer};
 ghost use Rattle.vf_ber.specs.Spelling.{spell};
 ghost use Rattle.vf_ber.specs.Views.{tree_of};
+ghost use Rattle.vf_cli_dialogue.specs.Alone.{alone};
 ghost use Rattle.vf_cli_dialogue.specs.Conversation.{IsFaultIn, IsUnread};
 ghost use Rattle.vf_cli_dialogue.specs.Dialogue.{reply};
 ghost use Rattle.vf_cli_dialogue.specs.Lines.{hex_line};
@@ -16,7 +17,7 @@ ghost use Rattle.vf_pdu_fields.specs.Fault.{Fault};
 ghost use Rattle.vf_pdu_fields.specs.Results.{Fails};
 ghost use Rattle.vf_elements.specs.declared.message.Message.{Message};
 
-use crate::printed::{Replies, append_hex_line};
+use crate::printed::{Replies, append_header_line, append_hex_line};
 use std::alloc::Global;
 use vf_base::{Element, NoMemory};
 use vf_ber::{BerError, Value, WriteError};
@@ -83,7 +84,37 @@ fn append_provider_abort(
 }
 
 /// Appends the line of a PDU.
+#[tactic(auto, using(crate::proofs::HeaderLemmas::alone_spells))]
 fn append_pdu(alloc: Global, pdu: &Pdu, replies: &mut Replies) -> Result<(), NoMemory>
+    requires { IsInRange pdu.now }
+    ensures { OnOk result (replies.new.lines.items ≡ replies.old.lines.items ++ hex_line (spell (value pdu.now))) }
+{
+    if let Some(first) = without_parts(pdu) {
+        append_header_line(first, &mut replies.lines)?;
+        return Ok(());
+    }
+    append_any_pdu(alloc, pdu, replies)
+}
+
+/// The first of the two octets that spell a response without parameters, as most are; `None` for others.
+fn without_parts(pdu: &Pdu) -> Option<u8>
+    ensures { result ≡ alone pdu.now }
+{
+    match pdu {
+        Pdu::SelectResponse { diagnostic: None } => Some(0xA7),
+        Pdu::DeselectResponse { diagnostic: None } => Some(0xA9),
+        Pdu::CreateResponse { diagnostic: None } => Some(0xAB),
+        Pdu::DeleteResponse { diagnostic: None } => Some(0xAD),
+        Pdu::ChangeAttribResponse { diagnostic: None } => Some(0xB1),
+        Pdu::CloseResponse { diagnostic: None } => Some(0xB5),
+        Pdu::BeginGroupResponse => Some(0xB7),
+        Pdu::EndGroupResponse => Some(0xB9),
+        _ => None,
+    }
+}
+
+/// Appends the line of any PDU.
+fn append_any_pdu(alloc: Global, pdu: &Pdu, replies: &mut Replies) -> Result<(), NoMemory>
     requires { IsInRange pdu.now }
     ensures { OnOk result (replies.new.lines.items ≡ replies.old.lines.items ++ hex_line (spell (value pdu.now))) }
 {

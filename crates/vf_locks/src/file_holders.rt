@@ -169,6 +169,9 @@ impl FileHolders {
     pub fn first_against(&self, holder: &Holder, wanted: &Controls) -> Option<(&Holder, Action)>
         ensures { option_map (λ found. record { holder = found.0.now; action = found.1 }) result ≡ conflict holder.now wanted.now self.now }
     {
+        if self.standing.is_empty() {
+            return None;
+        }
         if !show_clash(&self.counts.numbers, wanted) {
             return None;
         }

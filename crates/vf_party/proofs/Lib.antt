@@ -12,5 +12,6 @@ pub mod NoChanges
 pub mod Others
 pub mod Refused
 pub mod Requests
+pub mod Selections
 pub mod Trials
 pub mod Turning

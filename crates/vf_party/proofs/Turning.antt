@@ -36,9 +36,10 @@ use Rattle.vf_party.specs.declared.party.Party.TheVariants as parties
 use Rattle.vf_party.specs.declared.quiet.Quiet.TheVariants as quiets
 use Rattle.vf_party_steps.specs.declared.recovering.Recovered.TheVariants as recovered
 use Rattle.vf_party_steps.specs.declared.states.Associated.{Associated}
+use Rattle.vf_party_steps.specs.declared.states.Selected.{Selected}
 use Rattle.vf_party_steps.specs.declared.states.Open.{Open}
 use Rattle.vf_party.specs.Quiets.{IsQuiet}
-use Rattle.vf_party_steps.specs.Represents.{IsAssociated, IsOpen}
+use Rattle.vf_party_steps.specs.Represents.{IsAssociated, IsOpen, IsSelected}
 use Rattle.vf_party_steps.specs.declared.step.Step.{Step}
 use Rattle.vf_party_steps.specs.declared.step.StepError.{StepError}
 use Rattle.vf_party_steps.specs.declared.step.StepError.TheVariants as errors
@@ -239,9 +240,12 @@ module _ {Old New : Type 0} (represents : Represents Old) (after : Represents Ne
   step_turn answer result step kept comes =
       kept_step_turn answer result (λ state party stands histories represents taken. step state party stands represents taken) kept comes
 
--- what a party with an association is, and one with an open file
+-- what a party with an association is, one with a selected file, and one with an open one
 abbrev pub associated_party : Associated → Party
 associated_party associated = parties.Quiet (quiets.Associated associated)
+
+abbrev pub selected_party : Selected → Party
+selected_party selected = parties.Quiet (quiets.Selected selected)
 
 abbrev pub opened_party : Open → Party
 opened_party regimes = parties.Quiet (quiets.Open regimes)
@@ -249,12 +253,18 @@ opened_party regimes = parties.Quiet (quiets.Open regimes)
 pub associated_enters : Enters IsAssociated associated_party
 associated_enters self standing is = record { represented = is.represented; alone = is.alone }
 
+pub selected_enters : Enters IsSelected selected_party
+selected_enters self standing is = record { represented = is.represented; alone = is.alone }
+
 pub opened_enters : Enters IsOpen opened_party
 opened_enters self standing is = record { represented = is.represented; alone = is.alone }
 
 -- and back
 pub associated_alone : (associated : Associated) (standing : StandingParty) → IsAlone IsQuiet (quiets.Associated associated) standing → IsAlone IsAssociated associated standing
 associated_alone associated standing is = record { represented = is.represented; alone = is.alone }
+
+pub selected_alone : (selected : Selected) (standing : StandingParty) → IsAlone IsQuiet (quiets.Selected selected) standing → IsAlone IsSelected selected standing
+selected_alone selected standing is = record { represented = is.represented; alone = is.alone }
 
 pub opened_alone : (regimes : Open) (standing : StandingParty) → IsAlone IsQuiet (quiets.Open regimes) standing → IsAlone IsOpen regimes standing
 opened_alone regimes standing is = record { represented = is.represented; alone = is.alone }

@@ -7,6 +7,7 @@ pub mod Hearing
 pub mod Items
 pub mod Quiets
 pub mod Refusals
+pub mod Selecting
 pub mod Settings
 pub mod Trials
 pub mod Turns

@@ -15,6 +15,7 @@ mod outcomes;
 mod party;
 mod quiet;
 mod refusals;
+mod selecting;
 mod setting;
 mod taking_group;
 mod taking_idle;

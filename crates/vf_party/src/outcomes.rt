@@ -10,6 +10,7 @@ use crate::party::{Outcome, Party, PartyState};
 use crate::refusals::refusal;
 use crate::{Said, Step, StepError};
 use std::alloc::Global;
+use std::mem;
 use vf_base::NoMemory;
 use vf_locks::Locks;
 use vf_tables::Changes;
@@ -57,7 +58,7 @@ pub(crate) fn conclude<Old: PartyState, New: PartyState>(
     match answer {
         Ok(step) => Ok(put_outcome(party, step, locks)),
         Err((state, error)) => {
-            *party = state.into_party();
+            put(party, state.into_party());
             match error {
                 StepError::Refused(diagnostic) => {
                     let Ok(said) = refusal(alloc, number, diagnostic) else {
@@ -87,12 +88,19 @@ fn put_outcome<New: PartyState>(party: &mut Party, step: Step<New>, locks: &mut 
             changes: step.changes,
         };
     }
-    *party = step.state.into_party();
+    put(party, step.state.into_party());
     Answered {
         goes: true,
         said: step.said,
         changes: step.changes,
     }
+}
+
+/// Puts a party in the place of one that has just arrived, which owns nothing that has to be given up.
+fn put(place: &mut Party, party: Party)
+    ensures { place.new ≡ party }
+{
+    mem::forget(mem::replace(place, party));
 }
 
 /// What comes of a good step; where it says an abort, the party is gone.

@@ -8,7 +8,7 @@ ghost use Rattle.vf_party_steps.specs.Reads.{IsReading};
 ghost use Rattle.vf_party_steps.specs.Recoveries.{IsRecovered};
 ghost use Rattle.vf_party.specs.Settings.{setting_of};
 ghost use Rattle.vf_party.specs.Turns.{IsParty, IsTurn, LeavesParty, party_of_recovered};
-ghost use Rattle.vf_party_steps.specs.Represents.{IsAssociated, IsIdle, IsOpen};
+ghost use Rattle.vf_party_steps.specs.Represents.{IsAssociated, IsIdle, IsOpen, IsSelected};
 ghost use Rattle.vf_party_steps.specs.Writes.{IsWriting};
 ghost use Rattle.vf_party.specs.declared.party.Party.{Party as PartyMeant};
 ghost use Rattle.vf_party.specs.declared.party.Party.TheVariants as parties;
@@ -16,12 +16,15 @@ ghost use Rattle.vf_party.specs.declared.quiet.Quiet.TheVariants as quiets;
 
 use crate::hearing::{Answered, settled, told};
 use crate::leaving::leave_quiet;
+use crate::selecting::{deselects, hear_deselect, hear_select, selects};
 use crate::taking_group::take_grouping;
 use crate::taking_idle::take_idle;
 use crate::taking_quiet::take_quiet;
 use crate::taking_reading::take_reading;
 use crate::taking_writing::take_writing;
-use crate::{Associated, Idle, Message, Open, Quiet, Reading, Recovered, Said, Setting, Writing};
+use crate::{
+    Associated, Idle, Message, Open, Quiet, Reading, Recovered, Said, Selected, Setting, Writing,
+};
 use std::alloc::Global;
 use std::mem;
 use vf_base::{NoMemory, Sequence};
@@ -90,15 +93,13 @@ impl Party {
     ) -> Result<Answered, NoMemory>
         ensures { IsTurn tables.now locks.old locks.new self.old (setting_of setting) message (turn_in self.new result) }
     {
-        match mem::replace(self, Party::arrived(0)) {
-            Party::Quiet(quiet) => {
-                return take_quiet(self, quiet, alloc, message, setting, tables, locks);
-            }
-            party => {
-                let taken = party.take(alloc, message, setting, tables, locks);
-                return settled(self, taken);
-            }
+        if selects(self, &message) {
+            return hear_select(self, alloc, message, setting, tables, locks);
         }
+        if deselects(self, &message) {
+            return hear_deselect(self, alloc, message, setting, tables, locks);
+        }
+        return hear_any(self, alloc, message, setting, tables, locks);
     }
 
     /// The association is gone, without an answer: the docket of a recoverable open holds its file in the place of the
@@ -112,6 +113,29 @@ impl Party {
             Party::Reading(reading) => PartyState::leave(reading, locks),
             Party::Writing(writing) => PartyState::leave(writing, locks),
             Party::Grouping(grouping) => PartyState::leave(grouping, locks),
+        }
+    }
+}
+
+/// Takes any message.
+#[inline(never)]
+fn hear_any(
+    party: &mut Party,
+    alloc: Global,
+    message: Message,
+    setting: Setting,
+    tables: &Tables,
+    locks: &mut Locks,
+) -> Result<Answered, NoMemory>
+    ensures { IsTurn tables.now locks.old locks.new party.old (setting_of setting) message (turn_in party.new result) }
+{
+    match mem::replace(party, Party::arrived(0)) {
+        Party::Quiet(quiet) => {
+            return take_quiet(party, quiet, alloc, message, setting, tables, locks);
+        }
+        before => {
+            let taken = before.take(alloc, message, setting, tables, locks);
+            return settled(party, taken);
         }
     }
 }
@@ -216,6 +240,20 @@ impl PartyState for Associated {
 
     fn leave(self, locks: &mut Locks) {
         Associated::leave(self, locks);
+    }
+}
+
+impl PartyState for Selected {
+    ghost represents = { IsSelected };
+
+    ghost party_of = { λ selected. parties.Quiet (quiets.Selected selected) };
+
+    fn into_party(self) -> Party {
+        Party::Quiet(Quiet::Selected(self))
+    }
+
+    fn leave(self, locks: &mut Locks) {
+        Selected::leave(self, locks);
     }
 }
 

@@ -1,5 +1,5 @@
 //! The tables on which the items of a group are tried.
-ghost use Rattle.std.specs.Prelude.{◌≡◌, IfOk};
+ghost use Rattle.std.specs.Prelude.{◌≡◌, IfOk, unwrap_or};
 ghost use Rattle.vf_tables.specs.Changes.{after_all};
 
 use std::alloc::Global;
@@ -7,7 +7,8 @@ use std::marker::Model;
 use vf_base::NoMemory;
 use vf_tables::{Change, Tables};
 
-/// The tables of a filestore, which stay as they are, and a copy of them once something is changed.
+/// The tables of a filestore, which stay as they are, and one copy of them once something is changed, in which later
+/// changes are made.
 #[derive(Drop)]
 pub(crate) struct Tried<'t> {
     kept: &'t Tables,
@@ -47,10 +48,23 @@ impl<'t> Tried<'t> {
         if changes.is_empty() {
             return Ok(self);
         }
-        let own = self.tables().with(alloc, changes)?;
+        let Tried { kept, own } = self;
+        let mut own = own_or_copy(alloc, kept, own)?;
+        own.make_all(alloc, changes)?;
         Ok(Tried {
-            kept: self.kept,
+            kept,
             own: Some(own),
         })
     }
+}
+
+/// The copy of the tables, which is made where there is none yet.
+fn own_or_copy(alloc: Global, kept: &Tables, own: Option<Tables>) -> Result<Tables, NoMemory>
+    ensures { IfOk result (λ tables. tables ≡ unwrap_or own kept.now) }
+{
+    let Some(own) = own else {
+        let copy = kept.copy(alloc)?;
+        return Ok(copy);
+    };
+    Ok(own)
 }

@@ -5,7 +5,7 @@ ghost use Rattle.vf_party_steps.specs.Steps.{IsStep};
 ghost use Rattle.vf_pdu.specs.PduNumbers.{number_of};
 
 use crate::holding::hold_selected;
-use crate::{Associated, Selected, Step, StepError};
+use crate::{Associated, Said, Selected, Step, StepError};
 use std::alloc::Global;
 use vf_base::{Moment, NoMemory};
 use vf_locks::Locks;
@@ -54,10 +54,10 @@ impl Associated {
         if let Some(diagnostic) = refused {
             return Err((self, StepError::Refused(diagnostic)));
         }
-        let answer = Pdu::SelectResponse { diagnostic: None };
-        let Ok(said) = hold_selected(alloc, &self, &selection, answer, locks) else {
+        let Ok(mut said) = hold_selected(alloc, &self, &selection, locks) else {
             return Err((self, StepError::NoMemory));
         };
+        said.push_reserved(Said::Pdu(Pdu::SelectResponse { diagnostic: None }));
         let state = Selected {
             associated: self,
             selection,

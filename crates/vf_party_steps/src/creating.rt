@@ -7,7 +7,7 @@ ghost use Rattle.vf_pdu.specs.PduNumbers.{number_of};
 
 use crate::holding::hold_selected;
 use crate::step::one_change;
-use crate::{Associated, Selected, Step, StepError};
+use crate::{Associated, Said, Selected, Step, StepError};
 use std::alloc::Global;
 use vf_base::{Diagnostic, Moment, NoMemory};
 use vf_filestore::NewFile;
@@ -84,10 +84,10 @@ impl Associated {
             Ok(changes) => changes,
             Err(diagnostic) => return Err((self, StepError::Refused(diagnostic))),
         };
-        let answer = Pdu::CreateResponse { diagnostic: None };
-        let Ok(said) = hold_selected(alloc, &self, &selection, answer, locks) else {
+        let Ok(mut said) = hold_selected(alloc, &self, &selection, locks) else {
             return Err((self, StepError::NoMemory));
         };
+        said.push_reserved(Said::Pdu(Pdu::CreateResponse { diagnostic: None }));
         let state = Selected {
             associated: self,
             selection,

@@ -4,7 +4,6 @@ ghost use Rattle.vf_party_steps.specs.Represents.{IsAssociated, IsSelected};
 ghost use Rattle.vf_party_steps.specs.Steps.{IsStep};
 ghost use Rattle.vf_pdu.specs.PduNumbers.{number_of};
 
-use crate::step::one_said;
 use crate::{Associated, Said, Selected, Step, StepError};
 use std::alloc::Global;
 use vf_base::Moment;
@@ -34,13 +33,14 @@ impl Selected {
         let Pdu::DeselectRequest = request else {
             unreachable!()
         };
-        let Ok(said) = one_said(alloc, Said::Pdu(Pdu::DeselectResponse { diagnostic: None })) else {
+        let Ok(mut said) = Vec::with_capacity(alloc, 1) else {
             return Err((self, StepError::NoMemory));
         };
         let holder = Holder::Party {
             link: self.associated.association.link,
         };
         locks.release(&self.selection.file, &holder);
+        said.push_reserved(Said::Pdu(Pdu::DeselectResponse { diagnostic: None }));
         Ok(Step {
             state: self.associated,
             said,

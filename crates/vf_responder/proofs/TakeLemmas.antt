@@ -1,5 +1,5 @@
 -- A message of a link's party, once the association in its way is gone: what changes, and the state represented after it.
-use Rattle.std.proofs.Common.{◌≡◌, ℕ, ◌+◌, Bool, true, false, ◌&&◌, List, [], ◌∷◌, ◌++◌, length, Option, Some, None, ⊎_elim, refl, ap, sym, subst, ◌∙◌, arith}
+use Rattle.std.proofs.Common.{◌≡◌, ℕ, ◌+◌, Bool, true, false, ◌&&◌, List, [], ◌∷◌, ◌++◌, length, Option, Some, None, ⊎_elim, refl, ap, sym, subst, ◌∙◌, tt, arith}
 use Rattle.std.specs.Prelude.{IfSome, is_some, not, if◌then◌else◌}
 use Rattle.vf_elements.specs.declared.message.Said.{Said}
 use Rattle.vf_stack.specs.Association.{Association}
@@ -18,7 +18,9 @@ use Rattle.vf_filestore.specs.State.{State, StandingParty, party_of}
 use Rattle.vf_filestore.specs.Tables.{tables_of}
 use Rattle.vf_filestore.specs.Transition.{Turn, answered, superseded_by, transition}
 use Rattle.vf_party_steps.specs.Steps.{HoldersOfFiles}
+use Rattle.vf_party.specs.Hearing.{outcome_in}
 use Rattle.vf_party.specs.Turns.{IsNext, IsParty, IsTaken}
+use Rattle.vf_party.specs.declared.hearing.Answered.{Answered as Heard}
 use Rattle.vf_party.specs.declared.party.Outcome.{Outcome}
 use Rattle.vf_party.specs.declared.party.Party.{Party}
 use Rattle.vf_stack.specs.Represents as stack_of
@@ -344,9 +346,30 @@ still-along {D} shown may_leave clock left_since only_now link kept after answer
     (idle-along shown may_leave clock left_since only_now kept.store serving (answers serving) stands represents.tables)
 
 -- What is said of the link after the party's turn is said of the link before it.
-pub said-of : (link turned link' : Link) (asked : Asked) (said : List Said) (party : Option Party) (old new : List Reply) → turned.stack ≡ link.stack → turned.number ≡ link.number
-    → ((a : Association) (i : Indication) → IsCalled turned.stack a → IsAsked asked i → IsSaid turned.number (sending_all i a said) (not (is_some party)) old link'.stack new)
-    → (a : Association) (i : Indication) → IsCalled link.stack a → IsAsked asked i → IsSaid link.number (sending_all i a said) (not (is_some party)) old link'.stack new
-said-of link turned link' asked said party old new stack number says = λ a i called ask.
-    subst (λ (n : ℕ). IsSaid n (sending_all i a said) (not (is_some party)) old link'.stack new) number
+pub said-of : (link turned link' : Link) (asked : Asked) (said : List Said) (shut : Bool) (old new : List Reply) → turned.stack ≡ link.stack → turned.number ≡ link.number
+    → ((a : Association) (i : Indication) → IsCalled turned.stack a → IsAsked asked i → IsSaid turned.number (sending_all i a said) shut old link'.stack new)
+    → (a : Association) (i : Indication) → IsCalled link.stack a → IsAsked asked i → IsSaid link.number (sending_all i a said) shut old link'.stack new
+said-of link turned link' asked said shut old new stack number says = λ a i called ask.
+    subst (λ (n : ℕ). IsSaid n (sending_all i a said) shut old link'.stack new) number
     (says a i (subst (λ (kept : stack_of.Kept). IsCalled kept a) (sym stack) called) ask)
+
+-- ---- a party that took the message in its place
+
+left-so : (next : Party) (goes : Bool) → goes ≡ is_some (if goes then Some next else None)
+left-so next true = refl
+left-so next false = refl
+
+there-so : (next party : Party) (goes : Bool) → party ≡ next → IfSome (if goes then Some next else None) (λ left. party ≡ left)
+there-so next party true same = same
+there-so next party false same = tt
+
+pub heard-answers : {D : Type 0} (link link' : Link) (kept mid_kept kept' : Kept D) (moment : ℕ) (indication : Indication) (asked : Asked) (message : Message) (next : Party) (heard : Heard) (old mid new : List Reply)
+    → IsRead message → IsAsked asked indication → GivesWay link message kept old mid_kept mid → TakesOn mid_kept.store.tables mid_kept.locks kept'.locks link moment asked message (outcome_in next heard)
+    → kept'.store.tables ≡ after_all mid_kept.store.tables heard.changes → kept'.links ≡ mid_kept.links
+    → ((a : Association) (i : Indication) → IsCalled link.stack a → IsAsked asked i → IsSaid link.number (sending_all i a heard.said.items) (not heard.goes) mid link'.stack new)
+    → link'.party ≡ next → link'.number ≡ link.number
+    → Does (λ serving. taking moment link.number serving indication message) (with_link link kept) old (put_back heard.goes link' kept') new
+heard-answers link link' kept mid_kept kept' moment indication asked message next heard old mid new read ask way turn tables links says_so there numbered =
+    take-answers link link' kept mid_kept kept' moment indication asked message (outcome_in next heard) old mid new heard.goes read ask way turn tables links
+    (λ a i called ask. subst (λ (b : Bool). IsSaid link.number (sending_all i a heard.said.items) (not b) mid link'.stack new) (left-so next heard.goes) (says_so a i called ask))
+    (left-so next heard.goes) (there-so next link'.party heard.goes there) numbered

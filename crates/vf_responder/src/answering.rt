@@ -28,7 +28,7 @@ use std::alloc::Global;
 use vf_base::{Moment, Name, NoMemory};
 use vf_disk::Disk;
 use vf_elements::Stage;
-use vf_party::{Message, Outcome, Said};
+use vf_party::{Answered, Message, Said};
 use vf_pdu::Pdu;
 use vf_stack::Indication;
 use vf_store::StoreError;
@@ -263,17 +263,16 @@ impl<D: Disk> Keeping<D> {
             return Err(StoreError::NoMemory);
         };
         let tables = self.store.tables();
-        let Outcome {
-            party,
+        let Answered {
+            goes,
             said,
             changes,
         } = link.turn(alloc, moment, asked, message, tables, &mut self.locks)?;
         if let Err(error) = self.keep(alloc, changes) {
-            drop(party);
             drop(said);
             return Err(error);
         }
-        let goes = link.say(alloc, asked, said, party, replies)?;
+        link.speak(alloc, asked, said, !goes, replies)?;
         Ok(goes)
     }
 

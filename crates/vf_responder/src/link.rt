@@ -1,6 +1,7 @@
 //! A link that stands.
-ghost use Rattle.std.specs.Prelude.{◌≡◌, IfOk, IfSome, None, OnOk, is_some, not, true};
+ghost use Rattle.std.specs.Prelude.{◌≡◌, IfOk, None, OnOk, true};
 ghost use Rattle.vf_filestore.specs.State.{arrived as arrived_meant};
+ghost use Rattle.vf_party.specs.Hearing.{outcome_in};
 ghost use Rattle.vf_party.specs.Settings.{setting_of};
 ghost use Rattle.vf_party.specs.Turns.{LeavesParty};
 ghost use Rattle.vf_responder.specs.Answers.{setting_at};
@@ -22,7 +23,7 @@ use std::mem;
 use vf_base::{Moment, NoMemory};
 use vf_elements::Said;
 use vf_locks::Locks;
-use vf_party::{Message, Outcome, Party, Setting};
+use vf_party::{Answered, Message, Party, Setting};
 use vf_stack::{Indication, Stack};
 use vf_tables::Tables;
 
@@ -80,7 +81,7 @@ impl Link {
         }
     }
 
-    /// The party takes a message, and is gone for now.
+    /// The party takes a message in its place: one that is left stands there.
     pub(crate) fn turn(
         &mut self,
         alloc: Global,
@@ -89,24 +90,18 @@ impl Link {
         message: Message,
         tables: &Tables,
         locks: &mut Locks,
-    ) -> Result<Outcome, NoMemory>
-        ensures taken { IfOk result (TakesOn tables.now locks.old locks.new self.old moment asked message) }
+    ) -> Result<Answered, NoMemory>
+        ensures taken { IfOk result (λ heard. TakesOn tables.now locks.old locks.new self.old moment asked message (outcome_in self.new.party heard)) }
         ensures stack { self.new.stack ≡ self.old.stack }
         ensures number { self.new.number ≡ self.old.number }
     {
         let setting = self.setting(moment, asked);
-        let party = mem::replace(&mut self.party, Party::arrived(self.number));
-        match party.take(alloc, message, setting, tables, locks) {
-            Ok(outcome) => Ok(outcome),
-            Err(back) => {
-                drop(back);
-                Err(NoMemory)
-            }
-        }
+        let heard = self.party.hear(alloc, message, setting, tables, locks)?;
+        Ok(heard)
     }
 
     /// Speaks what the party says, and shuts the link after it or not.
-    fn speak(
+    pub(crate) fn speak(
         &mut self,
         alloc: Global,
         asked: Asked,
@@ -123,40 +118,6 @@ impl Link {
         send_all(alloc, &mut self.stack, asked, said, &mut out)?;
         speak(self.number, out, shut, replies)?;
         Ok(())
-    }
-
-    /// The party after a message, where there is one.
-    fn go_on(&mut self, next: Option<Party>)
-        ensures party { IfSome next (λ next. self.new.party ≡ next) }
-        ensures stack { self.new.stack ≡ self.old.stack }
-        ensures number { self.new.number ≡ self.old.number }
-    {
-        if let Some(party) = next {
-            let before = mem::replace(&mut self.party, party);
-            drop(before);
-        }
-    }
-
-    /// Speaks what the party says, and shuts the link where it is gone after it. Says whether it goes on.
-    pub(crate) fn say(
-        &mut self,
-        alloc: Global,
-        asked: Asked,
-        said: Vec<Said>,
-        next: Option<Party>,
-        replies: &mut Vec<Reply>,
-    ) -> Result<bool, NoMemory>
-        ensures said { OnOk result ((association : Association) (indication : IndicationMeant) → IsCalled self.old.stack association → IsAsked asked indication
-            → IsSaid self.old.number (sending_all indication association said.items) (not (is_some next)) replies.old.items self.new.stack replies.new.items) }
-        ensures goes { IfOk result (λ goes. goes ≡ is_some next) }
-        ensures party { OnOk result (IfSome next (λ next. self.new.party ≡ next)) }
-        ensures number { self.new.number ≡ self.old.number }
-    {
-        let goes = next.is_some();
-        let spoken = self.speak(alloc, asked, said, !goes, replies);
-        self.go_on(next);
-        spoken?;
-        Ok(goes)
     }
 
     /// The party is gone, once this is said, and the link is shut.

@@ -1,20 +1,13 @@
-use Rattle.std.proofs.Common.{◌∙◌, sym, subst, Result}
-use Rattle.vf_base.specs.declared.errors.NoMemory.{NoMemory}
-use Rattle.vf_party.specs.Hearing.{turn_in}
-use Rattle.vf_party.specs.Settings.{setting_of}
-use Rattle.vf_party.specs.Turns.{IsTurn}
-use Rattle.vf_party.specs.declared.party.Outcome.{Outcome}
-use Rattle.vf_party.specs.declared.party.Party.{Party}
+use Rattle.std.proofs.Common.{sym, ◌∙◌}
+use Rattle.vf_party.proofs.Selections.{deselecting_message, deselecting_party, selecting_message, selecting_party}
 use Rattle.vf_party.proofs.party.Party.hear.Goals as goal
 
-pub returns-in-Quiet : goal.returns-in-Quiet
-returns-in-Quiet c =
-    subst (λ (self : Party). IsTurn c.args.tables.now c.args.locks.now c.take_quiet.new.locks self (setting_of c.args.setting) c.args.message (turn_in c.take_quiet.new.party c.take_quiet.result))
-    (sym c.in-Quiet.is ∙ c.replace.ensures.value) c.take_quiet.ensures
+pub hear_select-requires : goal.hear_select-requires
+hear_select-requires c =
+    let is = sym c.selects.ensures ∙ c.if-selects.true in
+    record { party = selecting_party c.args.self.now c.args.message is; message = selecting_message c.args.self.now c.args.message is }
 
-pub returns-in_default : goal.returns-in_default
-returns-in_default c =
-    subst (λ (self : Party). IsTurn c.args.tables.now c.args.locks.now c.take-taken.new.locks self (setting_of c.args.setting) c.args.message (turn_in c.settled.new.party c.settled.result))
-    c.replace.ensures.value
-    (subst (λ (result : Result Outcome (Party × NoMemory)). IsTurn c.args.tables.now c.args.locks.now c.take-taken.new.locks c.replace.result (setting_of c.args.setting) c.args.message result) (sym c.settled.ensures)
-    c.take-taken.ensures)
+pub hear_deselect-requires : goal.hear_deselect-requires
+hear_deselect-requires c =
+    let is = sym c.deselects.ensures ∙ c.if-deselects.true in
+    record { party = deselecting_party c.args.self.now c.args.message is; message = deselecting_message c.args.self.now c.args.message is }

@@ -1,7 +1,9 @@
-use Rattle.std.proofs.Common.{◌≡◌, ℕ, true, List, ◌∷◌, None, Some, refl, ap, sym, subst, ◌∙◌}
+use Rattle.std.proofs.Common.{◌≡◌, ℕ, true, List, ◌∷◌, None, Some, refl, ap, sym, subst, ◌∙◌, [], ◌++◌}
 use Rattle.vf_base.specs.declared.action.Controls.{Controls}
 use Rattle.vf_elements.specs.Stages.{takes}
 use Rattle.vf_elements.specs.declared.message.Message.TheVariants as messages
+use Rattle.vf_elements.specs.declared.message.Said.{Said}
+use Rattle.vf_elements.specs.declared.message.Said.TheVariants as answers
 use Rattle.vf_filestore.specs.Aborts.{Setting}
 use Rattle.vf_filestore.specs.Changes.{file_changes}
 use Rattle.vf_filestore.specs.Controls.{attribute_controls, joined, not_opened}
@@ -23,7 +25,7 @@ use Rattle.vf_locks.specs.Holders.{granted}
 use Rattle.vf_locks.specs.Table.{IsWith, held}
 use Rattle.vf_locks.specs.declared.holder.Holder.TheVariants.{Party}
 use Rattle.vf_pdu.specs.declared.pdu.Pdu.{Pdu}
-use Rattle.vf_pdu.specs.declared.pdu.Pdu.TheVariants.{CreateRequest}
+use Rattle.vf_pdu.specs.declared.pdu.Pdu.TheVariants.{CreateRequest, CreateResponse}
 use Rattle.vf_pdu_fields.specs.declared.controls.AttributeControls.{AttributeControls}
 use Rattle.vf_regime_refusals.specs.Asked.{found_in, stamp_by}
 use Rattle.vf_regime_refusals.specs.declared.association.Selection.{Selection}
@@ -85,7 +87,8 @@ returns-clause-consequence c = λ state party stands represents.
     let wanted_is : Wanted = record { link = association.link; identity = association.identity; password = asks.password; requested = requested; controls = c.attribute_controls.result } in
     let selection : Selection = record { file = c.in-Ok.file; requested = requested; controls = c.attribute_controls.result; password = asks.password } in
     let made : Selected = record { associated = c.args.self; selection = selection } in
-    let step : Step Selected = record { state = made; said = c.in-Ok-hold_selected.said; changes = c.in-Ok-made.changes } in
+    let said : c.push_reserved.new.self.items ≡ answers.Pdu (CreateResponse None) ∷ [] = c.push_reserved.ensures.items ∙ ap (λ (all : List Said). all ++ (answers.Pdu (CreateResponse None) ∷ [])) c.in-Ok-hold_selected.ensures.said in
+    let step : Step Selected = record { state = made; said = c.push_reserved.new.self; changes = c.in-Ok-made.changes } in
     let given = made_unless (file_named name state.files) in
     let next = history_by state party setting message given in
     let after = concluded_by state party setting message given in
@@ -108,7 +111,7 @@ returns-clause-consequence c = λ state party stands represents.
     ((λ i. first_row (unit_row (units_in (represents.stands i)) limited_management
     ∷ create_rows (found_is tables old state party stands i) (record { link = represents.linked i; identity = identity_in (represents.stands i); password = asks.password; requested = requested; controls = sym c.attribute_controls.ensures i }) asks.over (record { moment = c.args.moment; identity = identity_in (represents.stands i) }) new_file))
     ∙ sym (refusal_is found wanted_is asks.over stamp new_file association.units) ∙ free))
-    c.in-Ok-hold_selected.ensures.said represents.moved
+    said represents.moved
     (record {
       linked = represents.linked;
       associated = represents.stands;

@@ -1,7 +1,9 @@
-use Rattle.std.proofs.Common.{◌≡◌, ℕ, true, Some, ap, sym, subst, ◌∙◌}
+use Rattle.std.proofs.Common.{◌≡◌, ℕ, true, Some, ap, sym, subst, ◌∙◌, List, [], ◌∷◌, ◌++◌, None}
 use Rattle.vf_base.specs.declared.action.Controls.{Controls}
 use Rattle.vf_elements.specs.Stages.{takes}
 use Rattle.vf_elements.specs.declared.message.Message.TheVariants as messages
+use Rattle.vf_elements.specs.declared.message.Said.{Said}
+use Rattle.vf_elements.specs.declared.message.Said.TheVariants as answers
 use Rattle.vf_filestore.specs.Aborts.{Setting}
 use Rattle.vf_filestore.specs.Controls.{attribute_controls, joined, not_opened}
 use Rattle.vf_filestore.specs.Decision.{granted_unless}
@@ -16,7 +18,7 @@ use Rattle.vf_locks.specs.Holders.{granted}
 use Rattle.vf_locks.specs.Table.{IsWith, held}
 use Rattle.vf_locks.specs.declared.holder.Holder.TheVariants.{Party}
 use Rattle.vf_pdu.specs.declared.pdu.Pdu.{Pdu}
-use Rattle.vf_pdu.specs.declared.pdu.Pdu.TheVariants.{SelectRequest}
+use Rattle.vf_pdu.specs.declared.pdu.Pdu.TheVariants.{SelectRequest, SelectResponse}
 use Rattle.vf_pdu_fields.specs.declared.controls.AttributeControls.{AttributeControls}
 use Rattle.vf_regime_refusals.specs.Asked.{found_in, wanted_of}
 use Rattle.vf_regime_refusals.specs.declared.association.Selection.{Selection}
@@ -43,7 +45,8 @@ returns-clause-consequence c = λ state party stands represents.
     let message = messages.Pdu request in
     let selection : Selection = record { file = name; requested = requested; controls = c.attribute_controls.result; password = c.in-SelectRequest.password } in
     let made : Selected = record { associated = c.args.self; selection = selection } in
-    let step : Step Selected = record { state = made; said = c.in-Ok-hold_selected.said; changes = c.new.result } in
+    let said : c.push_reserved.new.self.items ≡ answers.Pdu (SelectResponse None) ∷ [] = c.push_reserved.ensures.items ∙ ap (λ (all : List Said). all ++ (answers.Pdu (SelectResponse None) ∷ [])) c.in-Ok-hold_selected.ensures.said in
+    let step : Step Selected = record { state = made; said = c.push_reserved.new.self; changes = c.new.result } in
     let next = history_by state party setting message Nothing in
     let after = concluded_by state party setting message Nothing in
     let tables = c.args.tables.now in
@@ -57,7 +60,7 @@ returns-clause-consequence c = λ state party stands represents.
     (λ taken. quiet_step IsSelected tables old new state party setting message Nothing step stands taken
     (ap (λ (row : Row). granted_unless row Nothing)
     ((λ i. first_row (select_rows (found_is tables old state party stands i) (record { link = represents.linked i; identity = identity_in (represents.stands i); password = c.in-SelectRequest.password; requested = requested; controls = sym c.attribute_controls.ensures i }) name)) ∙ sym c.in-Ok.ensures ∙ c.in_default-refused.is))
-    c.in-Ok-hold_selected.ensures.said represents.moved
+    said represents.moved
     (record {
       linked = represents.linked;
       associated = represents.stands;
