@@ -37,6 +37,21 @@ READ = f"""        1 AA0F810161A207800528C27B0503850105
         1 BF2000
 {strings("= ", 0, 8)}        = 1 check 1"""
 
+# A recoverable open of a file, which is read, by activity 7: a string was written, and then read up to the end of the data.
+READ_UNDER_WAY = """        1 AA0F810161A207800528C27B0503850105
+        = 1 AB00
+        1 B206800105830107
+        = 1 B309A107800528C27B0503
+        1 BF2103800102
+        1 04026869
+        1 BF2200
+        1 BF2300
+        = 1 BF2400
+        1 BF2000
+        = 1 04026869
+        = 1 BF2200
+"""
+
 # The same of twenty strings, in an open that can be recovered, where one check may be open.
 TWENTY = f"""
         1 arrive sync
@@ -594,19 +609,7 @@ CONVERSATIONS = {
         1 arrive sync
         1 A007800200CF830104
         = 1 A107810200CF820104
-        1 AA0F810161A207800528C27B0503850105
-        = 1 AB00
-        1 B206800105830107
-        = 1 B309A107800528C27B0503
-        1 BF2103800102
-        1 04026869
-        1 BF2200
-        1 BF2300
-        = 1 BF2400
-        1 BF2000
-        = 1 04026869
-        = 1 BF2200
-        1 end
+""" + READ_UNDER_WAY + """        1 end
         2 arrive
         2 A00380010F
         = 2 A10381010F

@@ -5,7 +5,7 @@ that can stand together by which goes first. A note behind `#` says what stands 
 What peers are told was written by hand, by the rules of the profile.
 """
 
-from responder_conversations import SECURED, strings
+from responder_conversations import READ_UNDER_WAY, SECURED, strings
 
 
 def arrives(link, units="0F", identity=""):
@@ -47,23 +47,6 @@ def opens(arrived, link, mode):
         {link} B2038001{mode}
         = {link} B309A107800528C27B0503
     """
-
-
-# A recoverable open of file "a", which is read, by activity 7: a string was written, and then read up to the end of the data.
-READ_UNDER_WAY = arrives_in_sync(1) + """
-        1 AA0F810161A207800528C27B0503850105
-        = 1 AB00
-        1 B206800105830107
-        = 1 B309A107800528C27B0503
-        1 BF2103800102
-        1 04026869
-        1 BF2200
-        1 BF2300
-        = 1 BF2400
-        1 BF2000
-        = 1 04026869
-        = 1 BF2200
-"""
 
 
 def replaced(link):
@@ -424,7 +407,7 @@ REFUSALS = {
         = 1 B309A107800528C27B0503
     """,
     # a read under way: which of its refusals comes first, without the token by which it would go on
-    "a recovery": READ_UNDER_WAY + "        1 end\n" + arrives_in_sync(2) + """
+    "a recovery": arrives_in_sync(1) + READ_UNDER_WAY + "        1 end\n" + arrives_in_sync(2) + """
         2 BA06800109810101                                      # no such activity: 27
         = 2 BB05A00380011B
         2 BA06800107810103                                      # a number that is none: 29
@@ -448,7 +431,7 @@ REFUSALS = {
         = 3 BB05A003800121
     """,
     # the association that stands is aborted first, however the recovery is answered then
-    "a recovery that supersedes": READ_UNDER_WAY + arrives(2) + """
+    "a recovery that supersedes": arrives_in_sync(1) + READ_UNDER_WAY + arrives(2) + """
         2 BA06800107810102                                      # 33
         = 1 A50380016A
         = 1 shut

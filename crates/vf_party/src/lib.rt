@@ -4,6 +4,7 @@
 
 mod aborting;
 mod apart;
+mod asked;
 mod copies;
 mod departing;
 mod grouping;

@@ -149,15 +149,6 @@ pub struct Grouping {
     pub(crate) items: Sequence<Pdu>,
 }
 
-impl Grouping {
-    /// The regimes in which the group stands.
-    pub fn quiet(&self) -> &Quiet
-        ensures { result.now ≡ self.now.quiet }
-    {
-        &self.quiet
-    }
-}
-
 /// What came of a message.
 #[derive(Drop)]
 pub struct Outcome {

@@ -20,7 +20,6 @@ ghost use Rattle.vf_tables.specs.Changes.{after_all};
 ghost use Rattle.vf_tpkt.specs.Wanting.{lacking};
 ghost use Rattle.vf_stack.specs.declared.indication.Indication.{Indication as IndicationMeant};
 
-use crate::asked::{identity_of, is_at, last_check_of, stage_of};
 use crate::event::Reply;
 use crate::keeping::{Keeping, put};
 use crate::link::Link;
@@ -50,7 +49,7 @@ fn recovering(link: &Link, message: &Message) -> Option<u32>
 {
     match message {
         Message::Pdu(Pdu::RecoverRequest { activity, .. }) => {
-            if stage_of(&link.party) == Stage::Associated {
+            if link.party.stage() == Stage::Associated {
                 Some(*activity)
             } else {
                 None
@@ -227,7 +226,7 @@ impl<D: Disk> Keeping<D> {
     {
         let asked = asked_by(&indication);
         let next = link.stack.next_serial();
-        match meaning_of(next, last_check_of(&link.party), indication) {
+        match meaning_of(next, link.party.last_check(), indication) {
             Meaning::Takes(message) => self.take(alloc, link, moment, asked, message, replies),
             Meaning::Faults { number, place } => {
                 let said = abort(alloc, number, place)?;
@@ -312,7 +311,7 @@ impl<D: Disk> Keeping<D> {
         let Some(activity) = recovering(link, message) else {
             return Ok(());
         };
-        let Some(identity) = identity_of(&link.party) else {
+        let Some(identity) = link.party.identity() else {
             return Ok(());
         };
         let Some(number) = self.link_with(identity, activity) else {
@@ -338,7 +337,7 @@ impl<D: Disk> Keeping<D> {
             let Some((number, link)) = self.links.get_index(index) else {
                 return None;
             };
-            if is_at(&link.party, identity, activity) {
+            if link.party.is_at(identity, activity) {
                 return Some(*number);
             }
         }

@@ -3,7 +3,6 @@
 #![tactic(auto)]
 
 mod answering;
-mod asked;
 mod error;
 mod event;
 mod keeping;
