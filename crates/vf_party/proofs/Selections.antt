@@ -1,6 +1,6 @@
 -- A selection or its end comes to a party in the regime in which it begins or ends: what its typed step answers is what the
 -- party owes to the message.
-use Rattle.std.proofs.Common.{◌≡◌, ℕ, Bool, true, nat_eq, Result, refl, ap, subst, sym, ◌∙◌}
+use Rattle.std.proofs.Common.{◌≡◌, ℕ, true, nat_eq, Result, refl, ap, subst, sym, ◌∙◌}
 use Rattle.std.specs.Prelude.{IfErr}
 use Rattle.vf_base.specs.declared.errors.NoMemory.{NoMemory}
 use Rattle.vf_elements.specs.declared.message.Message.{Message}

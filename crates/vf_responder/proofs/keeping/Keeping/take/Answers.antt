@@ -15,7 +15,7 @@ use Rattle.vf_responder.proofs.FullLemmas.{take-full}
 use Rattle.vf_responder.proofs.keeping.Keeping.take.Given.{Over}
 use Rattle.vf_responder.proofs.CommitLemmas.{all-made, none-begun}
 use Rattle.vf_responder.proofs.CommitParts.{take-commits}
-use Rattle.vf_responder.specs.Commits.{CommitsSo, commit_of, commits_taking, telling}
+use Rattle.vf_responder.specs.Commits.{commit_of, commits_taking, telling}
 use Rattle.vf_responder.proofs.keeping.Keeping.take.Goals as goal
 use Rattle.vf_responder.proofs.keeping.Keeping.take.Goals.{After-give_way, After-keep}
 
