@@ -44,7 +44,7 @@ deselecting_message (parties.Quiet (quiets.Selected selected)) (messages.Pdu Des
 deselecting_message party message is = absurd cc
 
 -- the number of the request that a message is
-number_in : Message → ℕ
+abbrev number_in : Message → ℕ
 number_in (messages.Pdu request) = number_of request
 number_in message = 0
 
