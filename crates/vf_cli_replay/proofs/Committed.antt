@@ -1,5 +1,5 @@
 -- How far commits come that were made, one after another, on a disk in memory.
-use Rattle.std.proofs.Common.{◌≡◌, ◌∙◌, ℕ, ◌<◌, ◌≤◌, nat_lt, Bool, true, false, cond, List, [], ◌∷◌, ◌++◌, length, Option, None, Some, ap, append_assoc, append-nil, refl, sym, subst, arith}
+use Rattle.std.proofs.Common.{◌≡◌, ◌∙◌, ℕ, ◌<◌, ◌≤◌, nat_lt, Bool, true, false, cond, List, [], ◌∷◌, ◌++◌, Option, None, Some, ap, append_assoc, append-nil, refl, sym, subst, arith}
 use Rattle.std.proofs.lemmas.Bool.Decides.{nat_tests}
 use Rattle.vf_base.specs.declared.events.ScriptEvent.{ScriptEvent}
 use Rattle.vf_disk.specs.Memory.{Memory, state as state_of}
@@ -17,7 +17,6 @@ use Rattle.vf_responder.specs.Run.{run, trail}
 use Rattle.vf_responder.specs.Serving.{Serving}
 use Rattle.vf_store.specs.Commit.{after_commit, after_move, area_planned, commit_steps, placed, written_steps}
 use Rattle.vf_store.specs.StoreState.{StoreState}
-use Rattle.vf_store_record.specs.Records.{record_of}
 use Rattle.vf_cli_replay.proofs.Rows.{fell, row_fails, row_then, went}
 use Rattle.vf_cli_replay.specs.Calls.{Calls, Outcome, Through, Stopped, Filled, calls_by, commits_in, outcome_by, then_calls}
 use Rattle.vf_cli_replay.specs.Standing.{Halted, tells}
@@ -63,8 +62,7 @@ calls_same journal [] = refl
 calls_same journal (commit ∷ later) =
     let area = area_planned commit.tables (placed journal commit.tables commit.changes).switch in
     let steps : commit_steps journal commit.tables commit.changes ≡ commit_steps (unprepared journal) commit.tables commit.changes = steps_same journal area _ in
-    let next : after_commit journal commit.tables commit.changes ≡ after_commit (unprepared journal) commit.tables commit.changes =
-    after_same journal area (length (record_of commit.changes)) in
+    let next : after_commit journal commit.tables commit.changes ≡ after_commit (unprepared journal) commit.tables commit.changes = after_same journal area _ in
     ap (λ (calls : Calls). cond (nat_lt journal.limit (placed journal commit.tables commit.changes).end) none_more calls)
     (ap (λ (l : List Step). then_calls l (calls_by (after_commit journal commit.tables commit.changes) later)) steps
     ∙ ap (λ (j : JournalState). then_calls (commit_steps (unprepared journal) commit.tables commit.changes) (calls_by j later)) next)
