@@ -12,19 +12,18 @@ use Rattle.vf_disk.specs.declared.step.Step.{Step}
 use Rattle.vf_journal.specs.declared.error.JournalError.{JournalError}
 use Rattle.vf_journal.specs.declared.error.JournalError.TheVariants.{NotAStore, Full, DiskFault, NoMemory}
 use Rattle.vf_responder.specs.Along.{RepresentsAlong}
-use Rattle.vf_responder.specs.Full.{AtFull, IsFullAt}
-use Rattle.vf_responder.specs.Represents.{AnswerCauses, Answers}
+use Rattle.vf_responder.specs.Commits.{AreMade, AreMadeUpTo, Commit, commits_by}
+use Rattle.vf_responder.specs.Represents.{Answers}
 use Rattle.vf_responder.specs.Run.{trail}
 use Rattle.vf_responder.specs.Serving.{Serving}
 use Rattle.vf_responder.specs.declared.event.Reply.{Reply}
-use Rattle.vf_store.specs.StoreState.{IsRepresented}
+use Rattle.vf_store.specs.StoreState.{IsRepresented, StoreState}
 use Rattle.vf_cli_calling.specs.declared.caller.Caller.{Caller}
 use Rattle.vf_cli_replay.specs.Halting.{halt_by}
 use Rattle.vf_cli_replay.specs.Hearing.{AreEnds, AreOthers, HasHeard}
-use Rattle.vf_cli_replay.specs.Living.{IsFull}
 use Rattle.vf_cli_replay.specs.Running.{Ends, Running, Spoken, heard_all, joined, moment_of, with_end}
 use Rattle.vf_cli_replay.specs.Disks.{may_leave, shown}
-use Rattle.vf_cli_replay.specs.Standing.{Halts, HasCome, Leaves, SpeaksOn, Stands}
+use Rattle.vf_cli_replay.specs.Standing.{Halted, HasCome, Leaves, SpeaksOn, Stands, tells}
 use Rattle.vf_cli_replay.specs.declared.halt.Halt.{Halt}
 use Rattle.vf_cli_replay.specs.declared.halt.Halt.TheVariants as halts
 use Rattle.vf_cli_replay.specs.declared.links.Links.{Links}
@@ -34,12 +33,13 @@ if_ok (Ok x) P Q by holds = by x holds
 if_ok (Err error) P Q by holds = tt
 
 -- ---- its answers are heard
-pub comes_well : (running : Running) (event : ScriptEvent) (text text' : List ℕ) (limit : ℕ) (links : Links) (told : List Reply)
+pub comes_well : (running : Running) (event : ScriptEvent) (text text' : List ℕ) (store : StoreState Memory) (links : Links) (told : List Reply)
     → Answers (trail event running.serving) running.serving [] links.responder told → IsRepresented shown may_leave links.responder.store
-    → HasHeard (heard_all (joined told) running.ends) text links.callers.entries text' → HasCome running event text limit links text' None
-comes_well running event text text' limit links told answers stored heard =
+    → HasHeard (heard_all (joined told) running.ends) text links.callers.entries text' → AreMade tells (commits_by event running.serving) store links.responder.store
+    → HasCome running event text store links text' None
+comes_well running event text text' store links told answers stored heard made =
     let it = subst (λ (replies : List Reply). HasHeard (heard_all (joined replies) running.ends) text links.callers.entries text') answers.spoken heard in
-    (it.lines, record { responder = answers.represents; stored = stored; callers = it.ends })
+    (it.lines, record { responder = answers.represents; stored = stored; callers = it.ends }, made)
 
 -- ---- it can't go on. What may be left now might have been left since it began.
 pub left_now : (disk : Memory) (since : ℕ) (image : List ℕ) → since ≤ length disk.steps → may_leave disk image → LeftSince disk since image
@@ -51,26 +51,17 @@ leaves : (serving : Serving) (event : ScriptEvent) (old new : Memory)
     → LeavesOnly (λ (disk : Memory). length disk.steps) LeftSince old new (RepresentsAlong serving (trail event serving)) → Leaves serving event new
 leaves serving event old new run = record { each = λ image left. run.each image (left_now new (length old.steps) image run.later left) }
 
-halts_so : (running : Running) (event : ScriptEvent) (limit before after : ℕ) (error : JournalError) (halt : Halt) (links : Links) → halt_by error ≡ Some halt
-    → Leaves running.serving event links.responder.store.disk
-    → AtFull error (λ place. IsFullAt (trail event running.serving) running.serving links.responder.store place)
-    → AnswerCauses {T = Unit {0}} limit before after (Err error) → links.responder.store.journal.limit ≡ limit
-    → Halts halt limit running.serving event links.responder.store.disk
-halts_so running event limit before after DiskFault halt links is left full causes bound =
-    let it : halts.Stopped ≡ halt = cc in subst (λ (h : Halt). Halts h limit running.serving event links.responder.store.disk) it left
-halts_so running event limit before after (Full length most) halt links is left full causes bound =
-    let it : halts.Full ≡ halt = cc in
-    subst (λ (h : Halt). Halts h limit running.serving event links.responder.store.disk) it
-    (left, record { store = links.responder.store; place = length; bound = bound; past = causes.0; due = full })
-halts_so running event limit before after NoMemory halt links is left full causes bound = absurd cc
-halts_so running event limit before after (NotAStore place found expected) halt links is left full causes bound = absurd causes
+halts_so : (error : JournalError) (halt : Halt) (commits : List Commit) (old new : StoreState Memory) → halt_by error ≡ Some halt → AreMadeUpTo tells error commits old new → Halted halt commits old new
+halts_so DiskFault halt commits old new is up = let it : halts.Stopped ≡ halt = cc in subst (λ (h : Halt). Halted h commits old new) it up
+halts_so (Full length limit) halt commits old new is up = let it : halts.Full ≡ halt = cc in subst (λ (h : Halt). Halted h commits old new) it (length, limit, up)
+halts_so NoMemory halt commits old new is up = absurd cc
+halts_so (NotAStore place found expected) halt commits old new is up = absurd cc
 
-pub comes_to_halt : (running : Running) (event : ScriptEvent) (text : List ℕ) (limit before after : ℕ) (error : JournalError) (halt : Halt) (old : Memory) (links : Links) → halt_by error ≡ Some halt
-    → LeavesOnly (λ (disk : Memory). length disk.steps) LeftSince old links.responder.store.disk (RepresentsAlong running.serving (trail event running.serving))
-    → AtFull error (λ place. IsFullAt (trail event running.serving) running.serving links.responder.store place)
-    → AnswerCauses {T = Unit {0}} limit before after (Err error) → links.responder.store.journal.limit ≡ limit → HasCome running event text limit links text (Some halt)
-comes_to_halt running event text limit before after error halt old links is run full causes bound =
-    (refl, halts_so running event limit before after error halt links is (leaves running.serving event old links.responder.store.disk run) full causes bound)
+pub comes_to_halt : (running : Running) (event : ScriptEvent) (text : List ℕ) (store : StoreState Memory) (error : JournalError) (halt : Halt) (links : Links) → halt_by error ≡ Some halt
+    → LeavesOnly (λ (disk : Memory). length disk.steps) LeftSince store.disk links.responder.store.disk (RepresentsAlong running.serving (trail event running.serving))
+    → AreMadeUpTo tells error (commits_by event running.serving) store links.responder.store → HasCome running event text store links text (Some halt)
+comes_to_halt running event text store error halt links is run up =
+    (refl, leaves running.serving event store.disk links.responder.store.disk run, halts_so error halt (commits_by event running.serving) store links.responder.store is up)
 
 -- ---- all ends are those of the others too
 pub all_but : (link : ℕ) (callers : List (ℕ × Caller)) (ends : Ends) → AreEnds callers ends → AreOthers link callers ends

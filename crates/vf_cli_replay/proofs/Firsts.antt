@@ -1,12 +1,19 @@
 -- The disk of a script before its first life.
-use Rattle.std.proofs.Common.{◌≡◌, ◌∙◌, ℕ, true, List, [], ◌∷◌, Option, Some, Result, Ok, Err, IfOk, length, ap, refl, arith, sym, subst}
+use Rattle.std.proofs.Common.{◌≡◌, ◌∙◌, ℕ, zero, suc, ◌<◌, ◌≤◌, true, false, List, [], ◌∷◌, Option, None, Some, Result, Ok, Err, IfOk, length, ap, refl, arith, sym, subst}
 use Rattle.vf_base.specs.declared.errors.NoMemory.{NoMemory as OutOfMemory}
+use Rattle.vf_disk.specs.Calls.{MakesChanges, after_changes}
 use Rattle.vf_disk.specs.Disk.{LeavesShown}
-use Rattle.vf_disk.specs.Memory.{Memory, fresh}
+use Rattle.vf_disk.specs.Memory.{Memory, fresh, state as state_of}
+use Rattle.vf_disk.specs.Plans.{StopPlan, counted_down, planned}
+use Rattle.vf_disk.specs.State.{State as DiskState, left_by, settled}
+use Rattle.vf_disk.specs.Steps.{MakesSteps}
+use Rattle.vf_disk.specs.declared.crash_form.CrashForm.TheVariants.{Keep}
 use Rattle.vf_filestore.specs.Runs.{beginning}
-use Rattle.vf_filestore.specs.Tables.{tables_of}
 use Rattle.vf_incarnations.proofs.Lives.{new_stores_begin}
-use Rattle.vf_store.specs.Commit.{AreFitting}
+use Rattle.vf_journal.specs.JournalState.{when_opened}
+use Rattle.vf_journal.specs.Layout.{new_journal}
+use Rattle.vf_responder.specs.Commits.{AreMade, Commit}
+use Rattle.vf_store.specs.Commit.{AreFitting, after_commit, commit_steps, placed}
 use Rattle.vf_store.specs.Represented.{Represents}
 use Rattle.vf_store.specs.StoreState.{IsRepresented, StoreState}
 use Rattle.vf_store_commands.specs.Making.{users_alone}
@@ -19,26 +26,36 @@ use Rattle.vf_tables.specs.declared.change.Change.{Change}
 use Rattle.vf_tables.specs.declared.tables.Tables.{Tables}
 use Rattle.vf_tables.specs.declared.user.User.{User}
 use Rattle.vf_cli_replay.proofs.Bools.{first_of}
+use Rattle.vf_cli_replay.proofs.Committed.{Comes, made_comes}
+use Rattle.vf_cli_replay.proofs.Opening.{leaves_settled}
+use Rattle.vf_cli_replay.proofs.Plans.{HasNone, opens_well, opens_with}
+use Rattle.vf_cli_replay.proofs.Rows.{SameStop, ends_same}
 use Rattle.vf_cli_replay.proofs.Serving.{store_leaves}
+use Rattle.vf_cli_replay.specs.Calls.{Calls, Through, calls_by, first_commits, first_image, no_limit}
 use Rattle.vf_cli_replay.specs.Disks.{Keeps, may_leave, shown}
+use Rattle.vf_cli_replay.specs.Standing.{IsFirst, IsNew, Opens, tells}
 use Rattle.vf_cli_replay.specs.Users.{AreGood}
 
-pub first_keeps : (users : List User) (store : StoreState Memory) (left : Memory) (octets : List ℕ) → AreGood users → store.tables ≡ users_alone users → IsRepresented shown may_leave store
-    → left ≡ fresh octets [] → may_leave store.disk left.first → LeavesShown (Some left.first) (may_leave left) → Keeps left (beginning users [])
-first_keeps users store left octets good tables stands is may synced = record {
-  image = left.first;
-  disk_is = is ∙ ap (λ (o : List ℕ). fresh o []) (sym (ap (λ (d : Memory). d.first) is));
-  synced = synced;
-  represents = subst (λ (t : Tables). Represents left.first t) tables (store_leaves store left.first stands may);
-  begins = new_stores_begin users good.valid good.ranged;
-}
+pub first_keeps : (users : List User) (store : StoreState Memory) (left : Memory) (image : List ℕ) → AreGood users → store.tables ≡ users_alone users → IsRepresented shown may_leave store
+    → left ≡ fresh image [] → may_leave store.disk left.first → LeavesShown (Some left.first) (may_leave left) → Keeps left image (beginning users [])
+first_keeps users store left image good tables stands is may synced =
+    let first : left.first ≡ image = ap (λ (d : Memory). d.first) is in
+    let represents : Represents left.first (users_alone users) = subst (λ (t : Tables). Represents left.first t) tables (store_leaves store left.first stands may) in
+    record {
+      disk_is = is;
+      synced = subst (λ (o : List ℕ). LeavesShown (Some o) (may_leave left)) first synced;
+      represents = subst (λ (o : List ℕ). Represents o (users_alone users)) first represents;
+      begins = new_stores_begin users good.valid good.ranged;
+    }
 
-pub first_crashes : (users : List User) (store : StoreState Memory) (disk : Memory) (octets : List ℕ) (answer : Result Memory OutOfMemory) → AreGood users
-    → (store.tables ≡ users_alone users) × IsRepresented shown may_leave store → disk ≡ store.disk → IfOk answer (λ left. left ≡ fresh octets [])
-    → IfOk answer (λ left. may_leave disk left.first) → IfOk answer (λ left. LeavesShown (Some left.first) (may_leave left)) → IfOk answer (λ left. Keeps left (beginning users []))
-first_crashes users store disk octets (Ok left) good has same is may synced =
-    first_keeps users store left octets good has.0 has.1 is (subst (λ (d : Memory). may_leave d left.first) same may) synced
-first_crashes users store disk octets (Err error) good has same is may synced = tt
+pub first_crashes : (users : List User) (store : StoreState Memory) (disk : Memory) (answer : Result Memory OutOfMemory) → AreGood users
+    → (store.tables ≡ users_alone users) × IsRepresented shown may_leave store × IsFirst users store → disk ≡ store.disk
+    → IfOk answer (λ left. left ≡ fresh (left_by Keep (state_of disk)) []) → IfOk answer (λ left. may_leave disk left.first) → IfOk answer (λ left. LeavesShown (Some left.first) (may_leave left))
+    → IfOk answer (λ left. Keeps left (first_image users) (beginning users []))
+first_crashes users store disk (Ok left) good has same is may synced =
+    let image : left_by Keep (state_of disk) ≡ first_image users = ap (λ (d : Memory). left_by Keep (state_of d)) same ∙ ap (left_by Keep) has.2 in
+    first_keeps users store left (first_image users) good has.0 has.1 (is ∙ ap (λ (o : List ℕ). fresh o []) image) (subst (λ (d : Memory). may_leave d left.first) same may) synced
+first_crashes users store disk (Err error) good has same is may synced = tt
 
 pub no_users : (users : List User) → length users ≡ 0 → users ≡ []
 no_users [] none = refl
@@ -57,12 +74,61 @@ users_fit tables changes users makes good empty is =
         let valid : is_valid (users_alone users) ≡ true = first_of (is_valid (users_alone users)) _ good.kept in
         (record { each = law.0; valid = subst (λ (t : Tables). is_valid t ≡ true) (sym law.1) valid }, law.1)
 
-pub users_made : (tables : Tables) (changes : List Change) (users : List User) (new : StoreState Memory) → SnapshotMakes → AreGood users → tables ≡ no_tables → changes ≡ snapshot (users_alone users)
-    → new.tables ≡ after_all tables changes → (AreFitting tables changes → IsRepresented shown may_leave new) → (new.tables ≡ users_alone users) × IsRepresented shown may_leave new
-users_made tables changes users new makes good empty is made stands =
-    let fits = users_fit tables changes users makes good empty is in (made ∙ fits.1, stands fits.0)
+-- from a new store on
+first_commit : (users : List User) → 0 < length users → first_commits users ≡ record { tables = no_tables; changes = snapshot (users_alone users) } ∷ []
+first_commit [] some = absurd (omega (arith, some))
+first_commit (user ∷ users) some = refl
+
+first_is : (users : List User) (commits : List Commit) (store new : StoreState Memory) → first_commits users ≡ commits → IsNew store → AreMade tells commits store new → IsFirst users new
+first_is users commits store new is begun made =
+    let come = made_comes commits store new made in
+    let journal : calls_by store.journal commits ≡ calls_by (when_opened new_journal no_limit) (first_commits users) = λ i. calls_by (begun.journal i) (sym is i) in
+    let there : Comes (calls_by (when_opened new_journal no_limit) (first_commits users)) store.disk.plan (settled new_journal) (state_of new.disk) Through =
+    subst (λ (s : DiskState). Comes (calls_by (when_opened new_journal no_limit) (first_commits users)) store.disk.plan s (state_of new.disk) Through) begun.state
+    (subst (λ (k : Calls). Comes k store.disk.plan (state_of store.disk) (state_of new.disk) Through) journal come) in
+    let same : SameStop store.disk.plan (planned []) = record { none = begun.failing; other = refl; stop = begun.stop } in
+    sym there.leaves ∙ (ends_same (calls_by (when_opened new_journal no_limit) (first_commits users)).steps store.disk.plan (planned []) (settled new_journal) same).state
+
+pub users_made : (changes : List Change) (users : List User) (old new : StoreState Memory) → SnapshotMakes → AreGood users → 0 < length users → old.tables ≡ no_tables → changes ≡ snapshot (users_alone users)
+    → IsNew old → new.tables ≡ after_all old.tables changes → (AreFitting old.tables changes → IsRepresented shown may_leave new) → (placed old.journal old.tables changes).end ≤ old.journal.limit
+    → MakesSteps (commit_steps old.journal old.tables changes) (tells.plan old.disk) (tells.plan new.disk) (tells.state old.disk) (tells.state new.disk) false old.disk.lacks new.disk.lacks
+    → new.journal ≡ after_commit old.journal old.tables changes → (new.tables ≡ users_alone users) × IsRepresented shown may_leave new × IsFirst users new
+users_made changes users old new makes good some empty is begun made stands within steps journal =
+    let fits = users_fit old.tables changes users makes good empty is in
+    let commit : Commit = record { tables = old.tables; changes = changes } in
+    let all : first_commits users ≡ commit ∷ [] = first_commit users some ∙ (λ i. record { tables = sym empty i; changes = sym is i } ∷ []) in
+    let written : AreMade tells (commit ∷ []) old new = (new, record { written = record { tables = refl; within = within; steps = steps }; journal = journal }, refl) in
+    (made ∙ fits.1, stands fits.0, first_is users (commit ∷ []) old new all begun written)
 
 -- without users nothing is written
-pub none_made : (users : List User) (store : StoreState Memory) → length users ≡ 0 → store.tables ≡ no_tables → IsRepresented shown may_leave store
-    → (store.tables ≡ users_alone users) × IsRepresented shown may_leave store
-none_made users store none empty stands = (empty ∙ ap users_alone (sym (no_users users none)), stands)
+pub none_made : (users : List User) (store : StoreState Memory) → length users ≡ 0 → store.tables ≡ no_tables → IsRepresented shown may_leave store → IsNew store
+    → (store.tables ≡ users_alone users) × IsRepresented shown may_leave store × IsFirst users store
+none_made users store none empty stands begun =
+    let is : users ≡ [] = no_users users none in
+    let first : IsFirst [] store = begun.state in
+    (empty ∙ ap users_alone (sym is), stands, subst (λ (l : List User). IsFirst l store) (sym is) first)
+
+-- ---- A NEW STORE
+changes_have : (count : ℕ) (plan : StopPlan) → HasNone plan None → HasNone (after_changes count plan) None
+changes_have zero plan has = has
+changes_have (suc count) plan has = let before = changes_have count plan has in record { none = before.none; stop = ap counted_down before.stop }
+
+pub made_with : (plan plan' : StopPlan) → plan ≡ planned [] → MakesChanges 6 (Some plan) (Some plan') false → HasNone plan' None
+made_with plan plan' is made =
+    let next : Some plan' ≡ Some (after_changes 6 plan) = made.1 in
+    let same : plan' ≡ after_changes 6 plan = cc in
+    let begun : HasNone (planned []) None = record { none = refl; stop = refl } in
+    subst (λ (p : StopPlan). HasNone p None) (sym same) (changes_have 6 plan (subst (λ (p : StopPlan). HasNone p None) (sym is) begun))
+
+pub begins_new : (disk : Memory) (store : StoreState Memory) → shown disk ≡ Some new_journal → HasNone disk.plan None → Opens new_journal disk store → IsNew store
+begins_new disk store shows has opens =
+    let next = opens_with disk.plan store.disk.plan has.none opens.calls in
+    let goes = opens_well disk.plan store.disk.plan opens.calls in
+    let it : Some (state_of disk).shown ≡ Some new_journal = shows in
+    let held : (state_of disk).shown ≡ new_journal = cc in
+    record {
+      failing = next.none;
+      stop = next.stop ∙ ap counted_down has.stop;
+      state = leaves_settled disk.plan (state_of disk) (state_of store.disk) opens.made goes ∙ ap settled held;
+      journal = opens.journal;
+    }

@@ -1,4 +1,6 @@
 pub mod Bools
+pub mod Rows
+pub mod Committed
 pub mod CallerEnds
 pub mod Replies
 pub mod Going

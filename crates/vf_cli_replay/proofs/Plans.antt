@@ -3,9 +3,12 @@ use Rattle.std.proofs.Common.{◌≡◌, ◌∙◌, ⊎_elim, ℕ, zero, suc, �
 use Rattle.std.specs.Prelude.{◌||◌, IsSome}
 use Rattle.std.proofs.lemmas.Bool.{eqb-true}
 use Rattle.vf_disk.specs.Calls.{SyncsAndLooks, after_looks}
-use Rattle.vf_disk.specs.Memory.{Memory, fresh}
-use Rattle.vf_disk.specs.Plans.{StopPlan, after_change, change_fails, is_after_stop, is_stopped, look_fails, planned}
+use Rattle.vf_disk.specs.Memory.{fresh}
+use Rattle.vf_disk.specs.Plans.{StopPlan, after_change, counted_down, is_after_stop, look_fails}
+use Rattle.vf_disk.specs.Steps.{step_fails}
+use Rattle.vf_disk.specs.declared.step.Step.TheVariants.{Synced}
 use Rattle.vf_cli_script.specs.declared.line.Stop.{Stop}
+use Rattle.vf_cli_replay.specs.Calls.{plan_by}
 use Rattle.vf_cli_replay.specs.Standing.{with_stop}
 
 -- a life that is to stop at the first call
@@ -45,17 +48,31 @@ second_call zero is = refl
 second_call (suc zero) is = refl
 second_call (suc (suc call)) is = absurd (omega (arith, later_call (suc (suc call)) (omega arith), eqb-true (max (suc (suc call)) 1 - 1) 0 is))
 
-neither : (a b : Bool) → (a || b) ≡ false → a ≡ false
-neither true b is = absurd cc
-neither false b is = refl
-
+-- the plan of the disk, with its stop
 abbrev pub plan_of : Option Stop → List ℕ → StopPlan
 plan_of stop image = (with_stop stop (fresh image [])).plan
 
-pub opens_later : (stop : Option Stop) (image : List ℕ) (plan : Option StopPlan) → SyncsAndLooks (Some (plan_of stop image)) plan false → at_once stop ≡ false
-opens_later None image plan looks = refl
-opens_later (Some stop) image plan looks = sym (first_call stop.call) ∙ neither (nat_le (max stop.call 1) 1) false looks.0
+pub plan_is : (stop : Option Stop) (image : List ℕ) → plan_of stop image ≡ plan_by stop
+plan_is None image = refl
+plan_is (Some stop) image = refl
 
+pub fails_at_once : (stop : Option Stop) → at_once stop ≡ true → step_fails (plan_by stop) Synced ≡ true
+fails_at_once None first = absurd cc
+fails_at_once (Some stop) first = ap (λ (b : Bool). (b || false) || false) (first_call stop.call ∙ first)
+
+-- As the store is opened no call is stopped. What is left of the plan: the calls of `len` and `read` don't count.
+pub opens_with : (plan plan' : StopPlan) → plan.numbers.failing ≡ [] → SyncsAndLooks (Some plan) (Some plan') false → HasNone plan' (counted_down plan.until_stop)
+opens_with plan plan' none looks =
+    let more = looks.1 in
+    let is : Some plan' ≡ Some (after_looks more.0 (after_change plan)) = more.2 in
+    let same : plan' ≡ after_looks more.0 (after_change plan) = cc in
+    let has = looks_have more.0 (after_change plan) (counted_down plan.until_stop) (record { none = none; stop = refl }) in
+    subst (λ (p : StopPlan). HasNone p (counted_down plan.until_stop)) (sym same) has
+
+pub opens_well : (plan plan' : StopPlan) → SyncsAndLooks (Some plan) (Some plan') false → step_fails plan Synced ≡ false
+opens_well plan plan' looks = ap (λ (b : Bool). b || false) looks.0
+
+-- Or it stops at the first call.
 pub stops_at_once : (stop : Option Stop) (image : List ℕ) (plan : Option StopPlan) → SyncsAndLooks (Some (plan_of stop image)) plan true → IsSome stop → at_once stop ≡ true
 stops_at_once None image plan looks asked = absurd cc
 stops_at_once (Some stop) image plan looks asked =

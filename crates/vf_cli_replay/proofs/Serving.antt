@@ -27,7 +27,7 @@ spoken_serves : (running : Running) (link : ℕ) (act : Act) (caller : Option Ca
 spoken_serves running link act None now brought spoken = ap (λ (r : Running). r.serving) spoken.0
 spoken_serves running link act (Some caller) now brought spoken = ap (λ (r : Running). r.serving) spoken.2.1
 
-brings_serves : (running : Running) (event : Event) (now : Running) (brought : Option ScriptEvent) → Brings running event now brought → now.serving ≡ running.serving
+pub brings_serves : (running : Running) (event : Event) (now : Running) (brought : Option ScriptEvent) → Brings running event now brought → now.serving ≡ running.serving
 brings_serves running (Comes event) now brought brings = ap (λ (r : Running). r.serving) brings.0
 brings_serves running (Begins link sync) now brought brings = ap (λ (r : Running). r.serving) brings.0
 brings_serves running (Speaks link act) now brought brings = spoken_serves running link act (end_on link running.ends) now brought brings
@@ -59,6 +59,11 @@ through_leaves state events course goes =
     let all = run course.events now in
     stops_keep (at_end now (all ++ [])).filestore ∙ ap (λ (l : List Answer). tables_in (at_end now l)) (append-nil all) ∙ ap tables_in (sym (course_runs (opened state) events course goes))
 
+-- how it stands within one event more
+pub last_serves : (state : State) (events : List Event) (within : IsWithin (opened state) events) → within.now.serving ≡ at_end (unheard state) (run within.course.events (unheard state))
+last_serves state events within =
+    brings_serves within.course.after within.event within.now (Some within.brought) within.brings ∙ course_runs (opened state) within.before within.course within.goes
+
 pub within_leaves : (state : State) (events : List Event) (within : IsWithin (opened state) events) (count : ℕ)
     → tables_of (left_by (record { events = within.course.events; stop = Some (record { event = within.brought; answers = count }) }) state)
     ≡ tables_in (after count within.now.serving (trail within.brought within.now.serving))
@@ -66,8 +71,7 @@ within_leaves state events within count =
     let now = unheard state in
     let all = run within.course.events now in
     let last : Serving → List Answer = λ (s : Serving). take count (trail within.brought s) in
-    let then : within.now.serving ≡ at_end now all =
-    brings_serves within.course.after within.event within.now (Some within.brought) within.brings ∙ course_runs (opened state) within.before within.course within.goes in
+    let then : within.now.serving ≡ at_end now all = last_serves state events within in
     stops_keep (at_end now (all ++ last (at_end now all))).filestore ∙ ap tables_in (at_end-join now all (last (at_end now all)))
     ∙ ap (λ (s : Serving). tables_in (at_end s (last s))) (sym then)
 

@@ -14,9 +14,8 @@ shown disk = Some (state_of disk).shown
 abbrev pub may_leave : Memory → List ℕ → Type 0
 may_leave disk = IsImage (state_of disk)
 
--- All of it is synced, and represents the tables of a state that a life may begin with.
-pub record Keeps (disk : Memory) (state : State) : Type 0 where
-  pub image : List ℕ
+-- All of it is synced, and it is this image, which represents the tables of a state that a life may begin with.
+pub record Keeps (disk : Memory) (image : List ℕ) (state : State) : Type 0 where
   pub disk_is : disk ≡ fresh image []
   pub synced : LeavesShown (Some image) (may_leave disk)
   pub represents : Represents image (tables_of state)

@@ -1,5 +1,6 @@
 pub mod Saying
 pub mod Running
+pub mod Calls
 pub mod Living
 pub mod Replayed
 pub mod Halting

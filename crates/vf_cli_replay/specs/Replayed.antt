@@ -9,6 +9,7 @@ use Rattle.vf_filestore.specs.State.{State}
 use Rattle.vf_incarnations.specs.Incarnations.{after_all}
 use Rattle.vf_incarnations.specs.Laws.{AreOneRun}
 use Rattle.vf_store_commands.specs.Listing.{IsInOrder, file_lines}
+use Rattle.vf_cli_replay.specs.Calls.{first_image}
 use Rattle.vf_cli_replay.specs.Living.{LiveOn, Lived, episodes_of, lines_of}
 
 -- how many files there are, and the line of each in the order of their names
@@ -19,11 +20,11 @@ files_lines files sorted = codes "files " ++ (decimal (length files) ++ (line_fe
 abbrev pub begun_by : Script → State
 begun_by script = beginning script.users []
 
--- THE LINES OF A SCRIPT: those of its lives, one after another, and in the end those of the files. All lives are one run of the
--- filestore, with a stop at the end of each.
+-- THE LINES OF A SCRIPT: those of its lives, one after another, each stopped at the call and in the form that it names, and in the end
+-- those of the files. All lives are one run of the filestore, with a stop at the end of each.
 pub record IsReplayed (script : Script) (printed : List ℕ) : Type 0 where
   pub all : List Lived
-  pub live : LiveOn (begun_by script) script.lives all
+  pub live : LiveOn (first_image script.users) (begun_by script) script.lives all
   pub one_run : AreOneRun (episodes_of all) (begun_by script)
   pub sorted : List File
   pub order : IsInOrder (after_all (episodes_of all) (begun_by script)).files sorted

@@ -4,7 +4,9 @@ ghost use Rattle.std.specs.String.{string_bytes};
 ghost use Rattle.vf_attr.specs.declared.file.File.{File as FileMeant};
 ghost use Rattle.vf_cli_replay.specs.Replayed.{files_lines};
 ghost use Rattle.vf_cli_printing.specs.Printed.{line_feed};
+ghost use Rattle.vf_cli_replay.specs.Calls.{first_image};
 ghost use Rattle.vf_cli_replay.specs.Disks.{Keeps, may_leave, shown};
+ghost use Rattle.vf_cli_replay.specs.Standing.{IsFirst, IsNew, Opens};
 ghost use Rattle.vf_cli_replay.specs.Users.{AreGood};
 ghost use Rattle.vf_filestore.specs.Runs.{beginning};
 ghost use Rattle.vf_filestore.specs.State.{State};
@@ -29,7 +31,7 @@ const NO_LIMIT: u64 = 18_446_744_073_709_551_615;
 
 /// A new store, with these users.
 pub(crate) fn first_disk(alloc: Global, users: Users) -> Result<MemoryDisk, NoMemory>
-    ensures { AreGood users → IfOk result (λ disk. Keeps disk (beginning users [])) }
+    ensures { AreGood users → IfOk result (λ disk. Keeps disk (first_image users) (beginning users [])) }
 {
     let store = new_store(alloc)?;
     let store = with_users(alloc, store, users)?;
@@ -38,7 +40,7 @@ pub(crate) fn first_disk(alloc: Global, users: Users) -> Result<MemoryDisk, NoMe
 
 /// A new store, without users.
 fn new_store(alloc: Global) -> Result<Store<MemoryDisk>, NoMemory>
-    ensures { IfOk result (λ store. (store.tables ≡ no_tables) × IsRepresented shown may_leave store) }
+    ensures { IfOk result (λ store. (store.tables ≡ no_tables) × IsRepresented shown may_leave store × IsNew store) }
 {
     let mut disk = MemoryDisk::of(alloc, &[], Vec::new(alloc))?;
     match Store::create(&mut disk) {
@@ -50,7 +52,7 @@ fn new_store(alloc: Global) -> Result<Store<MemoryDisk>, NoMemory>
 /// The store on a disk.
 fn opened(alloc: Global, disk: MemoryDisk) -> Result<Store<MemoryDisk>, NoMemory>
     ensures { (image : List ℕ) (tables : TablesMeant) → shown disk ≡ Some image → Represents image tables
-        → IfOk result (λ store. (store.tables ≡ tables) × IsRepresented shown may_leave store) }
+        → IfOk result (λ store. (store.tables ≡ tables) × IsRepresented shown may_leave store × Opens image disk store) }
 {
     match Store::open(alloc, disk, NO_LIMIT) {
         Ok(store) => Ok(store),
@@ -78,8 +80,8 @@ fn with_users(
     store: Store<MemoryDisk>,
     users: Users,
 ) -> Result<Store<MemoryDisk>, NoMemory>
-    ensures { AreGood users → store.tables ≡ no_tables → IsRepresented shown may_leave store
-        → IfOk result (λ store. (store.tables ≡ users_alone users) × IsRepresented shown may_leave store) }
+    ensures { AreGood users → store.tables ≡ no_tables → IsRepresented shown may_leave store → IsNew store
+        → IfOk result (λ store. (store.tables ≡ users_alone users) × IsRepresented shown may_leave store × IsFirst users store) }
 {
     snapshot_makes();
     if users.len() == 0 {
@@ -99,7 +101,7 @@ pub(crate) fn append_files(
     disk: MemoryDisk,
     text: &mut Vec<u8>,
 ) -> Result<(), NoMemory>
-    ensures { (state : State) → Keeps disk state → OnOk result ((sorted : List FileMeant) × (IsInOrder state.files sorted × (text.new.items ≡ text.old.items ++ files_lines state.files sorted))) }
+    ensures { (image : List ℕ) (state : State) → Keeps disk image state → OnOk result ((sorted : List FileMeant) × (IsInOrder state.files sorted × (text.new.items ≡ text.old.items ++ files_lines state.files sorted))) }
 {
     let store = opened(alloc, disk)?;
     append_files_of(alloc, store.tables().files.as_slice(), text)

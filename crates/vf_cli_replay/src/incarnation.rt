@@ -1,10 +1,9 @@
 //! An incarnation of the responder: it is opened over a disk, and things happen on its links until it stops or they are through.
-ghost use Rattle.std.specs.Prelude.{◌≡◌, IfOk, false};
-ghost use Rattle.vf_cli_replay.specs.Living.{Lives, LivesOpened};
+ghost use Rattle.std.specs.Prelude.{◌≡◌, IfOk, List, ℕ};
+ghost use Rattle.vf_cli_replay.specs.Calls.{form_by};
 ghost use Rattle.vf_cli_replay.specs.Disks.{Keeps, may_leave, shown};
-ghost use Rattle.vf_cli_replay.specs.Standing.{HasLived, LivesOn, with_stop};
+ghost use Rattle.vf_cli_replay.specs.Standing.{HasLived, IsOpened, LivesOn, with_stop};
 ghost use Rattle.vf_filestore.specs.State.{State};
-ghost use Rattle.vf_incarnations.specs.Laws.{MayBegin};
 ghost use Rattle.vf_responder.specs.Represents.{Represents};
 ghost use Rattle.vf_responder.specs.Serving.{unheard};
 ghost use Rattle.vf_store.specs.StoreState.{IsRepresented};
@@ -16,6 +15,7 @@ use std::alloc::Global;
 use vf_base::NoMemory;
 use vf_cli_script::{Life, Stop};
 use vf_disk::{CrashForm, MemoryDisk};
+use vf_journal::held_is_read;
 use vf_responder::Responder;
 
 /// Lives an incarnation over a disk, and appends the lines of what is heard; gives what its end leaves of the disk.
@@ -25,7 +25,7 @@ pub(crate) fn live(
     disk: MemoryDisk,
     text: &mut Vec<u8>,
 ) -> Result<MemoryDisk, NoMemory>
-    ensures { (state : State) → Keeps disk state → IfOk result (λ left. HasLived life.now state text.old.items left text.new.items) }
+    ensures { (image : List ℕ) (state : State) → Keeps disk image state → IfOk result (λ left. HasLived life.now image state text.old.items left text.new.items) }
 {
     let disk = live_on(alloc, life, disk, text)?;
     if disk.lacked() {
@@ -35,7 +35,9 @@ pub(crate) fn live(
 }
 
 /// What a crash leaves of the disk at the end. Where no call of it was stopped all of it is synced.
-fn form_of(stop: Option<Stop>) -> CrashForm {
+fn form_of(stop: Option<Stop>) -> CrashForm
+    ensures { result ≡ form_by stop }
+{
     match stop {
         Some(stop) => stop.form,
         None => CrashForm::Keep,
@@ -60,8 +62,10 @@ fn live_on(
     disk: MemoryDisk,
     text: &mut Vec<u8>,
 ) -> Result<MemoryDisk, NoMemory>
-    ensures { (state : State) → Keeps disk state → IfOk result (λ left. LivesOn (Lives life.now state) state text.old.items left text.new.items) }
+    ensures { (image : List ℕ) (state : State) → Keeps disk image state → IfOk result (λ left. LivesOn life.now image state text.old.items left text.new.items) }
 {
+    // What the opened store holds is read as its journal.
+    held_is_read();
     let disk = stopping(disk, life.stop);
     match Responder::open(alloc, disk, life.limit) {
         Ok(responder) => live_in(alloc, life, responder, text),
@@ -80,8 +84,8 @@ fn live_in(
     responder: Responder<MemoryDisk>,
     text: &mut Vec<u8>,
 ) -> Result<MemoryDisk, NoMemory>
-    ensures { (state : State) → Represents responder (unheard state) → IsRepresented shown may_leave responder.store → responder.store.journal.limit ≡ life.now.limit
-        → IfOk result (λ left. LivesOn (LivesOpened life.now.stop life.now state) state text.old.items left text.new.items) }
+    ensures { (image : List ℕ) (state : State) → Represents responder (unheard state) → IsRepresented shown may_leave responder.store → IsOpened life.now image responder.store
+        → IfOk result (λ left. LivesOn life.now image state text.old.items left text.new.items) }
 {
     let callers = IndexMap::new(alloc);
     let mut links = Links { responder, callers };

@@ -43,7 +43,7 @@ impl Links {
         text: &mut Vec<u8>,
     ) -> Result<Option<Halt>, NoMemory>
         ensures happens { (running : Running) → Stands self.old running
-            → IfOk result (HasHappened running (events_by line.now.link line.now.act) text.old.items self.old.responder.store.journal.limit self.new text.new.items) }
+            → IfOk result (HasHappened running (events_by line.now.link line.now.act) text.old.items self.old.responder.store self.new text.new.items) }
         ensures limit { self.new.responder.store.journal.limit ≡ self.old.responder.store.journal.limit }
     {
         let link = line.link;
@@ -70,7 +70,7 @@ impl Links {
         text: &mut Vec<u8>,
     ) -> Result<Option<Halt>, NoMemory>
         ensures happens { (running : Running) → Stands self.old running
-            → IfOk result (HasHappened running (arrival_of link kind) text.old.items self.old.responder.store.journal.limit self.new text.new.items) }
+            → IfOk result (HasHappened running (arrival_of link kind) text.old.items self.old.responder.store self.new text.new.items) }
         ensures limit { self.new.responder.store.journal.limit ≡ self.old.responder.store.journal.limit }
     {
         match kind {
@@ -89,7 +89,7 @@ impl Links {
         text: &mut Vec<u8>,
     ) -> Result<Option<Halt>, NoMemory>
         ensures happens { (running : Running) → Stands self.old running
-            → IfOk result (HasHappened running (Comes (script.Arrived link) ∷ Begins link sync ∷ []) text.old.items self.old.responder.store.journal.limit self.new text.new.items) }
+            → IfOk result (HasHappened running (Comes (script.Arrived link) ∷ Begins link sync ∷ []) text.old.items self.old.responder.store self.new text.new.items) }
         ensures limit { self.new.responder.store.journal.limit ≡ self.old.responder.store.journal.limit }
     {
         let halted = self.arrived(alloc, link, text)?;
@@ -108,7 +108,7 @@ impl Links {
         text: &mut Vec<u8>,
     ) -> Result<Option<Halt>, NoMemory>
         ensures happens { (running : Running) → Stands self.old running
-            → IfOk result (HasHappened running (Begins link sync ∷ []) text.old.items self.old.responder.store.journal.limit self.new text.new.items) }
+            → IfOk result (HasHappened running (Begins link sync ∷ []) text.old.items self.old.responder.store self.new text.new.items) }
         ensures limit { self.new.responder.store.journal.limit ≡ self.old.responder.store.journal.limit }
     {
         let mut octets = Vec::new(alloc);
@@ -127,7 +127,7 @@ impl Links {
         text: &mut Vec<u8>,
     ) -> Result<Option<Halt>, NoMemory>
         ensures happens { (running : Running) → Stands self.old running → moment ≡ moment_of act.now
-            → IfOk result (HasHappened running (Speaks link act.now ∷ []) text.old.items self.old.responder.store.journal.limit self.new text.new.items) }
+            → IfOk result (HasHappened running (Speaks link act.now ∷ []) text.old.items self.old.responder.store self.new text.new.items) }
         ensures limit { self.new.responder.store.journal.limit ≡ self.old.responder.store.journal.limit }
     {
         let spoken = self.speak(alloc, link, act)?;
@@ -160,7 +160,7 @@ impl Links {
         text: &mut Vec<u8>,
     ) -> Result<Option<Halt>, NoMemory>
         ensures comes { (running : Running) → Stands self.old running
-            → IfOk result (HasCome running (script.Arrived link) text.old.items self.old.responder.store.journal.limit self.new text.new.items) }
+            → IfOk result (HasCome running (script.Arrived link) text.old.items self.old.responder.store self.new text.new.items) }
         ensures limit { self.new.responder.store.journal.limit ≡ self.old.responder.store.journal.limit }
     {
         let mut replies = Vec::new(alloc);
@@ -191,7 +191,7 @@ impl Links {
         text: &mut Vec<u8>,
     ) -> Result<Option<Halt>, NoMemory>
         ensures comes { (running : Running) → Stands self.old running
-            → IfOk result (HasCome running (script.Octets link moment octets.now) text.old.items self.old.responder.store.journal.limit self.new text.new.items) }
+            → IfOk result (HasCome running (script.Octets link moment octets.now) text.old.items self.old.responder.store self.new text.new.items) }
         ensures limit { self.new.responder.store.journal.limit ≡ self.old.responder.store.journal.limit }
     {
         let mut replies = Vec::new(alloc);
@@ -220,7 +220,7 @@ impl Links {
         text: &mut Vec<u8>,
     ) -> Result<Option<Halt>, NoMemory>
         ensures comes { (running : Running) → Stands self.old running
-            → IfOk result (HasCome running (script.Ended link) text.old.items self.old.responder.store.journal.limit self.new text.new.items) }
+            → IfOk result (HasCome running (script.Ended link) text.old.items self.old.responder.store self.new text.new.items) }
         ensures limit { self.new.responder.store.journal.limit ≡ self.old.responder.store.journal.limit }
     {
         let mut replies = Vec::new(alloc);

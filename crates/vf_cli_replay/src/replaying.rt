@@ -79,7 +79,7 @@ fn live_all(
     disk: MemoryDisk,
     text: &mut Vec<u8>,
 ) -> Result<MemoryDisk, NoMemory>
-    ensures { (state : State) → Keeps disk state → IfOk result (λ left. HaveLived state lives.now text.old.items left text.new.items) }
+    ensures { (image : List ℕ) (state : State) → Keeps disk image state → IfOk result (λ left. HaveLived image state lives.now text.old.items left text.new.items) }
 {
     let mut disk = disk;
     for life in lives {

@@ -5,7 +5,7 @@ use Rattle.vf_disk.specs.Memory.{Memory}
 use Rattle.vf_cli_replay.proofs.CallerEnds.{no_ends}
 use Rattle.vf_cli_replay.proofs.Going.{line_ended, line_gone, none_gone}
 use Rattle.vf_cli_replay.proofs.Lived.{lives_through, lives_to_halt}
-use Rattle.vf_cli_replay.specs.Living.{LivesOpened, opened}
+use Rattle.vf_cli_replay.specs.Living.{opened}
 use Rattle.vf_cli_replay.specs.Running.{events_by, events_of}
 use Rattle.vf_cli_replay.specs.Standing.{HasEnded, HasGone, HasHappened, LivesOn}
 use Rattle.vf_cli_replay.specs.declared.halt.Halt.{Halt}
@@ -22,58 +22,51 @@ among lines place line within is =
     ∙ take-append-drop (place + 1) lines
 
 pub loop-line-init : goal.loop-line-init
-loop-line-init c = (
-  refl,
-  λ state represents stands.
-      none_gone (opened state) c.args.text.now.items (record { responder = c.args.responder; callers = c.new-callers.result })
-      (record { responder = represents; stored = stands; callers = no_ends c.new-callers.result.entries c.new-callers.ensures.empty }),
-)
+loop-line-init c = λ state represents stands.
+    none_gone (opened state) c.args.text.now.items (record { responder = c.args.responder; callers = c.new-callers.result })
+    (record { responder = represents; stored = stands; callers = no_ends c.new-callers.result.entries c.new-callers.ensures.empty })
 
 pub loop-line-preserved : goal.loop-line-preserved
-loop-line-preserved c =
-    let invariant = c.loop-line.invariant in
+loop-line-preserved c = λ state represents stands.
     let lines : List LinkLine = c.as_slice-line-items.result.now in
     let place : ℕ = c.loop-line.line-index in
     let line = c.line-item.result in
     let text = c.args.text.now.items in
-    let limit = c.loop-line.links.responder.store.journal.limit in (
-      c.happens.ensures.limit ∙ invariant.0,
-      λ state represents stands.
-          let gone = invariant.1 state represents stands in
-          let happened = subst (λ (h : Option Halt). HasHappened gone.course.after (events_by line.link line.act) c.loop-line.text.items limit c.happens.new.self c.happens.new.text.items h)
-          c.in_default.is (c.in_ok-halted.ensures.happens gone.course.after gone.stands) in
-          subst (λ (l : List LinkLine). HasGone (opened state) (events_of l) text c.happens.new.self c.happens.new.text.items) (sym (next_is lines place line c.loop-line-test.true c.line-item.is))
-          (line_gone (opened state) (take place lines) line text limit c.loop-line.links c.happens.new.self c.loop-line.text.items c.happens.new.text.items gone happened),
-    )
+    let store = c.args.responder.store in
+    let between = c.loop-line.links in
+    let gone = c.loop-line.invariant state represents stands in
+    let happened = subst (λ (h : Option Halt). HasHappened gone.course.after (events_by line.link line.act) c.loop-line.text.items between.responder.store c.happens.new.self c.happens.new.text.items h)
+    c.in_default.is (c.in_ok-halted.ensures.happens gone.course.after gone.stands) in
+    subst (λ (l : List LinkLine). HasGone (opened state) (events_of l) text store c.happens.new.self c.happens.new.text.items) (sym (next_is lines place line c.loop-line-test.true c.line-item.is))
+    (line_gone (opened state) (take place lines) line text store between c.happens.new.self c.loop-line.text.items c.happens.new.text.items gone happened)
 
 pub returns-in-Some : goal.returns-in-Some
-returns-in-Some c = λ state represents stands bound.
-    let invariant = c.loop-line.invariant in
+returns-in-Some c = λ image state represents stands begun.
     let life = c.args.life.now in
     let lines : List LinkLine = c.as_slice-line-items.result.now in
     let place : ℕ = c.loop-line.line-index in
     let line = c.line-item.result in
     let text = c.args.text.now.items in
-    let limit = c.loop-line.links.responder.store.journal.limit in
+    let store = c.args.responder.store in
+    let between = c.loop-line.links in
     let links = c.happens.new.self in
-    let gone = invariant.1 state represents stands in
-    let happened = subst (λ (h : Option Halt). HasHappened gone.course.after (events_by line.link line.act) c.loop-line.text.items limit links c.happens.new.text.items h)
+    let gone = c.loop-line.invariant state represents stands in
+    let happened = subst (λ (h : Option Halt). HasHappened gone.course.after (events_by line.link line.act) c.loop-line.text.items between.responder.store links c.happens.new.text.items h)
     c.in-Some.is (c.in_ok-halted.ensures.happens gone.course.after gone.stands) in
     let all : take place lines ++ line ∷ drop (place + 1) lines ≡ life.lines = among lines place line c.loop-line-test.true c.line-item.is ∙ c.as_slice-line-items.ensures in
-    let ended : HasEnded (opened state) (events_of life.lines) text limit c.in-Some.halt links.responder.store.disk c.happens.new.text.items =
-    subst (λ (l : List LinkLine). HasEnded (opened state) (events_of l) text limit c.in-Some.halt links.responder.store.disk c.happens.new.text.items) all
-    (line_ended (opened state) (take place lines) line (drop (place + 1) lines) text limit c.loop-line.links links c.loop-line.text.items c.happens.new.text.items c.in-Some.halt gone happened) in
-    subst (λ (disk : Memory). LivesOn (LivesOpened life.stop life state) state text disk c.append_halt.new.text.items) (sym c.close.ensures)
-    (lives_to_halt life state text c.happens.new.text.items c.append_halt.new.text.items limit c.in-Some.halt links.responder.store.disk ended (invariant.0 ∙ bound) c.in_ok-append_halt.ensures.asked
-    c.in_ok-append_halt.ensures.line)
+    let ended : HasEnded (opened state) (events_of life.lines) text store c.in-Some.halt links.responder.store c.happens.new.text.items =
+    subst (λ (l : List LinkLine). HasEnded (opened state) (events_of l) text store c.in-Some.halt links.responder.store c.happens.new.text.items) all
+    (line_ended (opened state) (take place lines) line (drop (place + 1) lines) text store between links c.loop-line.text.items c.happens.new.text.items c.in-Some.halt gone happened) in
+    subst (λ (disk : Memory). LivesOn life image state text disk c.append_halt.new.text.items) (sym c.close.ensures)
+    (lives_to_halt life image state text c.happens.new.text.items c.append_halt.new.text.items store c.in-Some.halt links.responder.store begun ended c.in_ok-append_halt.ensures.asked c.in_ok-append_halt.ensures.line)
 
 pub returns : goal.returns
-returns c = λ state represents stands bound.
+returns c = λ image state represents stands begun.
     let life = c.args.life.now in
     let lines : List LinkLine = c.as_slice-line-items.result.now in
     let text = c.args.text.now.items in
+    let store = c.args.responder.store in
     let all : take c.loop-line.line-index lines ≡ life.lines = take_all c.loop-line.line-index lines c.loop-line-test.false ∙ c.as_slice-line-items.ensures in
-    let gone : HasGone (opened state) (events_of life.lines) text c.loop-line.links c.loop-line.text.items =
-    subst (λ (l : List LinkLine). HasGone (opened state) (events_of l) text c.loop-line.links c.loop-line.text.items) all (c.loop-line.invariant.1 state represents stands) in
-    subst (λ (disk : Memory). LivesOn (LivesOpened life.stop life state) state text disk c.loop-line.text.items) (sym c.close-2.ensures)
-    (lives_through life state text c.loop-line.text.items c.loop-line.links gone)
+    let gone : HasGone (opened state) (events_of life.lines) text store c.loop-line.links c.loop-line.text.items =
+    subst (λ (l : List LinkLine). HasGone (opened state) (events_of l) text store c.loop-line.links c.loop-line.text.items) all (c.loop-line.invariant state represents stands) in
+    subst (λ (disk : Memory). LivesOn life image state text disk c.loop-line.text.items) (sym c.close-2.ensures) (lives_through life image state text c.loop-line.text.items store c.loop-line.links begun gone)

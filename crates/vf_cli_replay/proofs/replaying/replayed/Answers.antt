@@ -2,18 +2,20 @@ use Rattle.std.proofs.Common.{◌≡◌, ◌∙◌, ℕ, List, [], ◌++◌, ap,
 use Rattle.vf_cli_script.specs.declared.script.Life.{Life}
 use Rattle.vf_incarnations.proofs.Lives.{incarnations_are_one_run}
 use Rattle.vf_incarnations.specs.Incarnations.{after_all}
+use Rattle.vf_cli_replay.specs.Calls.{first_image}
 use Rattle.vf_cli_replay.specs.Living.{LiveOn, episodes_of, lines_of}
 use Rattle.vf_cli_replay.specs.Replayed.{begun_by, files_lines}
-use Rattle.vf_cli_replay.specs.Standing.{HaveLived}
+use Rattle.vf_cli_replay.specs.Standing.{HaveLived, image_after}
 use Rattle.vf_cli_replay.proofs.replaying.replayed.Goals as goal
 
 pub returns : goal.returns
 returns c = λ good.
     let state = begun_by c.args.script in
+    let image = first_image c.args.script.users in
     let keeps = c.in_ok-first.ensures good in
-    let have : HaveLived state c.args.script.lives c.new-text.result.items c.in_ok-last.last c.live_all.new.text.items =
-    subst (λ (l : List Life). HaveLived state l c.new-text.result.items c.in_ok-last.last c.live_all.new.text.items) c.as_slice.ensures (c.in_ok-last.ensures state keeps) in
-    let files = c.in_ok-append_files.ensures (after_all (episodes_of have.all) state) have.keeps in
+    let have : HaveLived image state c.args.script.lives c.new-text.result.items c.in_ok-last.last c.live_all.new.text.items =
+    subst (λ (l : List Life). HaveLived image state l c.new-text.result.items c.in_ok-last.last c.live_all.new.text.items) c.as_slice.ensures (c.in_ok-last.ensures image state keeps) in
+    let files = c.in_ok-append_files.ensures (image_after image have.all) (after_all (episodes_of have.all) state) have.keeps in
     record {
       all = have.all;
       live = have.live;

@@ -9,10 +9,10 @@ use Rattle.vf_cli_replay.proofs.links.Links.arrive.Goals as goal
 
 pub returns-in-Raw-clause-happens : goal.returns-in-Raw-clause-happens
 returns-in-Raw-clause-happens c = λ running stands.
-    let limit = c.args.self.now.responder.store.journal.limit in
+    let store = c.args.self.now.responder.store in
     let text = c.args.text.now.items in
     let arrival = Comes (Arrived c.args.link) in
-    subst (λ (kind : LinkKind). IfOk c.arrived.result (HasHappened running (arrival_of c.args.link kind) text limit c.arrived.new.self c.arrived.new.text.items)) (sym c.in-Raw.is)
-    (if_ok c.arrived.result _ (HasHappened running (arrival ∷ []) text limit c.arrived.new.self c.arrived.new.text.items)
-    (λ halt come. event_comes running running arrival (Arrived c.args.link) text limit c.arrived.new.self c.arrived.new.text.items halt (refl, refl) come)
+    subst (λ (kind : LinkKind). IfOk c.arrived.result (HasHappened running (arrival_of c.args.link kind) text store c.arrived.new.self c.arrived.new.text.items)) (sym c.in-Raw.is)
+    (if_ok c.arrived.result _ (HasHappened running (arrival ∷ []) text store c.arrived.new.self c.arrived.new.text.items)
+    (λ halt come. event_comes running running arrival (Arrived c.args.link) text store c.arrived.new.self c.arrived.new.text.items halt (refl, refl) come)
     (c.arrived.ensures.comes running stands))

@@ -15,15 +15,15 @@ returns-clause-happens c = λ running stands.
     let sync = c.args.sync in
     let old = c.args.self.now in
     let now : Running = record { serving = running.serving; ends = with_end link (begun sync) running.ends } in
-    let limit = old.responder.store.journal.limit in
+    let store = old.responder.store in
     let text = c.args.text.now.items in
     let are = c.in_ok-put.ensures running.ends (begun sync) (all_but link old.callers.entries running.ends stands.callers) c.in_ok-caller.ensures.caller in
     let standing : Stands (record { responder = old.responder; callers = c.put.new.callers }) now = record { responder = stands.responder; stored = stands.stored; callers = are } in
     let octets : c.as_slice.result.now ≡ packet request =
     c.as_slice.ensures.value ∙ c.in_ok-caller.ensures.ok ∙ ap (λ (l : List ℕ). l ++ packet request) c.new-octets.ensures.items in
     let event : Octets link c.first_moment.result c.as_slice.result.now ≡ Octets link 0 (packet request) = λ i. Octets link (c.first_moment.ensures i) (octets i) in
-    if_ok c.come.result _ (HasHappened running (Begins link sync ∷ []) text limit c.come.new.self c.come.new.text.items)
+    if_ok c.come.result _ (HasHappened running (Begins link sync ∷ []) text store c.come.new.self c.come.new.text.items)
     (λ halt come.
-    event_comes running now (Begins link sync) (Octets link 0 (packet request)) text limit c.come.new.self c.come.new.text.items halt (refl, refl)
-    (subst (λ (e : ScriptEvent). HasCome now e text limit c.come.new.self c.come.new.text.items halt) event come))
+    event_comes running now (Begins link sync) (Octets link 0 (packet request)) text store c.come.new.self c.come.new.text.items halt (refl, refl)
+    (subst (λ (e : ScriptEvent). HasCome now e text store c.come.new.self c.come.new.text.items halt) event come))
     (c.come.ensures.comes now standing)

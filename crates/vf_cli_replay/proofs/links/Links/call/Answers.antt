@@ -10,24 +10,23 @@ use Rattle.vf_cli_replay.proofs.links.Links.call.Goals as goal
 pub returns-in-None-clause-happens : goal.returns-in-None-clause-happens
 returns-in-None-clause-happens c = λ running stands.
     let link = c.args.link in
-    let limit = c.args.self.now.responder.store.journal.limit in
+    let store = c.args.self.now.responder.store in
     let text = c.args.text.now.items in
     let arrival : Event = Comes (Arrived link) in
-    let gone : HasGone running (arrival ∷ []) text c.arrived.new.self c.arrived.new.text.items =
-    event_comes running running arrival (Arrived link) text limit c.arrived.new.self c.arrived.new.text.items None (refl, refl)
-    (subst (λ (h : Option Halt). HasCome running (Arrived link) text limit c.arrived.new.self c.arrived.new.text.items h) c.in-None.is (c.in_ok-halted.ensures.comes running stands)) in
-    if_ok c.begin.result _ (HasHappened running (arrival ∷ Begins link c.args.sync ∷ []) text limit c.begin.new.self c.begin.new.text.items)
+    let gone : HasGone running (arrival ∷ []) text store c.arrived.new.self c.arrived.new.text.items =
+    event_comes running running arrival (Arrived link) text store c.arrived.new.self c.arrived.new.text.items None (refl, refl)
+    (subst (λ (h : Option Halt). HasCome running (Arrived link) text store c.arrived.new.self c.arrived.new.text.items h) c.in-None.is (c.in_ok-halted.ensures.comes running stands)) in
+    if_ok c.begin.result _ (HasHappened running (arrival ∷ Begins link c.args.sync ∷ []) text store c.begin.new.self c.begin.new.text.items)
     (λ halt happens.
-    happens_then running (arrival ∷ []) (Begins link c.args.sync ∷ []) text limit c.arrived.new.self c.begin.new.self c.arrived.new.text.items c.begin.new.text.items halt gone
-    (subst (λ (n : ℕ). HasHappened gone.course.after (Begins link c.args.sync ∷ []) c.arrived.new.text.items n c.begin.new.self c.begin.new.text.items halt) c.arrived.ensures.limit happens))
+    happens_then running (arrival ∷ []) (Begins link c.args.sync ∷ []) text store c.arrived.new.self c.begin.new.self c.arrived.new.text.items c.begin.new.text.items halt gone happens)
     (c.begin.ensures.happens gone.course.after gone.stands)
 
 pub returns-in-Some-clause-happens : goal.returns-in-Some-clause-happens
 returns-in-Some-clause-happens c = λ running stands.
     let link = c.args.link in
-    let limit = c.args.self.now.responder.store.journal.limit in
+    let store = c.args.self.now.responder.store in
     let text = c.args.text.now.items in
     let arrival : Event = Comes (Arrived link) in
-    ended_before running (arrival ∷ []) (Begins link c.args.sync ∷ []) text limit c.in-Some.halt c.arrived.new.self.responder.store.disk c.arrived.new.text.items
-    (event_comes running running arrival (Arrived link) text limit c.arrived.new.self c.arrived.new.text.items (Some c.in-Some.halt) (refl, refl)
-    (subst (λ (h : Option Halt). HasCome running (Arrived link) text limit c.arrived.new.self c.arrived.new.text.items h) c.in-Some.is (c.in_ok-halted.ensures.comes running stands)))
+    ended_before running (arrival ∷ []) (Begins link c.args.sync ∷ []) text store c.in-Some.halt c.arrived.new.self.responder.store c.arrived.new.text.items
+    (event_comes running running arrival (Arrived link) text store c.arrived.new.self c.arrived.new.text.items (Some c.in-Some.halt) (refl, refl)
+    (subst (λ (h : Option Halt). HasCome running (Arrived link) text store c.arrived.new.self c.arrived.new.text.items h) c.in-Some.is (c.in_ok-halted.ensures.comes running stands)))

@@ -18,15 +18,14 @@ returns-in-Ok-clause-comes c = λ running stands.
     let answers = subst (λ (old : List Reply). Answers (trail event running.serving) running.serving old links.responder told) c.new-replies.ensures.items
     (c.in-Ok.ensures.answers running.serving stands.responder) in
     let heard = c.in_ok-hear_all-in-Ok.ensures running.ends stands.callers in
-    comes_well running event text c.hear_all.new.text.items c.args.self.now.responder.store.journal.limit links told answers
+    comes_well running event text c.hear_all.new.text.items c.args.self.now.responder.store links told answers
     (c.in-Ok.ensures.represented running.serving stands.responder stands.stored)
     (subst (λ (replies : List Reply). HasHeard (heard_all (joined replies) running.ends) text links.callers.entries c.hear_all.new.text.items) c.as_slice.ensures.value heard)
+    (c.in-Ok.ensures.commits running.serving stands.responder)
 
 pub returns-clause-comes : goal.returns-clause-comes
 returns-clause-comes c = λ running stands.
     let event = Octets c.args.link c.args.moment c.args.octets.now in
-    let old = c.args.self.now.responder in
     let links : Links = record { responder = c.deliver.new.self; callers = c.args.self.now.callers } in
-    comes_to_halt running event c.args.text.now.items old.store.journal.limit old.store.disk.faults c.deliver.new.self.store.disk.faults c.in-Err.error c.in_ok-halt-in-Err.halt old.store.disk links
-    c.in_ok-halt-in-Err.ensures (c.in-Err.ensures.any_moment running.serving stands.responder stands.stored) (c.in-Err.ensures.full running.serving stands.responder) c.in-Err.ensures.causes
-    c.in-Err.ensures.limit
+    comes_to_halt running event c.args.text.now.items c.args.self.now.responder.store c.in-Err.error c.in_ok-halt-in-Err.halt links c.in_ok-halt-in-Err.ensures
+    (c.in-Err.ensures.any_moment running.serving stands.responder stands.stored) (c.in-Err.ensures.commits running.serving stands.responder)
