@@ -1,5 +1,5 @@
 -- The calling ends by their links: one is taken out, and put there again.
-use Rattle.std.proofs.Common.{◌≡◌, ◌∙◌, ℕ, Bool, true, false, cond, nat_eq, List, [], ◌++◌, Option, None, Some, Result, Ok, Err, OnOk, refl, sym, subst}
+use Rattle.std.proofs.Common.{◌≡◌, ℕ, Bool, true, false, cond, nat_eq, List, [], ◌++◌, Option, None, Some, Result, Ok, Err, OnOk, refl, sym, subst}
 use Rattle.std.specs.Cmp.{nat_eq_equiv}
 use Rattle.vf_cli_calling.specs.Calling.{Calling, hearing}
 use Rattle.vf_cli_calling.specs.Lines.{octets_line}

@@ -1,5 +1,5 @@
 -- The disk of a script before its first life.
-use Rattle.std.proofs.Common.{◌≡◌, ◌∙◌, ℕ, zero, suc, ◌<◌, ◌≤◌, true, false, List, [], ◌∷◌, Option, None, Some, Result, Ok, Err, IfOk, length, ap, refl, arith, sym, subst}
+use Rattle.std.proofs.Common.{◌≡◌, ◌∙◌, ℕ, zero, suc, ◌<◌, ◌≤◌, true, false, List, [], ◌∷◌, None, Some, Result, Ok, Err, IfOk, length, ap, refl, arith, sym, subst}
 use Rattle.vf_base.specs.declared.errors.NoMemory.{NoMemory as OutOfMemory}
 use Rattle.vf_disk.specs.Calls.{MakesChanges, after_changes}
 use Rattle.vf_disk.specs.Disk.{LeavesShown}

@@ -11,7 +11,7 @@ use Rattle.vf_store.specs.StoreState.{StoreState}
 use Rattle.vf_cli_replay.proofs.Committed.{commits_append, commits_one}
 use Rattle.vf_cli_replay.proofs.Serving.{brings_serves, course_runs}
 use Rattle.vf_cli_replay.specs.Calls.{commits_in}
-use Rattle.vf_cli_replay.specs.Running.{Brings, Comes, Course, Event, GoesAlong, IsWithin, Running, Speaks, answered, answered_if, events_by, events_of, no_course, then_on}
+use Rattle.vf_cli_replay.specs.Running.{Brings, Comes, Course, Event, GoesAlong, Running, Speaks, answered, answered_if, events_by, events_of, no_course, then_on}
 use Rattle.vf_cli_replay.specs.Standing.{HasCome, HasEnded, HasGone, HasHappened, Stands, tells}
 use Rattle.vf_cli_replay.specs.declared.halt.Halt.{Halt}
 use Rattle.vf_cli_replay.specs.declared.links.Links.{Links}

@@ -1,18 +1,17 @@
 -- What a life comes to, by how its events went.
-use Rattle.std.proofs.Common.{◌≡◌, ◌∙◌, inl, inr, ℕ, Bool, false, List, [], ◌∷◌, ◌++◌, Option, None, Some, ap, append_assoc, refl, sym, subst}
+use Rattle.std.proofs.Common.{◌≡◌, ◌∙◌, inl, inr, ℕ, Bool, List, [], ◌∷◌, ◌++◌, Option, None, Some, ap, append_assoc, refl, sym, subst}
 use Rattle.std.specs.Prelude.{IsSome}
 use Rattle.vf_base.specs.declared.events.ScriptEvent.{ScriptEvent}
 use Rattle.vf_cli_script.specs.declared.line.Stop.{Stop}
 use Rattle.vf_cli_script.specs.declared.script.Life.{Life}
 use Rattle.vf_disk.specs.Memory.{Memory, state as state_of}
-use Rattle.vf_disk.specs.Plans.{StopPlan, after_change}
+use Rattle.vf_disk.specs.Plans.{after_change}
 use Rattle.vf_disk.specs.State.{State as DiskState, left_by as left_in, settled}
-use Rattle.vf_disk.specs.Steps.{Ending, ending_of, step_fails}
-use Rattle.vf_disk.specs.declared.step.Step.TheVariants.{Synced}
+use Rattle.vf_disk.specs.Steps.{Ending, ending_of}
 use Rattle.vf_filestore.specs.State.{State}
 use Rattle.vf_filestore.specs.Tables.{tables_of}
 use Rattle.vf_incarnations.specs.Incarnations.{left_by}
-use Rattle.vf_journal.specs.JournalState.{JournalState, when_opened}
+use Rattle.vf_journal.specs.JournalState.{JournalState}
 use Rattle.vf_responder.specs.Answers.{at_end}
 use Rattle.vf_responder.specs.Commits.{Commit, commits_by}
 use Rattle.vf_responder.specs.Run.{run}
@@ -20,11 +19,11 @@ use Rattle.vf_responder.specs.Serving.{Serving, unheard}
 use Rattle.vf_store.specs.Represented.{Represents}
 use Rattle.vf_store.specs.StoreState.{StoreState}
 use Rattle.vf_tables.specs.declared.tables.Tables.{Tables}
-use Rattle.vf_cli_calling.specs.Lines.{full_line, stopped_line}
+use Rattle.vf_cli_calling.specs.Lines.{stopped_line}
 use Rattle.vf_cli_replay.proofs.Committed.{Comes, calls_same, commits_append, commits_one, halted_after, halted_comes, made_comes, outcome_at}
 use Rattle.vf_cli_replay.proofs.Rows.{SameStop, behind_sync, ends_same}
 use Rattle.vf_cli_replay.proofs.Serving.{last_serves, nothing_leaves, store_leaves, through_leaves, within_leaves}
-use Rattle.vf_cli_replay.specs.Calls.{Calls, Outcome, Through, Stopped, Filled, calls_by, calls_of, commits_in, ending, form_by, left_after, outcome, outcome_by, plan_by}
+use Rattle.vf_cli_replay.specs.Calls.{Calls, Outcome, Through, Stopped, calls_by, calls_of, commits_in, ending, form_by, left_after, outcome, outcome_by, plan_by}
 use Rattle.vf_cli_replay.specs.Halting.{halt_line}
 use Rattle.vf_cli_replay.specs.Living.{EndsBy, EndsWithin, GoesOn, Lived, Stops, ended_within, opened, stopped_at_once, through, with_last}
 use Rattle.vf_cli_replay.specs.Running.{IsWithin, events_of}

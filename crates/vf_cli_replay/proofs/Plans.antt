@@ -1,5 +1,5 @@
 -- A stop at the first call of the disk is one in the opening of its store, and no other is.
-use Rattle.std.proofs.Common.{◌≡◌, ◌∙◌, ⊎_elim, ℕ, zero, suc, ◌+◌, ◌-◌, ◌<◌, ◌≤◌, max, Bool, true, false, nat_eq, nat_le, nat_lt, List, [], Option, None, Some, ap, refl, sym, subst, arith}
+use Rattle.std.proofs.Common.{◌≡◌, ◌∙◌, ⊎_elim, ℕ, zero, suc, ◌-◌, ◌<◌, max, Bool, true, false, nat_eq, nat_le, List, [], Option, None, Some, ap, refl, sym, subst, arith}
 use Rattle.std.specs.Prelude.{◌||◌, IsSome}
 use Rattle.std.proofs.lemmas.Bool.{eqb-true}
 use Rattle.vf_disk.specs.Calls.{SyncsAndLooks, after_looks}

@@ -1,5 +1,5 @@
 -- What is printed of an input.
-use Rattle.std.proofs.Common.{◌≡◌, ◌∙◌, ⊎_elim, inl, inr, ℕ, List, [], ◌∷◌, ◌++◌, Option, None, Some, Result, Ok, Err, ap, append-nil, refl, subst, sym}
+use Rattle.std.proofs.Common.{◌≡◌, ⊎_elim, inl, inr, ℕ, List, [], ◌∷◌, Option, None, Some, Result, Ok, Err, ap, append-nil, subst, sym}
 use Rattle.vf_cli_printing.specs.Printed.{IsOneOf, Prints, Wrote, bad_line}
 use Rattle.vf_cli_script.specs.Scripts.{told_by}
 use Rattle.vf_cli_script.specs.declared.script.Script.{Script}

@@ -6,7 +6,7 @@ use Rattle.vf_disk.specs.Memory.{Memory}
 use Rattle.vf_filestore.proofs.Kept.{stops_keep}
 use Rattle.vf_filestore.specs.State.{State}
 use Rattle.vf_filestore.specs.Tables.{tables_of}
-use Rattle.vf_incarnations.specs.Incarnations.{Incarnation, answers, left_by}
+use Rattle.vf_incarnations.specs.Incarnations.{left_by}
 use Rattle.vf_responder.proofs.ChainLemmas.{at_end-join}
 use Rattle.vf_responder.proofs.Lives.{end-append}
 use Rattle.vf_responder.proofs.Rounds.{run_one}
@@ -15,11 +15,10 @@ use Rattle.vf_responder.specs.Run.{after, run, tables_in, trail}
 use Rattle.vf_responder.specs.Serving.{Serving, unheard}
 use Rattle.vf_store.specs.Represented.{Represents}
 use Rattle.vf_store.specs.StoreState.{IsRepresented, StoreState}
-use Rattle.vf_tables.specs.declared.tables.Tables.{Tables}
 use Rattle.vf_cli_calling.specs.Calling.{Calling}
 use Rattle.vf_cli_script.specs.declared.line.Act.{Act}
 use Rattle.vf_cli_replay.specs.Living.{opened}
-use Rattle.vf_cli_replay.specs.Running.{Begins, Brings, Comes, Course, Event, Goes, GoesAlong, IsWithin, Running, Speaks, Spoken, answered_if, end_on, no_course, then_on}
+use Rattle.vf_cli_replay.specs.Running.{Begins, Brings, Comes, Course, Event, GoesAlong, IsWithin, Running, Speaks, Spoken, answered_if, end_on, no_course, then_on}
 use Rattle.vf_cli_replay.specs.Disks.{may_leave, shown}
 
 -- ---- WHAT COMES changes the calling ends alone.

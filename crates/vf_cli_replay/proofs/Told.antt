@@ -1,5 +1,5 @@
 -- The users of a script are such as a filestore may begin with.
-use Rattle.std.proofs.Common.{◌≡◌, ◌∙◌, ℕ, ◌+◌, ◌<◌, ◌≤◌, Bool, true, false, ◌&&◌, not, List, [], ◌∷◌, ◌++◌, length, length-append, map, Option, Some, None, Result, Ok, Err, ap, subst, refl, arith}
+use Rattle.std.proofs.Common.{◌≡◌, ◌∙◌, ℕ, ◌+◌, ◌<◌, ◌≤◌, Bool, true, false, ◌&&◌, not, List, [], ◌∷◌, ◌++◌, length, length-append, map, Option, Some, None, Result, Ok, ap, subst, refl, arith}
 use Rattle.std.proofs.lemmas.Bool.Decides.{nat_tests}
 use Rattle.std.proofs.lemmas.List.{append-nil}
 use Rattle.std.specs.Prelude.{codes, if◌then◌else◌, is_none, find, nat_eq, nat_le, nat_lt, option_and_then, take}
@@ -9,19 +9,18 @@ use Rattle.std.specs.Cmp.Lexicographic.{nat_list_eq_equiv}
 use Rattle.std.specs.List.{AllByRecursion, list_all, slice_split}
 use Rattle.vf_base.specs.Name.{is_name}
 use Rattle.vf_cli_script.specs.Scripts.{Progress, begun, go_on, is_apt, is_feed, is_welcome, last_of, said_by, script_from, script_of, statements_in, statements_within, told_by, with_last, with_life, with_statement}
-use Rattle.vf_cli_script.specs.Statements.{act_of_four, act_of_three, filled_form, form_of, life_of, octets_act, of_four, of_one, of_three, of_two, of_words, on_link, said_act, statement_of, stopping, user_of, with_act, with_password}
+use Rattle.vf_cli_script.specs.Statements.{act_of_four, act_of_three, filled_form, form_of, life_of, octets_act, of_four, of_one, of_three, of_two, of_words, on_link, said_act, stopping, user_of, with_act, with_password}
 use Rattle.vf_cli_script.specs.Statements.{is as is_word}
 use Rattle.vf_cli_script.specs.Words.{count_in, number_in, octets_in, words_of}
 use Rattle.vf_cli_script.specs.declared.line.Act.{Act}
 use Rattle.vf_cli_script.specs.declared.line.Act.TheVariants as acts
-use Rattle.vf_cli_script.specs.declared.line.LinkLine.{LinkLine}
 use Rattle.vf_cli_script.specs.declared.line.Statement.{Statement}
 use Rattle.vf_cli_script.specs.declared.line.Statement.TheVariants as says
 use Rattle.vf_cli_script.specs.declared.script.Script.{Script}
 use Rattle.vf_disk.specs.declared.crash_form.CrashForm.{CrashForm}
 use Rattle.vf_filestore.specs.Keeping.{AreOthersValid}
 use Rattle.vf_filestore.specs.Ranges.{AreOthersRanged}
-use Rattle.vf_cli_replay.proofs.Bools.{all_push, both_true, first_of, not_true, second_of}
+use Rattle.vf_cli_replay.proofs.Bools.{all_push, both_true, first_of, second_of}
 use Rattle.vf_store_commands.specs.Making.{users_alone}
 use Rattle.vf_tables.specs.Entries.{is_user}
 use Rattle.vf_tables.specs.Fitting.{is_in_range, is_short}

@@ -1,4 +1,4 @@
-use Rattle.std.proofs.Common.{◌≡◌, ◌∙◌, ℕ, List, [], Option, None, Some, ap, length}
+use Rattle.std.proofs.Common.{◌≡◌, ◌∙◌, [], None, ap, length}
 use Rattle.vf_disk.specs.Memory.{Memory, state as state_of}
 use Rattle.vf_disk.specs.Plans.{planned}
 use Rattle.vf_journal.specs.Layout.{new_journal}

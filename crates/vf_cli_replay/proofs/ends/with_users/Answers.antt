@@ -1,4 +1,4 @@
-use Rattle.std.proofs.Common.{◌≡◌, ℕ, ◌<◌, length, arith}
+use Rattle.std.proofs.Common.{◌≡◌, ◌<◌, length, arith}
 use Rattle.vf_cli_replay.proofs.Firsts.{none_made, users_made}
 use Rattle.vf_cli_replay.proofs.ends.with_users.Goals as goal
 

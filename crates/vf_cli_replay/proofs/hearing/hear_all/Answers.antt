@@ -1,6 +1,5 @@
 use Rattle.std.proofs.Common.{◌≡◌, ◌∙◌, ◌+◌, ◌-◌, ◌++◌, [], ◌∷◌, List, ℕ, drop, take, length, length-drop, ap, subst, sym, refl, arith}
 use Rattle.std.proofs.lemmas.List.{take_all}
-use Rattle.vf_responder.specs.declared.event.Reply.{Reply}
 use Rattle.vf_cli_replay.specs.Hearing.{HasHeard}
 use Rattle.vf_cli_replay.specs.Running.{behind, goes_on, heard_on}
 use Rattle.vf_cli_replay.proofs.Replies.{hears_by, hears_first, hears_it, hears_last, hears_on, none_at, reply_at}

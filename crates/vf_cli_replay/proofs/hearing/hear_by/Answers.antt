@@ -1,8 +1,8 @@
 use Rattle.std.proofs.Common.{◌∙◌, sym}
 use Rattle.vf_cli_calling.specs.Calling.{hearing}
-use Rattle.vf_cli_replay.specs.Hearing.{AreEnds, HasHeard}
-use Rattle.vf_cli_replay.specs.Running.{end_on, heard_by, with_end}
-use Rattle.vf_cli_replay.proofs.CallerEnds.{heard_none, heard_some, map_ok, no_end, one_end, others_stay}
+use Rattle.vf_cli_replay.specs.Hearing.{AreEnds}
+use Rattle.vf_cli_replay.specs.Running.{with_end}
+use Rattle.vf_cli_replay.proofs.CallerEnds.{heard_some, map_ok, one_end, others_stay}
 use Rattle.vf_cli_replay.proofs.hearing.hear_by.Goals as goal
 
 pub returns : goal.returns

@@ -1,4 +1,4 @@
-use Rattle.std.proofs.Common.{◌≡◌, ◌∙◌, nat_lt, false, List, [], IfOk, ap, subst, sym}
+use Rattle.std.proofs.Common.{◌≡◌, ◌∙◌, nat_lt, false, [], IfOk, subst, sym}
 use Rattle.vf_disk.specs.Memory.{fresh, state as state_of}
 use Rattle.vf_disk.specs.State.{left_by}
 use Rattle.vf_disk.specs.declared.crash_form.CrashForm.{CrashForm}

@@ -1,9 +1,9 @@
-use Rattle.std.proofs.Common.{◌≡◌, ◌∙◌, ℕ, List, [], ◌++◌, ap, subst}
+use Rattle.std.proofs.Common.{◌∙◌, ℕ, List, ◌++◌, ap, subst}
 use Rattle.vf_cli_script.specs.declared.script.Life.{Life}
 use Rattle.vf_incarnations.proofs.Lives.{incarnations_are_one_run}
 use Rattle.vf_incarnations.specs.Incarnations.{after_all}
 use Rattle.vf_cli_replay.specs.Calls.{first_image}
-use Rattle.vf_cli_replay.specs.Living.{LiveOn, episodes_of, lines_of}
+use Rattle.vf_cli_replay.specs.Living.{episodes_of, lines_of}
 use Rattle.vf_cli_replay.specs.Replayed.{begun_by, files_lines}
 use Rattle.vf_cli_replay.specs.Standing.{HaveLived, image_after}
 use Rattle.vf_cli_replay.proofs.replaying.replayed.Goals as goal

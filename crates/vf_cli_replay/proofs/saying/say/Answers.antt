@@ -1,9 +1,7 @@
-use Rattle.std.proofs.Common.{◌≡◌, ℕ, List, [], OnOk, append-nil, refl, subst, sym}
-use Rattle.vf_cli_calling.specs.Calling.{Calling, SaysAll}
-use Rattle.vf_cli_calling.specs.Represents.{Represents, Speaks}
-use Rattle.vf_cli_calling.specs.declared.caller.Caller.{Caller}
+use Rattle.std.proofs.Common.{[], OnOk, append-nil, refl, subst, sym}
+use Rattle.vf_cli_calling.specs.Calling.{SaysAll}
+use Rattle.vf_cli_calling.specs.Represents.{Speaks}
 use Rattle.vf_cli_script.specs.declared.line.Act.{Act}
-use Rattle.vf_cli_script.specs.declared.line.Act.TheVariants as acts
 use Rattle.vf_cli_replay.specs.Saying.{SaysLine}
 use Rattle.vf_cli_replay.proofs.saying.say.Goals as goal
 

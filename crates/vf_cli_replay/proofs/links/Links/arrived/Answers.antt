@@ -1,4 +1,4 @@
-use Rattle.std.proofs.Common.{◌≡◌, ◌∙◌, ℕ, List, [], ap, subst, sym}
+use Rattle.std.proofs.Common.{List, subst}
 use Rattle.vf_base.specs.declared.events.ScriptEvent.TheVariants.{Arrived}
 use Rattle.vf_responder.specs.Represents.{Answers}
 use Rattle.vf_responder.specs.Run.{trail}

@@ -1,4 +1,4 @@
-use Rattle.std.proofs.Common.{◌≡◌, ℕ, List, [], ◌∷◌, Option, None, Some, refl, subst}
+use Rattle.std.proofs.Common.{[], ◌∷◌, Option, None, Some, refl, subst}
 use Rattle.vf_base.specs.declared.events.ScriptEvent.TheVariants.{Arrived}
 use Rattle.vf_cli_replay.specs.Running.{Begins, Comes, Event}
 use Rattle.vf_cli_replay.specs.Standing.{HasCome, HasGone, HasHappened}

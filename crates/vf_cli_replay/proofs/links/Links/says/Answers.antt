@@ -1,4 +1,4 @@
-use Rattle.std.proofs.Common.{◌≡◌, ◌∙◌, ℕ, List, [], ◌∷◌, Option, None, Some, ap, refl, subst, sym}
+use Rattle.std.proofs.Common.{◌≡◌, [], ◌∷◌, ap, subst}
 use Rattle.std.specs.Option.{option_map}
 use Rattle.vf_base.specs.declared.events.ScriptEvent.{ScriptEvent}
 use Rattle.vf_base.specs.declared.events.ScriptEvent.TheVariants.{Octets}

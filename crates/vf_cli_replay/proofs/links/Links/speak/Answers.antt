@@ -1,9 +1,8 @@
-use Rattle.std.proofs.Common.{◌≡◌, ◌∙◌, ℕ, List, [], ◌++◌, Option, None, Some, ap, refl, subst, sym}
+use Rattle.std.proofs.Common.{◌≡◌, ◌∙◌, ℕ, List, ◌++◌, Option, None, Some, ap, refl, subst, sym}
 use Rattle.std.specs.Prelude.{IfNone}
 use Rattle.vf_cli_calling.specs.Calling.{Calling}
 use Rattle.vf_cli_calling.specs.declared.caller.Caller.{Caller}
 use Rattle.vf_cli_replay.specs.Hearing.{AreEnds}
-use Rattle.vf_cli_replay.specs.Running.{end_on, with_end}
 use Rattle.vf_cli_replay.specs.Saying.{SaysLine}
 use Rattle.vf_cli_replay.specs.Standing.{SpeaksOn}
 use Rattle.vf_cli_replay.specs.declared.links.Links.{Links}
