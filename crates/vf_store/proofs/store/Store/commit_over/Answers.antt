@@ -1,7 +1,7 @@
 use Rattle.std.proofs.Common.{sym, subst}
 use Rattle.vf_tables.specs.declared.tables.Tables.{Tables}
 use Rattle.vf_store.specs.StoreState.{TablesStand}
-use Rattle.vf_store.proofs.store.Store.commit.Goals as goal
+use Rattle.vf_store.proofs.store.Store.commit_over.Goals as goal
 
 pub returns-clause-represented : goal.returns-clause-represented
 returns-clause-represented g c = rw (← c.self.view_is) (λ fitting stands.
