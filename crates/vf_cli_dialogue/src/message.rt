@@ -1,5 +1,5 @@
 //! Where octets have a fault, and replies as lines.
-ghost use Rattle.std.specs.Prelude.{◌≡◌, ◌++◌, [], ◌∷◌, Err, IfOk, IfSome, List, OnOk, Result, ℕ};
+ghost use Rattle.std.specs.Prelude.{◌≡◌, ◌++◌, Err, IfOk, List, OnOk, Result, ℕ};
 ghost use Rattle.vf_ber.specs.Limits.{IsTooLarge};
 ghost use Rattle.vf_ber.specs.Reader.{reading};
 ghost use Rattle.vf_ber.specs.Results.{IsAnswer};
@@ -84,7 +84,6 @@ fn append_provider_abort(
 }
 
 /// Appends the line of a PDU.
-#[tactic(auto, using(crate::proofs::HeaderLemmas::alone_spells))]
 fn append_pdu(alloc: Global, pdu: &Pdu, replies: &mut Replies) -> Result<(), NoMemory>
     requires { IsInRange pdu.now }
     ensures { OnOk result (replies.new.lines.items ≡ replies.old.lines.items ++ hex_line (spell (value pdu.now))) }

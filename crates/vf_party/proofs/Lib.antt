@@ -1,6 +1,6 @@
 pub mod Abortions
 pub mod Answering
-pub mod Asked
+pub mod AskedLemmas
 pub mod Bars
 pub mod Differing
 pub mod GoingOn

@@ -1,6 +1,6 @@
 -- A selection or its end comes to a party in the regime in which it begins or ends: what its typed step answers is what the
 -- party owes to the message.
-use Rattle.std.proofs.Common.{◌≡◌, ℕ, Bool, true, nat_eq, Result, refl, ap, subst, sym}
+use Rattle.std.proofs.Common.{◌≡◌, ℕ, true, nat_eq, Result, refl, ap, subst, sym, ◌∙◌}
 use Rattle.std.specs.Prelude.{IfErr}
 use Rattle.vf_base.specs.declared.errors.NoMemory.{NoMemory}
 use Rattle.vf_elements.specs.declared.message.Message.{Message}
@@ -42,6 +42,14 @@ deselecting_party party message is = absurd cc
 pub deselecting_message : (party : Party) (message : Message) → deselects party message ≡ true → message ≡ messages.Pdu DeselectRequest
 deselecting_message (parties.Quiet (quiets.Selected selected)) (messages.Pdu DeselectRequest) is = refl
 deselecting_message party message is = absurd cc
+
+-- the number of the request that a message is
+abbrev number_in : Message → ℕ
+number_in (messages.Pdu request) = number_of request
+number_in message = 0
+
+pub asked_number : (message : Message) (request : Pdu) (number : ℕ) → ((asked : Pdu) × (number_of asked ≡ number) × (message ≡ messages.Pdu asked)) → message ≡ messages.Pdu request → number_of request ≡ number
+asked_number message request number (asked, numbered, is) same = ap number_in (sym same ∙ is) ∙ numbered
 
 module _ (tables : Tables) (old mid new : HoldersOfFiles) (setting : Setting) where
   pub select_turn : (party : Party) (message : Message) (associated : Associated) (request : Pdu) → party ≡ associated_party associated → message ≡ messages.Pdu request → nat_eq (number_of request) 6 ≡ true

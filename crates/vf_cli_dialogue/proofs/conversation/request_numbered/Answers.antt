@@ -1,9 +1,8 @@
 use Rattle.std.proofs.Common.{◌≡◌, ℕ, Ok, refl, sym, subst}
-use Rattle.vf_ber.specs.Tree.{Tree, built, none}
+use Rattle.vf_ber.specs.Tree.{built, none}
 use Rattle.vf_elements.specs.Messages.{message_in}
 use Rattle.vf_elements.specs.declared.message.Message.TheVariants as messages
 use Rattle.vf_pdu.specs.PduRows.{row_of}
-use Rattle.vf_pdu.specs.declared.pdu.Pdu.{Pdu}
 use Rattle.vf_pdu.specs.declared.pdu.Pdu.TheVariants.{DeselectRequest, DeleteRequest, CloseRequest, EndGroupRequest}
 use Rattle.vf_pdu_fields.specs.Reading.{end_at}
 use Rattle.vf_cli_dialogue.proofs.conversation.request_numbered.Goals as goal

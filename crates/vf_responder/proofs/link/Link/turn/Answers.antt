@@ -1,4 +1,4 @@
-use Rattle.std.proofs.Common.{◌≡◌, subst}
+use Rattle.std.proofs.Common.{subst}
 use Rattle.vf_filestore.specs.Aborts.{Setting}
 use Rattle.vf_party.specs.Hearing.{outcome_in}
 use Rattle.vf_party.specs.Turns.{IsTaken}

@@ -3,8 +3,8 @@ use Rattle.vf_filestore.specs.Transfers.{happened}
 use Rattle.vf_party.specs.Turns.{IsParty}
 use Rattle.vf_party.specs.declared.party.Party.{Party}
 use Rattle.vf_party_steps.proofs.Writes.{offered_is}
-use Rattle.vf_party.proofs.Asked.{write-check}
-use Rattle.vf_party.proofs.asked.Party.last_check.Goals as goal
+use Rattle.vf_party.proofs.AskedLemmas.{write-check}
+use Rattle.vf_party.proofs.party.Party.last_check.Goals as goal
 
 pub returns-in-Writing : goal.returns-in-Writing
 returns-in-Writing c = λ standing is.
