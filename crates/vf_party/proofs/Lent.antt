@@ -69,9 +69,10 @@ settled_after tables second party (Ok answered) taken is after_it =
     subst (λ (result : Result Outcome (Party × NoMemory)). IfOk result (λ outcome. IfSome second (λ one. one ≡ after_all tables outcome.changes))) (sym is) after_it
 settled_after tables second party (Err error) taken is after_it = tt
 
-pub none_after : (tables : Tables) (heard : Result Answered NoMemory) → IfOk heard (λ answered. IfSome {A = Tables} None (λ one. one ≡ after_all tables answered.changes))
-none_after tables (Ok answered) = tt
-none_after tables (Err error) = tt
+pub none_after : (tables : Tables) (second : Option Tables) (heard : Result Answered NoMemory) → second ≡ None → IfOk heard (λ answered. IfSome second (λ one. one ≡ after_all tables answered.changes))
+none_after tables None (Ok answered) none = tt
+none_after tables (Some one) (Ok answered) none = cc
+none_after tables second (Err error) none = tt
 
 pub ending_party : (party : Party) (message : Message) → ends_group party message ≡ true → (grouping : Grouping) × (party ≡ parties.Grouping grouping)
 ending_party (parties.Grouping grouping) message is = (grouping, refl)

@@ -1,4 +1,4 @@
-use Rattle.std.proofs.Common.{sym, subst, ◌∙◌}
+use Rattle.std.proofs.Common.{None, refl, sym, subst, ◌∙◌}
 use Rattle.vf_elements.specs.declared.message.Message.{Message}
 use Rattle.vf_party.specs.Hearing.{turn_in}
 use Rattle.vf_party.specs.Settings.{setting_of}
@@ -15,4 +15,4 @@ returns-then-ends_group-clause-turn c =
     (sym (ending_message c.args.self.now c.args.message (sym c.ends_group.ensures ∙ c.if-ends_group.true))) c.hear_end.ensures.turn
 
 pub returns-clause-ahead : goal.returns-clause-ahead
-returns-clause-ahead c = none_after c.args.tables.now c.hear.result
+returns-clause-ahead c = none_after c.args.tables.now None c.hear.result refl
