@@ -32,6 +32,7 @@ quiet_stands conversation state ready stands = by conversation.stream ready stan
     by streams.Gone ready stands = quiet_gone state [] stands
     by (streams.Waiting pending) ready stands = quiet_short state pending.items stands.1.short
     by (streams.Ready octets) ready stands = absurd cc
+    by (streams.Pair first second) ready stands = absurd cc
 
 module _ (state : State) (before : Conversation) (old new : Option (List ℕ)) where
   -- a prefix of the replies is a prefix of all that would be printed

@@ -1,5 +1,5 @@
 -- A stream of octets, as it takes pieces and messages.
-use Rattle.std.proofs.Common.{◌≡◌, ℕ, ◌<◌, Bool, true, false, List, [], ◌++◌, Option, None, Some, true≢false, append-nil, ap, sym, subst, ◌∙◌}
+use Rattle.std.proofs.Common.{◌≡◌, ℕ, ◌<◌, ◌+◌, Bool, true, false, List, [], ◌++◌, length, refl, Option, None, Some, true≢false, append-nil, ap, sym, subst, ◌∙◌}
 use Rattle.vf_ber.specs.Reader.{reading}
 use Rattle.vf_ber.specs.Reading.{Short}
 use Rattle.vf_ber_scan.specs.Scanned.{HasTaken}
@@ -10,9 +10,10 @@ use Rattle.vf_cli_dialogue.specs.declared.conversation.After.TheVariants as afte
 use Rattle.vf_cli_dialogue.specs.declared.conversation.Filestore.{Filestore}
 use Rattle.vf_cli_dialogue.specs.declared.conversation.Stream.{Stream}
 use Rattle.vf_cli_dialogue.specs.declared.conversation.Stream.TheVariants as streams
-use Rattle.vf_cli_dialogue.specs.Conversation.{Aborts, Appends, Continues, Goes, Holds, IsRest, IsTaking, StandsBy, is_ready, octets_in}
+use Rattle.vf_cli_dialogue.specs.Conversation.{Aborts, Appends, Continues, Goes, Holds, IsRest, IsTaking, StandsBy, is_ready, octets_in, size_of}
 use Rattle.vf_cli_dialogue.specs.Dialogue.{link}
 use Rattle.vf_cli_dialogue.proofs.ContinuesLemmas.{continues-continues, continues_gone, continues_none}
+use Rattle.vf_cli_dialogue.proofs.ReadingLemmas.{reading_none}
 
 pub not_ready : (stream : Stream) (is_so says : Bool) → is_ready stream ≡ is_so → is_ready stream ≡ says → is_so ≡ true → says ≡ false → ⊥
 not_ready stream is_so says one two holds fails = absurd (true≢false (sym holds ∙ (sym one ∙ two) ∙ fails))
@@ -29,6 +30,21 @@ taking_stands : (filestore : Filestore) (scan : Scan) (state : State) (stream : 
 taking_stands filestore scan state streams.Gone holds taking = absurd taking
 taking_stands filestore scan state (streams.Waiting pending) holds taking = (holds, taking)
 taking_stands filestore scan state (streams.Ready octets) holds taking = holds
+taking_stands filestore scan state (streams.Pair first second) holds taking = holds
+
+pub size_ready : (stream : Stream) → is_ready stream ≡ true → size_of stream ≡ length (octets_in stream) + 1
+size_ready streams.Gone ready = absurd cc
+size_ready (streams.Waiting pending) ready = absurd cc
+size_ready (streams.Ready octets) ready = refl
+size_ready (streams.Pair first second) ready = refl
+
+-- the octets of a stream that is ready are taken by a party that holds
+pub ready_holds : (filestore : Filestore) (scan : Scan) (state : State) (stream : Stream) → is_ready stream ≡ true → StandsBy filestore scan state stream
+    → Holds filestore state
+ready_holds filestore scan state streams.Gone ready stands = absurd cc
+ready_holds filestore scan state (streams.Waiting pending) ready stands = absurd cc
+ready_holds filestore scan state (streams.Ready octets) ready stands = stands
+ready_holds filestore scan state (streams.Pair first second) ready stands = stands
 
 -- a piece joins the octets that wait
 pub piece_added : (state : State) (filestore : Filestore) (old_scan scan : Scan) (before stream : Stream) (octets piece : List ℕ)
@@ -57,6 +73,12 @@ piece_gone state filestore scan before stream piece gone still standing =
 pub rest_short : (is : After) (more : Bool) (rest : List ℕ) → is ≡ after.Goes → IsRest is more rest → more ≡ false → reading rest ≡ Short
 rest_short is more rest goes left none =
     subst (λ (b : Bool). IsRest after.Goes b rest) none (subst (λ (a : After). IsRest a more rest) goes left)
+
+-- nothing is left
+pub none_left : (ended : After) → IsRest ended false []
+none_left after.Goes = reading_none
+none_left after.Gone = tt
+none_left after.Aborted = tt
 
 -- What was made of the octets of a stream.
 module _ (state : State) (before : Stream) (octets : List ℕ) (same : octets_in before ≡ octets) (old new : List ℕ) (filestore : Filestore) (is : After) (rest : List ℕ)

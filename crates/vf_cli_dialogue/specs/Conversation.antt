@@ -1,5 +1,5 @@
 -- What the parts of `dialogue` answer, by what it prints.
-use Rattle.std.specs.Prelude.{◌≡◌, ◌<◌, ◌≤◌, ◌+◌, ◌-◌, ◌*◌, drop, length as length_of, ℕ, Bool, true, false, List, [], ◌++◌, Option, None, Some, Result, Ok, Err}
+use Rattle.std.specs.Prelude.{◌≡◌, ◌<◌, ◌≤◌, ◌+◌, ◌-◌, ◌*◌, drop, length as length_of, ℕ, Bool, true, false, List, [], ◌∷◌, ◌++◌, Option, None, Some, Result, Ok, Err}
 use Rattle.std.specs.List.{flat_map, list_any}
 use Rattle.vf_ber.specs.Reader.{reading}
 use Rattle.vf_ber.specs.Reading.{Reading, Short, Bad, Deep, Long, Read}
@@ -61,11 +61,13 @@ abbrev pub octets_in : Stream → List ℕ
 octets_in stream.Gone = []
 octets_in (stream.Waiting pending) = pending.items
 octets_in (stream.Ready octets) = octets
+octets_in (stream.Pair first second) = first ∷ second ∷ []
 
 abbrev pub is_ready : Stream → Bool
 is_ready stream.Gone = false
 is_ready (stream.Waiting pending) = false
 is_ready (stream.Ready octets) = true
+is_ready (stream.Pair first second) = true
 
 -- the octets that are left, where there are any
 abbrev pub left_in : Option (List ℕ) → List ℕ
@@ -77,18 +79,21 @@ abbrev pub size_of : Stream → ℕ
 size_of stream.Gone = 0
 size_of (stream.Waiting pending) = length_of pending.items
 size_of (stream.Ready octets) = length_of octets + 1
+size_of (stream.Pair first second) = 3
 
 -- a party that goes on takes the octets of the stream, and the scan is of those that wait
 abbrev pub IsTaking : Stream → Scan → Type 0
 IsTaking stream.Gone scan = ⊥
 IsTaking (stream.Waiting pending) scan = HasTaken scan pending.items
 IsTaking (stream.Ready octets) scan = Unit {0}
+IsTaking (stream.Pair first second) scan = Unit {0}
 
 -- A filestore and the octets of a stream stand in this state. A party that is gone stands nowhere.
 abbrev pub StandsBy : Filestore → Scan → State → Stream → Type 0
 StandsBy filestore scan state stream.Gone = party_of link state.parties ≡ None
 StandsBy filestore scan state (stream.Waiting pending) = Holds filestore state × HasTaken scan pending.items
 StandsBy filestore scan state (stream.Ready octets) = Holds filestore state
+StandsBy filestore scan state (stream.Pair first second) = Holds filestore state
 
 abbrev pub Stands : Conversation → State → Type 0
 Stands conversation state = StandsBy conversation.filestore conversation.scan state conversation.stream

@@ -1,5 +1,5 @@
 //! A conversation with one party.
-ghost use Rattle.std.specs.Prelude.{◌≡◌, ◌++◌, ◌+◌, ◌<◌, ◌≤◌, [], drop, false, true, if◌then◌else◌, IfOk, All, IfSome, OnOk, Some, length, List, Ok, ℕ};
+ghost use Rattle.std.specs.Prelude.{◌≡◌, ◌++◌, ◌+◌, ◌<◌, ◌≤◌, [], ◌∷◌, drop, false, true, if◌then◌else◌, IfOk, All, IfSome, OnOk, Some, length, List, Ok, ℕ};
 ghost use Rattle.std.specs.List.{flat_map, list_any};
 ghost use Rattle.vf_ber.specs.Reader.{reading};
 ghost use Rattle.vf_ber.specs.Reading.{IsReading, Read, Short};
@@ -61,6 +61,8 @@ pub(crate) enum Stream {
     Waiting { pending: Vec<u8> },
     /// They may begin with messages.
     Ready { octets: Octets },
+    /// So may these two, which are a whole line.
+    Pair { first: u8, second: u8 },
 }
 
 /// A conversation with one party over a filestore that starts empty. What is large stays where it is.
@@ -94,6 +96,7 @@ impl Conversation {
             Stream::Gone => false,
             Stream::Waiting { .. } => false,
             Stream::Ready { .. } => true,
+            Stream::Pair { .. } => true,
         }
     }
 
@@ -110,6 +113,7 @@ impl Conversation {
                 Ok(())
             }
             Stream::Ready { .. } => unreachable!(),
+            Stream::Pair { .. } => unreachable!(),
             Stream::Gone => Ok(()),
         }
     }
@@ -123,31 +127,21 @@ impl Conversation {
             → TakesReady state self.old replies.old.lines.items replies.new.lines.items self.new aborted) }
         ensures size { IfOk result (λ aborted. size_of self.new.stream < size_of self.old.stream) }
     {
-        match mem::replace(&mut self.stream, Stream::Gone) {
-            Stream::Ready { octets } => {
-                let Taken { after, rest, more } = take_messages(
-                    alloc,
-                    &mut self.filestore,
-                    octets,
-                    replies,
-                )?;
-                match after {
-                    After::Goes => {
-                        self.stream = rest_after(alloc, rest, more, &mut self.scan)?;
-                        Ok(false)
-                    }
-                    After::Gone => Ok(false),
-                    After::Aborted => Ok(true),
-                }
+        let stream = mem::replace(&mut self.stream, Stream::Gone);
+        let Taken { after, rest, more } = take_stream(alloc, &mut self.filestore, stream, replies)?;
+        match after {
+            After::Goes => {
+                self.stream = rest_after(alloc, rest, more, &mut self.scan)?;
+                Ok(false)
             }
-            Stream::Waiting { .. } => unreachable!(),
-            Stream::Gone => unreachable!(),
+            After::Gone => Ok(false),
+            After::Aborted => Ok(true),
         }
     }
 }
 
 /// A stream with a piece more. Where no octets are pending, the piece is looked at for messages as it is; else it is only
-/// scanned until a message is whole.
+/// scanned until a message is whole. A piece of two octets stands in place.
 fn added(
     alloc: Global,
     pending: Vec<u8>,
@@ -159,6 +153,12 @@ fn added(
     ensures takes { IfOk result (λ stream. HasTaken scan.old pending.items → IsTaking stream scan.new) }
 {
     if pending.is_empty() {
+        if let [first, second] = piece.as_slice() {
+            return Ok(Stream::Pair {
+                first: *first,
+                second: *second,
+            });
+        }
         let octets = octets_of_piece(alloc, piece)?;
         return Ok(Stream::Ready { octets });
     }
@@ -255,6 +255,59 @@ const LINK: u32 = 1;
 
 /// So many octets of replies are written before more messages are taken.
 const MOST_REPLIES: usize = 65_536;
+
+/// What the party makes of the messages that the octets of a stream begin with, as `take_messages` tells it. A request that
+/// is all of them is taken without `Octets`.
+fn take_stream(
+    alloc: Global,
+    filestore: &mut Filestore,
+    stream: Stream,
+    replies: &mut Replies,
+) -> Result<Taken, NoMemory>
+    requires ready { ready_test stream ≡ true }
+    requires stands { (state : State) × Holds filestore.old state }
+    ensures less { IfOk result (λ taken. (length (left_in taken.rest) < size_of stream) × (taken.more ≡ true → length (left_in taken.rest) + 1 < size_of stream)) }
+    ensures rest { IfOk result (λ taken. IsRest taken.after taken.more (left_in taken.rest)) }
+    ensures took { IfOk result (λ taken. (state : State) → Holds filestore.old state
+        → Appends state (octets_in stream) replies.old.lines.items replies.new.lines.items filestore.new taken.after (left_in taken.rest)) }
+{
+    if let Some(request) = request_in(&stream) {
+        let after = take_message(alloc, filestore, Message::Pdu(request), replies)?;
+        return Ok(Taken {
+            after,
+            rest: None,
+            more: false,
+        });
+    }
+    let octets = octets_of(alloc, stream)?;
+    take_messages(alloc, filestore, octets, replies)
+}
+
+/// The request without parameters that two octets of a stream are.
+fn request_in(stream: &Stream) -> Option<Pdu>
+    ensures { IfSome result (λ request. (length (octets_in stream.now) ≡ 2) × ((tree : Tree) × IsReading (octets_in stream.now) (Read tree 2) × (message_in tree ≡ Ok (messages.Pdu request)))) }
+{
+    let Stream::Pair { first, second } = stream else {
+        return None;
+    };
+    request_alone(&[*first, *second])
+}
+
+/// The octets of a stream that is ready.
+fn octets_of(alloc: Global, stream: Stream) -> Result<Octets, NoMemory>
+    requires { ready_test stream ≡ true }
+    ensures { IfOk result (λ octets. octets ≡ octets_in stream) }
+{
+    match stream {
+        Stream::Ready { octets } => Ok(octets),
+        Stream::Pair { first, second } => {
+            let octets = Octets::of(alloc, &[first, second])?;
+            Ok(octets)
+        }
+        Stream::Waiting { .. } => unreachable!(),
+        Stream::Gone => unreachable!(),
+    }
+}
 
 /// What the party makes of the messages that the octets begin with. Its replies are appended as lines, and its changes made.
 /// Where memory is wanting, the party is gone.
@@ -401,6 +454,7 @@ fn take_value(
 }
 
 /// What the party makes of a message that was read.
+#[inline(always)]
 fn take_message(
     alloc: Global,
     filestore: &mut Filestore,

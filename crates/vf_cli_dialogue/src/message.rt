@@ -70,6 +70,7 @@ pub(crate) fn append_reply(
 }
 
 // Of its own, since the room for its PDU costs each reply where both are one function.
+#[inline(never)]
 fn append_provider_abort(
     alloc: Global,
     number: u16,
@@ -113,6 +114,7 @@ fn without_parts(pdu: &Pdu) -> Option<u8>
 }
 
 /// Appends the line of any PDU.
+#[inline(never)]
 fn append_any_pdu(alloc: Global, pdu: &Pdu, replies: &mut Replies) -> Result<(), NoMemory>
     requires { IsInRange pdu.now }
     ensures { OnOk result (replies.new.lines.items ≡ replies.old.lines.items ++ hex_line (spell (value pdu.now))) }
@@ -124,6 +126,7 @@ fn append_any_pdu(alloc: Global, pdu: &Pdu, replies: &mut Replies) -> Result<(),
 }
 
 /// Appends the line of an element.
+#[inline(never)]
 fn append_element(alloc: Global, element: &Element, replies: &mut Replies) -> Result<(), NoMemory>
     requires { IsTold element.now }
     ensures { OnOk result (replies.new.lines.items ≡ replies.old.lines.items ++ hex_line (spell (element_value element.now))) }

@@ -6,7 +6,7 @@ use Rattle.vf_cli_dialogue.specs.declared.conversation.After.TheVariants as afte
 use Rattle.vf_cli_dialogue.specs.declared.conversation.Filestore.{Filestore}
 use Rattle.vf_cli_dialogue.specs.declared.conversation.First.{First}
 use Rattle.vf_cli_dialogue.specs.Conversation.{Appends, Holds, IsRest, TakesFirst}
-use Rattle.vf_cli_dialogue.proofs.ReadingLemmas.{reading_none}
+use Rattle.vf_cli_dialogue.proofs.StreamLemmas.{none_left}
 use Rattle.vf_cli_dialogue.proofs.TakenLemmas.{appends_first}
 use Rattle.vf_cli_dialogue.proofs.conversation.take_messages.Goals as goal
 use Rattle.vf_cli_dialogue.proofs.conversation.take_messages.Goals.{In_default}
@@ -33,12 +33,6 @@ returns-in_default-clause-took c = λ first holds.
     let none = none_taken c first holds in
     let held = subst (λ (f : Filestore). Holds f goes.0) (sym none.2) goes.2 in
     (goes.1, none.1 ∙ goes.3, (goes.0, held, goes.4))
-
--- nothing is left
-none_left : (ended : After) → IsRest ended false []
-none_left after.Goes = reading_none
-none_left after.Gone = tt
-none_left after.Aborted = tt
 
 pub returns-then-length-len-clause-rest : goal.returns-then-length-len-clause-rest
 returns-then-length-len-clause-rest c = none_left c.in-Some.field-0.after
