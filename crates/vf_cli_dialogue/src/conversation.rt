@@ -453,6 +453,7 @@ fn take_value(
     }
 }
 
+// In line, with `answer` and `make_changes`, since their room and their calls cost each message.
 /// What the party makes of a message that was read.
 #[inline(always)]
 fn take_message(
@@ -511,6 +512,7 @@ fn after_replies(goes: bool) -> After
 }
 
 /// The party takes a message, and the next one stands in its place. Where memory is wanting, the party is gone.
+#[inline(always)]
 fn answer(alloc: Global, filestore: &mut Filestore, message: Message) -> Result<Answered, NoMemory>
     ensures tables { filestore.new.tables ≡ filestore.old.tables }
     ensures answers { IfOk result (λ heard. (state : State) → (holds : Holds filestore.old state)
@@ -565,6 +567,7 @@ fn setting() -> Setting
 }
 
 /// Makes all of the changes or none. Most messages have none, for which the tables need no look.
+#[inline(always)]
 fn make_changes(alloc: Global, tables: &mut Doubled, changes: Changes) -> Result<(), NoMemory>
     ensures { OnOk result (tables.new ≡ after_all tables.old changes) }
 {
