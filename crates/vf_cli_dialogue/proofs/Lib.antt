@@ -4,6 +4,7 @@ mod PrintedLemmas
 mod ScanLemmas
 mod StreamLemmas
 mod TakenLemmas
+mod ChangeLemmas
 mod ContinuesLemmas
 mod ReceivedLemmas
 mod ReadingLemmas

@@ -28,7 +28,7 @@ use vf_elements::{Message, Said};
 use vf_locks::Locks;
 use vf_party::{Answered, Party, Setting};
 use vf_pdu::Pdu;
-use vf_tables::{Changes, Doubled};
+use vf_tables::{Changes, Doubled, Tables};
 
 /// A filestore with one party.
 #[derive(Drop)]
@@ -453,6 +453,7 @@ fn take_value(
     }
 }
 
+// In line, with `answer` and `make_changes`, since their room and their calls cost each message.
 /// What the party makes of a message that was read.
 #[inline(always)]
 fn take_message(
@@ -466,6 +467,9 @@ fn take_message(
     ensures { IfOk result (λ rest. (state : State) → Holds filestore.old state
         → Makes (transition state link setting_meant message) replies.old.lines.items replies.new.lines.items filestore.new rest) }
 {
+    if filestore.party.ends_group(&message) {
+        return end_group(alloc, filestore, message, replies);
+    }
     let Answered {
         goes,
         said,
@@ -478,6 +482,28 @@ fn take_message(
     Ok(after_replies(goes))
 }
 
+/// What the party makes of the end of its group, of which the items are tried on a second of the tables. It is a function of
+/// its own, since the room for that costs each message that comes through one function with it.
+#[inline(never)]
+fn end_group(
+    alloc: Global,
+    filestore: &mut Filestore,
+    message: Message,
+    replies: &mut Replies,
+) -> Result<After, NoMemory>
+    requires stands { (state : State) × Holds filestore.old state }
+    requires read { IsReadWhole message }
+    ensures { IfOk result (λ rest. (state : State) → Holds filestore.old state
+        → Makes (transition state link setting_meant message) replies.old.lines.items replies.new.lines.items filestore.new rest) }
+{
+    let (answered, ahead) = answer_over(alloc, filestore, message)?;
+    keep_changes(alloc, &mut filestore.tables, &answered.changes, ahead)?;
+    if append_replies(alloc, answered.said.as_slice(), replies)? {
+        return Ok(After::Aborted);
+    }
+    Ok(after_replies(answered.goes))
+}
+
 /// What became of a party that was told no abort.
 fn after_replies(goes: bool) -> After
     ensures { result ≡ (if goes then ends.Goes else ends.Gone) }
@@ -486,6 +512,7 @@ fn after_replies(goes: bool) -> After
 }
 
 /// The party takes a message, and the next one stands in its place. Where memory is wanting, the party is gone.
+#[inline(always)]
 fn answer(alloc: Global, filestore: &mut Filestore, message: Message) -> Result<Answered, NoMemory>
     ensures tables { filestore.new.tables ≡ filestore.old.tables }
     ensures answers { IfOk result (λ heard. (state : State) → (holds : Holds filestore.old state)
@@ -499,6 +526,29 @@ fn answer(alloc: Global, filestore: &mut Filestore, message: Message) -> Result<
         &mut filestore.locks,
     )?;
     Ok(heard)
+}
+
+/// The party takes a message as by `answer`, and is lent a second of the tables: it is left with the changes, or none is.
+fn answer_over(
+    alloc: Global,
+    filestore: &mut Filestore,
+    message: Message,
+) -> Result<(Answered, Option<Tables>), NoMemory>
+    ensures tables { filestore.new.tables ≡ filestore.old.tables }
+    ensures answers { IfOk result (λ done. (state : State) → (holds : Holds filestore.old state)
+        → IsAnsweredBy state filestore.old holds message filestore.new done.0.goes done.0.said.items done.0.changes) }
+    ensures ahead { IfOk result (λ done. IfSome done.1 (λ next. next ≡ after_all filestore.old.tables done.0.changes)) }
+{
+    let mut spare = filestore.tables.lend();
+    let heard = filestore.party.hear_over(
+        alloc,
+        message,
+        setting(),
+        filestore.tables.tables(),
+        &mut filestore.locks,
+        &mut spare,
+    )?;
+    Ok((heard, spare))
 }
 
 /// The setting of every message: it comes at moment 0, and no session stands below.
@@ -517,6 +567,7 @@ fn setting() -> Setting
 }
 
 /// Makes all of the changes or none. Most messages have none, for which the tables need no look.
+#[inline(always)]
 fn make_changes(alloc: Global, tables: &mut Doubled, changes: Changes) -> Result<(), NoMemory>
     ensures { OnOk result (tables.new ≡ after_all tables.old changes) }
 {
@@ -525,6 +576,24 @@ fn make_changes(alloc: Global, tables: &mut Doubled, changes: Changes) -> Result
     }
     tables.apply(alloc, changes.as_slice())?;
     Ok(())
+}
+
+/// Makes all of the changes or none, which may be made already in a second of the tables.
+fn keep_changes(
+    alloc: Global,
+    tables: &mut Doubled,
+    changes: &Changes,
+    ahead: Option<Tables>,
+) -> Result<(), NoMemory>
+    requires { IfSome ahead (λ next. next ≡ after_all tables.old changes.now) }
+    ensures { OnOk result (tables.new ≡ after_all tables.old changes.now) }
+{
+    let changes = changes.as_slice();
+    if changes.is_empty() {
+        tables.give_back(ahead);
+        return Ok(());
+    }
+    return tables.apply_over(alloc, changes, ahead);
 }
 
 /// Appends the replies as lines, and says whether an abort is among them.

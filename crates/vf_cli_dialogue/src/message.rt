@@ -69,7 +69,8 @@ pub(crate) fn append_reply(
     }
 }
 
-// Of its own, since the room for its PDU costs each reply where both are one function.
+// Of its own, out of line, since the room for its PDU costs each reply where both are one function. So are the lines of other
+// PDUs than those without parts, and of elements.
 #[inline(never)]
 fn append_provider_abort(
     alloc: Global,

@@ -8,6 +8,7 @@ pub mod GroupEnds
 pub mod GroupTurns
 pub mod Heard
 pub mod IdleTurns
+pub mod Lent
 pub mod NoChanges
 pub mod Others
 pub mod Refused

@@ -1,6 +1,6 @@
 -- What code owes to the end of a group (ISO 8571-3, F-END-GROUP; profile): it says what the filestore says, makes the changes of
 -- a group, and keeps who holds each file; and the party goes on.
-use Rattle.std.specs.Prelude.{◌≡◌, ℕ, List, Some, Result, Ok, Err}
+use Rattle.std.specs.Prelude.{◌≡◌, ℕ, Bool, true, false, List, Some, Result, Ok, Err}
 use Rattle.vf_elements.specs.declared.message.Message.{Message}
 use Rattle.vf_elements.specs.declared.message.Message.TheVariants as messages
 use Rattle.vf_filestore.specs.Aborts.{Setting}
@@ -17,6 +17,8 @@ use Rattle.vf_party.specs.Items.{AreItems}
 use Rattle.vf_party.specs.Quiets.{IsQuiet}
 use Rattle.vf_party_steps.specs.Sameness.{unless_same}
 use Rattle.vf_party_steps.specs.Steps.{HoldersOfFiles, StandsIn}
+use Rattle.vf_party.specs.declared.party.Party.{Party}
+use Rattle.vf_party.specs.declared.party.Party.TheVariants as parties
 use Rattle.vf_party.specs.declared.quiet.Quiet.{Quiet}
 use Rattle.vf_party_steps.specs.declared.step.Step.{Step}
 use Rattle.vf_party_steps.specs.declared.step.StepError.{StepError}
@@ -28,6 +30,11 @@ use Rattle.vf_tables.specs.declared.tables.Tables.{Tables}
 
 abbrev pub end_message : Message
 end_message = messages.Pdu EndGroupRequest
+
+-- the message ends the group that the party is in
+abbrev pub ends_group : Party → Message → Bool
+ends_group (parties.Grouping grouping) (messages.Pdu EndGroupRequest) = true
+ends_group _ _ = false
 
 -- the changes of this group, whose end joins the trace first
 abbrev pub changes_at_end : State → StandingParty → Setting → Group → List Change

@@ -1,11 +1,12 @@
 //! The end of a group, at which it comes to all of its items or to none (ISO 8571-3, F-END-GROUP; profile).
-ghost use Rattle.std.specs.Prelude.{◌≡◌, IfErr, IfOk};
+ghost use Rattle.std.specs.Prelude.{◌≡◌, [], IfErr, IfOk, IfSome, if◌then◌else◌};
 ghost use Rattle.vf_filestore.specs.Groups.{between as between_meant};
 ghost use Rattle.vf_party.specs.GroupEnds.{IsEnd, IsPerformed};
 ghost use Rattle.vf_party_steps.specs.Sameness.{unless_same as unless_same_meant};
 ghost use Rattle.vf_party.specs.Settings.{setting_of};
 ghost use Rattle.vf_party.specs.Trials.{AreTried};
 ghost use Rattle.vf_party_steps.specs.declared.step.StepError.TheVariants as errors;
+ghost use Rattle.vf_tables.specs.Changes.{after_all};
 
 use crate::apart::are_apart;
 use crate::tried::Tried;
@@ -16,12 +17,15 @@ use vf_base::NoMemory;
 use vf_locks::Locks;
 use vf_party_steps::{are_same, one_said};
 use vf_pdu::Pdu;
-use vf_tables::{Changes, Tables};
+use vf_tables::{Change, Changes, Tables};
 
 /// Takes the end of a group of these items (ISO 8571-3, F-END-GROUP), of which at least the threshold have to be good: they
 /// are tried on copies, in their order. Where so many are good the good ones are performed, with their changes one after
 /// another; where fewer are, or where all is as it was after them, nothing changes. What is said to the items stands
 /// between the responses of the group's begin and its end. Without memory all is as it was.
+///
+/// The tables of `spare`, where it has any, are those on which the items are tried. Afterwards it has the tables after the
+/// changes of the group, or none where they were changed in vain.
 pub(crate) fn end_group(
     quiet: Quiet,
     alloc: Global,
@@ -30,12 +34,16 @@ pub(crate) fn end_group(
     setting: &Setting,
     tables: &Tables,
     locks: &mut Locks,
+    spare: &mut Option<Tables>,
 ) -> Result<Step<Quiet>, (Quiet, StepError)>
+    requires { IfSome spare.old (λ second. second ≡ tables.now) }
     ensures consequence { IsEnd quiet threshold items.now tables.now locks.old locks.new (setting_of setting.now) result }
     ensures kept { IfErr result (λ back. back.0 ≡ quiet) }
     ensures memory { IfErr result (λ back. back.1 ≡ errors.NoMemory) }
+    ensures ahead { IfOk result (λ step. IfSome spare.new (λ second. second ≡ after_all tables.now step.changes)) }
 {
-    let Ok(attempt) = tried(alloc, &quiet, items, setting, tables, locks) else {
+    let lent = spare.take();
+    let Ok(attempt) = tried(alloc, &quiet, items, setting, tables, lent, locks) else {
         return Err((quiet, StepError::NoMemory));
     };
     let Attempt {
@@ -43,15 +51,19 @@ pub(crate) fn end_group(
         locks: after,
     } = attempt;
     if (threshold as usize) <= trial.good {
-        let Ok(step) = performed(alloc, tables, trial) else {
+        let Ok(done) = performed(alloc, tables, trial) else {
             return Err((quiet, StepError::NoMemory));
         };
+        let (step, second) = done;
         *locks = after;
+        *spare = second;
         return Ok(step);
     }
-    let Ok(said) = said_in_vain(alloc, trial) else {
+    let Ok(done) = in_vain(alloc, trial) else {
         return Err((quiet, StepError::NoMemory));
     };
+    let (said, second) = done;
+    *spare = second;
     Ok(Step {
         state: quiet,
         said,
@@ -73,20 +85,29 @@ fn tried<'t>(
     items: &[Pdu],
     setting: &Setting,
     tables: &'t Tables,
+    lent: Option<Tables>,
     locks: &Locks,
 ) -> Result<Attempt<'t>, NoMemory>
-    ensures { IfOk result (λ attempt. AreTried quiet.now tables.now locks.now attempt.locks (setting_of setting.now) items.now attempt.trial) }
+    requires { IfSome lent (λ second. second ≡ tables.now) }
+    ensures tried { IfOk result (λ attempt. AreTried quiet.now tables.now locks.now attempt.locks (setting_of setting.now) items.now attempt.trial) }
+    ensures led { IfOk result (λ attempt. attempt.trial.tables ≡ after_all tables.now attempt.trial.changes) }
 {
     let quiet = quiet.copy(alloc)?;
-    let tables = Tried::of(tables);
+    let tables = Tried::of(tables, lent);
     let mut locks = locks.copy(alloc)?;
     let trial = try_items(alloc, quiet, items, setting, tables, &mut locks)?;
     Ok(Attempt { trial, locks })
 }
 
-/// What a group comes to that is performed.
-fn performed(alloc: Global, tables: &Tables, trial: Trial<'_>) -> Result<Step<Quiet>, NoMemory>
-    ensures { IfOk result (IsPerformed tables.now trial.entry) }
+/// What a group comes to that is performed, and a second of the tables after it.
+fn performed(
+    alloc: Global,
+    tables: &Tables,
+    trial: Trial<'_>,
+) -> Result<(Step<Quiet>, Option<Tables>), NoMemory>
+    requires { trial.tables ≡ after_all tables.now trial.changes }
+    ensures step { IfOk result (λ done. IsPerformed tables.now trial.entry done.0) }
+    ensures ahead { IfOk result (λ done. IfSome done.1 (λ second. second ≡ after_all tables.now done.0.changes)) }
 {
     let Trial {
         quiet,
@@ -96,20 +117,32 @@ fn performed(alloc: Global, tables: &Tables, trial: Trial<'_>) -> Result<Step<Qu
         ..
     } = trial;
     let said = between(alloc, said)?;
-    let changes = unless_same(alloc, tables, after.tables(), changes);
-    Ok(Step {
+    if lead_on(tables, after.tables(), changes.as_slice()) {
+        let step = Step {
+            state: quiet,
+            said,
+            changes,
+        };
+        return Ok((step, after.into_second()));
+    }
+    let step = Step {
         state: quiet,
         said,
-        changes,
-    })
+        changes: Changes::new(alloc),
+    };
+    Ok((step, None))
 }
 
-/// What is said to a group that isn't performed.
-fn said_in_vain(alloc: Global, trial: Trial<'_>) -> Result<Vec<Said>, NoMemory>
-    ensures { IfOk result (λ all. all.items ≡ between_meant trial.entry.vain.items) }
+/// What is said to a group that isn't performed, and a second of the tables, where it was lent and no item changed it.
+fn in_vain(alloc: Global, trial: Trial<'_>) -> Result<(Vec<Said>, Option<Tables>), NoMemory>
+    ensures says { IfOk result (λ done. done.0.items ≡ between_meant trial.entry.vain.items) }
+    ensures unchanged { IfOk result (λ done. IfSome done.1 (λ second. (second ≡ trial.entry.tables) × (trial.entry.changes ≡ []))) }
 {
     let all = between(alloc, trial.vain)?;
-    Ok(all)
+    if trial.changes.as_slice().is_empty() {
+        return Ok((all, trial.tables.into_second()));
+    }
+    Ok((all, None))
 }
 
 /// What is said to the items, between the responses of the group's begin and its end.
@@ -123,19 +156,16 @@ fn between(alloc: Global, said: Vec<Said>) -> Result<Vec<Said>, NoMemory>
     Ok(all)
 }
 
-/// The changes, where they lead to other tables: of none that is known without a look at them.
+/// Whether the changes are kept: not where they lead to the same tables. Of none that isn't asked.
 #[tactic(auto, using(crate::proofs::Differing::tables_apart))]
-fn unless_same(alloc: Global, before: &Tables, after: &Tables, changes: Changes) -> Changes
-    ensures { result ≡ unless_same_meant before.now after.now changes }
+fn lead_on(before: &Tables, after: &Tables, changes: &[Change]) -> bool
+    ensures { unless_same_meant before.now after.now changes.now ≡ (if result then changes.now else []) }
 {
-    if changes.as_slice().is_empty() {
-        return changes;
+    if changes.is_empty() {
+        return true;
     }
-    if are_apart(&before.files, &after.files, changes.as_slice()) {
-        return changes;
+    if are_apart(&before.files, &after.files, changes) {
+        return true;
     }
-    if are_same(before, after) {
-        return Changes::new(alloc);
-    }
-    changes
+    !are_same(before, after)
 }

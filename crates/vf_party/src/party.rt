@@ -1,7 +1,8 @@
-ghost use Rattle.std.specs.Prelude.{◌≡◌, ℕ};
+ghost use Rattle.std.specs.Prelude.{◌≡◌, ℕ, IfOk, IfSome};
 ghost use Rattle.vf_filestore.specs.History.{History};
 ghost use Rattle.vf_filestore.specs.State.{arrived as arrived_meant};
 ghost use Rattle.vf_party_steps.specs.Leaving.{LeavesHolders};
+ghost use Rattle.vf_party.specs.GroupEnds.{ends_group as ends_group_meant};
 ghost use Rattle.vf_party.specs.Hearing.{turn_in};
 ghost use Rattle.vf_party.specs.Quiets.{IsQuiet};
 ghost use Rattle.vf_party_steps.specs.Reads.{IsReading};
@@ -13,11 +14,12 @@ ghost use Rattle.vf_party_steps.specs.Writes.{IsWriting};
 ghost use Rattle.vf_party.specs.declared.party.Party.{Party as PartyMeant};
 ghost use Rattle.vf_party.specs.declared.party.Party.TheVariants as parties;
 ghost use Rattle.vf_party.specs.declared.quiet.Quiet.TheVariants as quiets;
+ghost use Rattle.vf_tables.specs.Changes.{after_all};
 
 use crate::hearing::{Answered, settled, told};
 use crate::leaving::leave_quiet;
 use crate::selecting::{deselects, hear_deselect, hear_select, selects};
-use crate::taking_group::take_grouping;
+use crate::taking_group::{hear_end, take_grouping};
 use crate::taking_idle::take_idle;
 use crate::taking_quiet::take_quiet;
 use crate::taking_reading::take_reading;
@@ -100,6 +102,39 @@ impl Party {
             return hear_deselect(self, alloc, message, setting, tables, locks);
         }
         return hear_any(self, alloc, message, setting, tables, locks);
+    }
+
+    /// Whether the message ends the group that the party is in.
+    pub fn ends_group(&self, message: &Message) -> bool
+        ensures { result ≡ ends_group_meant self.now message.now }
+    {
+        match self {
+            Party::Grouping(_) => matches!(message, Message::Pdu(Pdu::EndGroupRequest)),
+            _ => false,
+        }
+    }
+
+    /// Takes a message as `hear` does. The end of a group tries its items on the tables of `spare`, where it has any, so
+    /// that the tables aren't copied. After it `spare` has those after the changes, or none: where items changed them and
+    /// the group isn't performed, where all changes undo each other, and after any other message.
+    pub fn hear_over(
+        &mut self,
+        alloc: Global,
+        message: Message,
+        setting: Setting,
+        tables: &Tables,
+        locks: &mut Locks,
+        spare: &mut Option<Tables>,
+    ) -> Result<Answered, NoMemory>
+        requires { IfSome spare.old (λ second. second ≡ tables.now) }
+        ensures turn { IsTurn tables.now locks.old locks.new self.old (setting_of setting) message (turn_in self.new result) }
+        ensures ahead { IfOk result (λ heard. IfSome spare.new (λ second. second ≡ after_all tables.now heard.changes)) }
+    {
+        if self.ends_group(&message) {
+            return hear_end(self, alloc, setting, tables, locks, spare);
+        }
+        *spare = None;
+        return self.hear(alloc, message, setting, tables, locks);
     }
 
     /// The association is gone, without an answer: the docket of a recoverable open holds its file in the place of the

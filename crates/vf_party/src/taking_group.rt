@@ -1,21 +1,27 @@
 //! What comes of a message in a group that isn't ended (ISO 8571-3, grouping; profile).
-ghost use Rattle.std.specs.Prelude.{◌≡◌, true};
+ghost use Rattle.std.specs.Prelude.{◌≡◌, IfOk, IfSome, true};
 ghost use Rattle.vf_elements.specs.Stages.{takes};
 ghost use Rattle.vf_elements.specs.declared.message.Message.TheVariants as messages;
 ghost use Rattle.vf_elements.specs.declared.stage.Stage.TheVariants as stages;
 ghost use Rattle.vf_party.specs.GroupEnds.{end_message};
 ghost use Rattle.vf_party.specs.GroupTurns.{IsAdded, IsGroupTurn, IsInGroup};
+ghost use Rattle.vf_party.specs.Hearing.{turn_in};
 ghost use Rattle.vf_party.specs.Settings.{setting_of};
+ghost use Rattle.vf_party.specs.Turns.{IsTurn};
+ghost use Rattle.vf_party.specs.declared.party.Grouping.{Grouping as GroupingMeant};
 ghost use Rattle.vf_party.specs.declared.party.Party.TheVariants as parties;
+ghost use Rattle.vf_tables.specs.Changes.{after_all};
 
 use crate::aborting::WRONG_STATE;
 use crate::departing::{aborted, ended};
 use crate::grouping::end_group;
+use crate::hearing::{Answered, settled};
 use crate::items::is_item;
 use crate::leaving::leave_quiet;
 use crate::party::{Grouping, Outcome, Party, PartyState};
 use crate::{Message, Setting};
 use std::alloc::Global;
+use std::mem;
 use vf_base::NoMemory;
 use vf_elements::Stage;
 use vf_locks::Locks;
@@ -143,6 +149,45 @@ fn take_end(
 ) -> Result<Outcome, (Party, NoMemory)>
     ensures { IsGroupTurn tables.now locks.old locks.new grouping (setting_of setting) end_message result }
 {
+    let mut spare = None;
+    return end_over(grouping, alloc, setting, tables, locks, &mut spare);
+}
+
+/// The end of the group of a party comes, which it takes in its place.
+#[inline(never)]
+pub(crate) fn hear_end(
+    party: &mut Party,
+    alloc: Global,
+    setting: Setting,
+    tables: &Tables,
+    locks: &mut Locks,
+    spare: &mut Option<Tables>,
+) -> Result<Answered, NoMemory>
+    requires party { (grouping : GroupingMeant) × (party.old ≡ parties.Grouping grouping) }
+    requires lent { IfSome spare.old (λ second. second ≡ tables.now) }
+    ensures turn { IsTurn tables.now locks.old locks.new party.old (setting_of setting) end_message (turn_in party.new result) }
+    ensures ahead { IfOk result (λ heard. IfSome spare.new (λ second. second ≡ after_all tables.now heard.changes)) }
+{
+    let Party::Grouping(grouping) = mem::replace(party, Party::arrived(0)) else {
+        unreachable!()
+    };
+    let taken = end_over(grouping, alloc, setting, tables, locks, spare);
+    return settled(party, taken);
+}
+
+/// The group ends; its items are tried on the tables of `spare`, if it has any.
+fn end_over(
+    grouping: Grouping,
+    alloc: Global,
+    setting: Setting,
+    tables: &Tables,
+    locks: &mut Locks,
+    spare: &mut Option<Tables>,
+) -> Result<Outcome, (Party, NoMemory)>
+    requires { IfSome spare.old (λ second. second ≡ tables.now) }
+    ensures turn { IsGroupTurn tables.now locks.old locks.new grouping (setting_of setting) end_message result }
+    ensures ahead { IfOk result (λ outcome. IfSome spare.new (λ second. second ≡ after_all tables.now outcome.changes)) }
+{
     let Grouping {
         quiet,
         threshold,
@@ -156,6 +201,7 @@ fn take_end(
         &setting,
         tables,
         locks,
+        spare,
     ) {
         Ok(step) => Ok(Outcome {
             party: Some(Party::Quiet(step.state)),

@@ -1,5 +1,5 @@
 //! The tables on which the items of a group are tried.
-ghost use Rattle.std.specs.Prelude.{◌≡◌, IfOk, unwrap_or};
+ghost use Rattle.std.specs.Prelude.{◌≡◌, IfOk, IfSome, unwrap_or};
 ghost use Rattle.vf_tables.specs.Changes.{after_all};
 
 use std::alloc::Global;
@@ -7,12 +7,12 @@ use std::marker::Model;
 use vf_base::NoMemory;
 use vf_tables::{Change, Tables};
 
-/// The tables of a filestore, which stay as they are, and one copy of them once something is changed, in which later
-/// changes are made.
+/// The tables of a filestore, which stay as they are, and a second of them, in which changes are made: one that was lent, or
+/// a copy once something is changed.
 #[derive(Drop)]
 pub(crate) struct Tried<'t> {
     kept: &'t Tables,
-    /// The copy, with all changes; none before the first.
+    /// The second, with all changes.
     own: Option<Tables>,
 }
 
@@ -26,10 +26,12 @@ impl<'t> Model for Tried<'t> {
 }
 
 impl<'t> Tried<'t> {
-    pub(crate) fn of(kept: &'t Tables) -> Tried<'t>
+    /// The tables before any change, over a second of them, if one is lent.
+    pub(crate) fn of(kept: &'t Tables, lent: Option<Tables>) -> Tried<'t>
+        requires { IfSome lent (λ second. second ≡ kept.now) }
         ensures { result ≡ kept.now }
     {
-        Tried { kept, own: None }
+        Tried { kept, own: lent }
     }
 
     pub(crate) fn tables(&self) -> &Tables
@@ -56,9 +58,16 @@ impl<'t> Tried<'t> {
             own: Some(own),
         })
     }
+
+    /// The second of the tables, with all changes, if there is one.
+    pub(crate) fn into_second(self) -> Option<Tables>
+        ensures { IfSome result (λ second. second ≡ self.entry) }
+    {
+        self.own
+    }
 }
 
-/// The copy of the tables, which is made where there is none yet.
+/// The second of the tables, which is copied where there is none yet.
 fn own_or_copy(alloc: Global, kept: &Tables, own: Option<Tables>) -> Result<Tables, NoMemory>
     ensures { IfOk result (λ tables. tables ≡ unwrap_or own kept.now) }
 {

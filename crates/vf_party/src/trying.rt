@@ -3,6 +3,7 @@ ghost use Rattle.std.specs.Prelude.{◌≡◌, ◌≤◌, ◌<◌, ◌+◌, ◌^
 ghost use Rattle.vf_party.specs.Quiets.{stage_of};
 ghost use Rattle.vf_party.specs.Settings.{setting_of};
 ghost use Rattle.vf_party.specs.Trials.{AreTried, ComesOf, IsBadItem, IsGoodItem, IsJoined, IsUntried, pdu_of, taken_in};
+ghost use Rattle.vf_tables.specs.Changes.{after_all};
 
 use crate::items::{is_item, take_item};
 use crate::refusals::refusal;
@@ -44,6 +45,7 @@ pub(crate) fn try_items<'t>(
 ) -> Result<Trial<'t>, NoMemory>
     ensures trial { IfOk result (AreTried quiet tables.entry locks.old locks.new (setting_of setting.now) items.now) }
     ensures counted { IfOk result (λ trial. trial.good ≤ length items.now) }
+    ensures led { IfOk result (λ trial. trial.tables ≡ after_all tables.entry trial.changes) }
 {
     let Some((item, others)) = items.split_first() else {
         return Ok(untried(alloc, quiet, tables));
@@ -114,6 +116,7 @@ pub(crate) fn try_item<'t>(
 ) -> Result<Trial<'t>, NoMemory>
     ensures trial { IfOk result (AreTried quiet tables.entry locks.old locks.new (setting_of setting.now) (item.now ∷ [])) }
     ensures counted { IfOk result (λ trial. trial.good ≤ 1) }
+    ensures led { IfOk result (λ trial. trial.tables ≡ after_all tables.entry trial.changes) }
 {
     let Some(request) = taken(alloc, &quiet, item)? else {
         let trial = refused(alloc, quiet, item.number(), plain(WRONG_REGIME), tables)?;

@@ -9,7 +9,7 @@ ghost use Rattle.vf_party_steps.specs.Steps.{IsStep};
 ghost use Rattle.vf_pdu.specs.PduNumbers.{number_of};
 ghost use Rattle.vf_regime_refusals.specs.Asked.{stamp_by};
 
-use crate::files::file_change;
+use crate::files::attributes_change;
 use crate::step::one_said;
 use crate::{Said, Selected, Step, StepError};
 use std::alloc::Global;
@@ -88,7 +88,8 @@ impl Selected {
     }
 }
 
-/// What changes in the tables where the selected file is changed, if it is there.
+/// What changes in the tables where the selected file is changed, if it is there. Its contents are as they were.
+#[tactic(auto, using(vf_tree::proofs::EqualUnits::units_refl))]
 fn changes_of(
     alloc: Global,
     files: &Files,
@@ -103,7 +104,7 @@ fn changes_of(
     };
     let identity = state.associated.association.identity.copy(alloc)?;
     let after = changed(alloc, before, Stamp { moment, identity }, change)?;
-    let changes = file_change(alloc, before, after)?;
+    let changes = attributes_change(alloc, before, after)?;
     Ok(changes)
 }
 

@@ -1,8 +1,9 @@
 //! What changes where a file is put in the place of the one that was.
-ghost use Rattle.std.specs.Prelude.{◌≡◌, IfOk};
+ghost use Rattle.std.specs.Prelude.{◌≡◌, IfOk, true};
 ghost use Rattle.std.specs.Cmp.Lexicographic.{pointwise};
 ghost use Rattle.vf_attr.specs.Attributes.{are_same_attributes, attributes_of, is_same_contents, is_same_option, is_same_term as term_meant, is_same_text as text_meant};
 ghost use Rattle.vf_party_steps.specs.Files.{changes_of_file};
+ghost use Rattle.vf_tree.specs.Same.{are_same_units};
 
 use crate::step::one_change;
 use std::alloc::Global;
@@ -19,6 +20,20 @@ pub(crate) fn file_change(alloc: Global, before: &File, after: File) -> Result<C
         let changes = one_change(alloc, Change::PutFile { file: after })?;
         return Ok(changes);
     }
+    let changes = attributes_change(alloc, before, after)?;
+    Ok(changes)
+}
+
+/// The same of a file whose contents are known to be those that they were: they aren't compared, which takes time by each of
+/// their octets.
+pub(crate) fn attributes_change(
+    alloc: Global,
+    before: &File,
+    after: File,
+) -> Result<Changes, NoMemory>
+    requires { are_same_units before.now.tree.units after.tree.units ≡ true }
+    ensures { IfOk result (λ changes. changes ≡ changes_of_file before.now after) }
+{
     if before.name == after.name && have_same_attributes(before, &after) {
         return Ok(Changes::new(alloc));
     }

@@ -11,7 +11,7 @@ ghost use Rattle.vf_pdu.specs.PduNumbers.{number_of};
 ghost use Rattle.vf_regime_effects.specs.Meanings.{given_of_reading};
 
 use crate::dockets::Underway;
-use crate::files::file_change;
+use crate::files::attributes_change;
 use crate::regimes::{changed, concluded};
 use crate::states::OpenRegime;
 use crate::step::{followed_by, one_said};
@@ -149,7 +149,8 @@ impl Reading {
     }
 }
 
-/// The change of a file that was read, where there is one.
+/// The change of a file that was read, where there is one: its contents are as they were.
+#[tactic(auto, using(vf_tree::proofs::EqualUnits::units_refl))]
 fn read_changed(alloc: Global, stamp: Stamp, file: Option<&File>) -> Result<Changes, NoMemory>
     ensures { IfOk result (λ changes. changes ≡ read_changes stamp (option_copied file.entry)) }
 {
@@ -160,7 +161,7 @@ fn read_changed(alloc: Global, stamp: Stamp, file: Option<&File>) -> Result<Chan
     let Some(after) = ending.file else {
         return Ok(Changes::new(alloc));
     };
-    let changes = file_change(alloc, before, after)?;
+    let changes = attributes_change(alloc, before, after)?;
     Ok(changes)
 }
 

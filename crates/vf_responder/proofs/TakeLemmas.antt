@@ -17,6 +17,7 @@ use Rattle.vf_filestore.specs.Sound.{IsSound}
 use Rattle.vf_filestore.specs.State.{State, StandingParty, party_of}
 use Rattle.vf_filestore.specs.Tables.{tables_of}
 use Rattle.vf_filestore.specs.Transition.{Turn, answered, superseded_by, transition}
+use Rattle.vf_locks.specs.declared.held.Held.{Held}
 use Rattle.vf_party_steps.specs.Steps.{HoldersOfFiles}
 use Rattle.vf_party.specs.Hearing.{outcome_in}
 use Rattle.vf_party.specs.Turns.{IsNext, IsParty, IsTaken}
@@ -334,6 +335,13 @@ module _ {D : Type 0} (shown : D → Option (List ℕ)) (may_leave : D → List 
       (ap (λ (store : StoreState D). store.tables) same)
       (leaves (take-fits link kept mid_kept locks moment indication asked message outcome old mid serving read ask represents way turn)
       (subst (λ (store : StoreState D). IsRepresented shown may_leave store) (sym same) stands)))
+
+-- What gave way before did so where the same is kept.
+pub way-over : {D : Type 0} (link : Link) (message : Message) (kept : Kept D) (store store' : StoreState D) (locks locks' : List (List ℕ × List Held)) (links links' : List (ℕ × Link)) (old new : List Reply)
+    → store' ≡ store → locks' ≡ locks → links' ≡ links → GivesWay link message kept old (record { store = store; locks = locks; links = links }) new
+    → GivesWay link message kept old (record { store = store'; locks = locks'; links = links' }) new
+way-over {D} link message kept store store' locks locks' links links' old new same_store same_locks same_links way =
+    subst (λ (mid : Kept D). GivesWay link message kept old mid new) (λ i. record { store = sym same_store i; locks = sym same_locks i; links = sym same_links i }) way
 
 -- No call was made.
 pub still-along : {D : Type 0} (shown : D → Option (List ℕ)) (may_leave : D → List ℕ → Type 0) (clock : D → ℕ) (left_since : D → ℕ → List ℕ → Type 0)

@@ -32,7 +32,7 @@ use vf_party::{Answered, Message, Said};
 use vf_pdu::Pdu;
 use vf_stack::Indication;
 use vf_store::StoreError;
-use vf_tables::Changes;
+use vf_tables::{Changes, Tables};
 
 /// A list of one abort.
 fn abort(alloc: Global, number: u16, place: u64) -> Result<Vec<Said>, NoMemory>
@@ -262,13 +262,22 @@ impl<D: Disk> Keeping<D> {
             drop(message);
             return Err(StoreError::NoMemory);
         };
+        let mut spare = self.lend(link, &message);
         let tables = self.store.tables();
         let Answered {
             goes,
             said,
             changes,
-        } = link.turn(alloc, moment, asked, message, tables, &mut self.locks)?;
-        if let Err(error) = self.keep(alloc, changes) {
+        } = link.turn(
+            alloc,
+            moment,
+            asked,
+            message,
+            tables,
+            &mut self.locks,
+            &mut spare,
+        )?;
+        if let Err(error) = self.keep(alloc, changes, spare) {
             drop(said);
             return Err(error);
         }
@@ -276,8 +285,26 @@ impl<D: Disk> Keeping<D> {
         Ok(goes)
     }
 
-    /// Makes the changes of a message; without any the disk isn't called.
-    fn keep(&mut self, alloc: Global, changes: Changes) -> Result<(), StoreError>
+    /// Lends a second of the tables to a message that ends a group.
+    fn lend(&mut self, link: &Link, message: &Message) -> Option<Tables>
+        ensures lent { IfSome result (λ second. second ≡ self.old.store.tables) }
+        ensures store { self.new.store ≡ self.old.store }
+        ensures rest { (self.new.links ≡ self.old.links) × (self.new.locks ≡ self.old.locks) }
+    {
+        if !link.party.ends_group(message) {
+            return None;
+        }
+        self.store.lend()
+    }
+
+    /// Makes the changes of a message, which may be made already in a second of the tables; without any the disk isn't called.
+    fn keep(
+        &mut self,
+        alloc: Global,
+        changes: Changes,
+        ahead: Option<Tables>,
+    ) -> Result<(), StoreError>
+        requires { IfSome ahead (λ next. next ≡ after_all self.old.store.tables changes) }
         ensures tables { OnOk result (self.new.store.tables ≡ after_all self.old.store.tables changes) }
         ensures represented { AreFitting self.old.store.tables changes → IsRepresented D.shown D.may_leave self.old.store → OnOk result (IsRepresented D.shown D.may_leave self.new.store) }
         ensures any_moment { AreFitting self.old.store.tables changes → IsRepresented D.shown D.may_leave self.old.store
@@ -289,9 +316,10 @@ impl<D: Disk> Keeping<D> {
         ensures limit { self.new.store.journal.limit ≡ self.old.store.journal.limit }
     {
         if changes.as_slice().is_empty() {
+            self.store.give_back(ahead);
             return Ok(());
         }
-        self.store.commit(alloc, changes)
+        self.store.commit_over(alloc, changes, ahead)
     }
 
     /// An association that stands with the identity and the activity that a recovery asks for is told so on its own link,

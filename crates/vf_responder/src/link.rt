@@ -1,5 +1,5 @@
 //! A link that stands.
-ghost use Rattle.std.specs.Prelude.{◌≡◌, IfOk, None, OnOk, true};
+ghost use Rattle.std.specs.Prelude.{◌≡◌, IfOk, IfSome, None, OnOk, true};
 ghost use Rattle.vf_filestore.specs.State.{arrived as arrived_meant};
 ghost use Rattle.vf_party.specs.Hearing.{outcome_in};
 ghost use Rattle.vf_party.specs.Settings.{setting_of};
@@ -14,6 +14,7 @@ ghost use Rattle.vf_stack.specs.Association.{Association, beginning};
 ghost use Rattle.vf_stack.specs.Receiving.{octets_received};
 ghost use Rattle.vf_stack.specs.declared.indication.Indication.{Indication as IndicationMeant};
 ghost use Rattle.vf_stack.specs.declared.indication.Indication.TheVariants as indications;
+ghost use Rattle.vf_tables.specs.Changes.{after_all};
 
 use crate::event::Reply;
 use crate::meaning::{Asked, PLAIN};
@@ -81,7 +82,8 @@ impl Link {
         }
     }
 
-    /// The party takes a message in its place: one that is left stands there.
+    /// The party takes a message in its place: one that is left stands there. Where it is lent a second of the tables, that
+    /// is left with the changes, or none is.
     pub(crate) fn turn(
         &mut self,
         alloc: Global,
@@ -90,13 +92,18 @@ impl Link {
         message: Message,
         tables: &Tables,
         locks: &mut Locks,
+        spare: &mut Option<Tables>,
     ) -> Result<Answered, NoMemory>
+        requires { IfSome spare.old (λ second. second ≡ tables.now) }
         ensures taken { IfOk result (λ heard. TakesOn tables.now locks.old locks.new self.old moment asked message (outcome_in self.new.party heard)) }
+        ensures ahead { IfOk result (λ heard. IfSome spare.new (λ second. second ≡ after_all tables.now heard.changes)) }
         ensures stack { self.new.stack ≡ self.old.stack }
         ensures number { self.new.number ≡ self.old.number }
     {
         let setting = self.setting(moment, asked);
-        let heard = self.party.hear(alloc, message, setting, tables, locks)?;
+        let heard = self
+            .party
+            .hear_over(alloc, message, setting, tables, locks, spare)?;
         Ok(heard)
     }
 

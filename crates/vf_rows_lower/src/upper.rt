@@ -218,7 +218,9 @@ fn carried_string(alloc: Global, string: &[u8]) -> Result<Option<Octets>, Fail> 
 
 #[test]
 fn strings_are_read_where_they_are_shared(rt: HostRuntime) -> Result<(), Fail> {
-    for len in [0, 1, 21, 22, 23, 24, 127, 128, 300] {
+    for len in [
+        0, 1, 21, 22, 23, 24, 127, 128, 255, 256, 300, 65_520, 65_521,
+    ] {
         let mut string = Vec::new(rt.alloc());
         string.resize(len, b'x')?;
         let read = carried_string(rt.alloc(), string.as_slice())?;

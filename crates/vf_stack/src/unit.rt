@@ -25,6 +25,9 @@ use vf_session::{
 };
 use vf_upper::{Contexts, Offers};
 
+/// What stands before data that pass no token, as those of each element: a GT and a DT, neither of which has a parameter.
+const PLAIN: [u8; 4] = [1, 0, 1, 0];
+
 /// Whether sync is agreed where the connection stands, and this end has the token.
 pub(crate) fn has_token(state: &SessionState, own: TokenSide) -> bool
     ensures { result ≡ holds_token own state.now }
@@ -276,6 +279,7 @@ impl KeptExchange {
     }
 
     /// Appends the TSDU of a unit up to the data of a DT, and answers these, shared.
+    #[tactic(auto, using(crate::proofs::HeadLemmas::plain_head))]
     pub(crate) fn put_head(
         &self,
         alloc: Global,
@@ -285,6 +289,10 @@ impl KeptExchange {
         requires { IsPermitted self.now unit.now }
         ensures { IfOk result (λ rest. head.new.items ++ rest ≡ head.old.items ++ tsdu_by self.now.session.side unit.now) }
     {
+        if let SessionSay::Data { pass: false, data } = unit {
+            head.extend_from_slice(&PLAIN)?;
+            return data.copy(alloc);
+        }
         let mut spdus = Vec::new(alloc);
         self.put_spdus(alloc, unit, &mut spdus)?;
         put_heads(alloc, spdus, head)

@@ -138,15 +138,18 @@ fn build(
     Ok(Built { area, entry, end })
 }
 
-/// Makes the changes of the tables on the disk and in memory. At `Full` and `NoMemory` all is as before.
+/// Makes the changes of the tables on the disk and in memory, where they may be made already `ahead`. At `Full` and
+/// `NoMemory` all is as before.
 pub(crate) fn commit_on<D: Disk>(
     alloc: Global,
     journal: &mut Journal,
     disk: &mut D,
     tables: &mut Doubled,
     changes: &Changes,
+    ahead: Option<Tables>,
 ) -> Result<(), StoreError>
-    requires { IsWithin journal.old (D.size disk.old) }
+    requires within { IsWithin journal.old (D.size disk.old) }
+    requires over { IfSome ahead (λ next. next ≡ after_all tables.old changes.now) }
     ensures tables { OnOk result (tables.new ≡ after_all tables.old changes.now) }
     ensures ok { AreFitting tables.old changes.now → TablesStand D.shown D.may_leave journal.old disk.old tables.old
         → OnOk result (TablesStand D.shown D.may_leave journal.new disk.new (after_all tables.old changes.now)) }
@@ -168,7 +171,7 @@ pub(crate) fn commit_on<D: Disk>(
             limit,
         });
     }
-    tables.apply(alloc, changes.as_slice())?;
+    tables.apply_over(alloc, changes.as_slice(), ahead)?;
     write(journal, disk, &built.area, built.entry.as_slice())?;
     Ok(())
 }

@@ -1,4 +1,4 @@
-ghost use Rattle.std.specs.Prelude.{◌≡◌, ◌<◌, ℕ, List, Some, IfOk, OnOk, is_err, option_copied};
+ghost use Rattle.std.specs.Prelude.{◌≡◌, ◌<◌, ℕ, List, Some, IfOk, IfSome, OnOk, is_err, option_copied};
 ghost use Rattle.vf_disk.specs.Calls.{MakesChanges};
 ghost use Rattle.vf_disk.specs.Disk.{LeavesOnly, LeavesShown};
 ghost use Rattle.vf_disk.specs.Plans.{sooner};
@@ -165,12 +165,53 @@ impl<D: Disk> Store<D> {
         ensures journal { OnOk result (self.new.journal ≡ after_commit self.old.journal self.old.tables changes) }
         ensures limit { self.new.journal.limit ≡ self.old.journal.limit }
     {
+        return self.commit_over(alloc, changes, None);
+    }
+
+    /// Lends a second of the tables, where the store has one, in which changes are made before they are committed. While it
+    /// is away, a commit costs a copy of the tables.
+    pub fn lend(&mut self) -> Option<Tables>
+        ensures lent { IfSome result (λ second. second ≡ self.old.tables) }
+        ensures same { self.new ≡ self.old }
+    {
+        self.tables.lend()
+    }
+
+    /// Takes the second of the tables back, as it was lent.
+    pub fn give_back(&mut self, second: Option<Tables>)
+        requires { IfSome second (λ second. second ≡ self.old.tables) }
+        ensures { self.new ≡ self.old }
+    {
+        self.tables.give_back(second);
+    }
+
+    /// Makes the changes as `commit` does. Where they are made in the second of the tables that was lent, it is what `ahead`
+    /// is, and the tables aren't copied.
+    pub fn commit_over(
+        &mut self,
+        alloc: Global,
+        changes: Changes,
+        ahead: Option<Tables>,
+    ) -> Result<(), StoreError>
+        requires { IfSome ahead (λ next. next ≡ after_all self.old.tables changes) }
+        ensures tables { OnOk result (self.new.tables ≡ after_all self.old.tables changes) }
+        ensures represented { AreFitting self.old.tables changes → IsRepresented D.shown D.may_leave self.old → OnOk result (IsRepresented D.shown D.may_leave self.new) }
+        ensures seen { AreFitting self.old.tables changes → IsRepresented D.shown D.may_leave self.old
+            → Shows (D.shown self.new.disk) (RepresentsEither self.old.tables (after_all self.old.tables changes)) }
+        ensures any_moment { AreFitting self.old.tables changes → IsRepresented D.shown D.may_leave self.old
+            → LeavesOnly D.moment D.left_since self.old.disk self.new.disk (RepresentsEither self.old.tables (after_all self.old.tables changes)) }
+        ensures answers { CommitAnswers self.old self.new (placed self.old.journal self.old.tables changes).end self.old.journal.limit (D.fault_count self.old.disk) (D.fault_count self.new.disk) result }
+        ensures steps { CommitSteps (commit_steps self.old.journal self.old.tables changes) (D.plan self.old.disk) (D.plan self.new.disk) (D.state self.old.disk) (D.state self.new.disk) (D.lack_count self.old.disk) (D.lack_count self.new.disk) result }
+        ensures journal { OnOk result (self.new.journal ≡ after_commit self.old.journal self.old.tables changes) }
+        ensures limit { self.new.journal.limit ≡ self.old.journal.limit }
+    {
         commit_on(
             alloc,
             &mut self.journal,
             &mut self.disk,
             &mut self.tables,
             &changes,
+            ahead,
         )?;
         Ok(())
     }

@@ -63,6 +63,43 @@ impl Doubled {
         Ok(())
     }
 
+    /// Lends the second of the tables, where there is one. While it is away, changes cost a copy.
+    pub fn lend(&mut self) -> Option<Tables>
+        ensures lent { IfSome result (λ second. second ≡ self.old) }
+        ensures same { self.new ≡ self.old }
+    {
+        self.second.take()
+    }
+
+    /// Takes the second back, as it was lent.
+    pub fn give_back(&mut self, second: Option<Tables>)
+        requires { IfSome second (λ second. second ≡ self.old) }
+        ensures { self.new ≡ self.old }
+    {
+        if second.is_some() {
+            self.second = second;
+        }
+    }
+
+    /// Makes all of the changes in their order, or none, as `apply` does. Where they are made in the second that was lent,
+    /// it is what `ahead` is.
+    pub fn apply_over(
+        &mut self,
+        alloc: Global,
+        changes: &[Change],
+        ahead: Option<Tables>,
+    ) -> Result<(), NoMemory>
+        requires { IfSome ahead (λ next. next ≡ after_all self.old changes.now) }
+        ensures ok { OnOk result (self.new ≡ after_all self.old changes.now) }
+        ensures err { OnErr result (self.new ≡ self.old) }
+    {
+        let Some(next) = ahead else {
+            return self.apply(alloc, changes);
+        };
+        self.take_up(alloc, next, changes, false);
+        Ok(())
+    }
+
     /// Makes the changes of a record, and tells that it did; `false` exactly where one of them doesn't fit the tables
     /// before it, or the tables after all of them aren't valid. Then none is made, and so without memory.
     pub fn make(&mut self, alloc: Global, changes: &[Change]) -> Result<bool, NoMemory>

@@ -4,7 +4,7 @@ use Rattle.std.specs.Prelude.{Ok}
 use Rattle.std.specs.List.{list_all}
 use Rattle.std.proofs.lemmas.List.Elements.{All-cons, All-head, All-nil}
 use Rattle.std.proofs.lemmas.Bool.{and_parts}
-use Rattle.vf_base.specs.declared.spdu_kind.SpduKind.TheVariants.{RS}
+use Rattle.vf_base.specs.declared.spdu_kind.SpduKind.TheVariants.{DT, RS}
 use Rattle.vf_ber.specs.Limits.{IsTooLarge}
 use Rattle.vf_ber.specs.Spelling.{spell}
 use Rattle.vf_ber.specs.Tree.{root, Tree}
@@ -59,6 +59,13 @@ refused-found results values contexts is are has small =
     pdu-found (types.universal 16) types.cpr (Refused results) contexts (λ v is_v. cpr-reads results contexts v (acse_id-fits contexts are) is_v)
     (accepted contexts) PciContext values has is refl refl is small
 
+-- of data nothing is asked but that they are within the limits of a value
+pub data_found : (values : List Carried) (contexts : List ContextEntry) → AreCarried values → ¬ IsTooLarge (written (Data values) contexts)
+    → found_in (user_data_of DT) (spell (written (Data values) contexts)) ≡ Ok (marks_of (Data values) contexts)
+data_found values contexts is small =
+    read-alone (types.application 1) types.all_data (written (Data values) contexts) (marks_of (Data values) contexts) refl refl (all_data-reads values is)
+    (record { is_tree = written-tree (Data values) contexts is; small = small })
+
 pub written_found : (p : Primitive) (contexts : List ContextEntry) → IsPrimitive p → AreContexts contexts → IsWritable p contexts → is_empty p ≡ false
     → found_in (user_data_of (carrier_of p)) (spell (written p contexts)) ≡ Ok (marks_of p contexts)
 written_found (Associate offers values) contexts is are writable some =
@@ -80,9 +87,7 @@ written_found (Released values) contexts is are writable some =
     pdu-found (types.application 1) (types.acse_data (types.application 3) types.release) Released contexts
     (λ v is_v. acse_data-reads (types.application 3) types.release contexts _ _ (acse_id-fits contexts are) refl refl (rlre-reads v is_v))
     (accepted contexts) AnyContext values writable.placed is refl refl is writable.small
-written_found (Data values) contexts is are writable some =
-    read-alone (types.application 1) types.all_data (written (Data values) contexts) (marks_of (Data values) contexts) refl refl (all_data-reads values is)
-    (record { is_tree = written-tree (Data values) contexts is; small = writable.small })
+written_found (Data values) contexts is are writable some = data_found values contexts is writable.small
 written_found (Abort []) contexts is are writable some = absurd (true≢false some)
 written_found (Abort (v ∷ values)) contexts is are writable some =
     pdu-found (types.context 0) types.aru Abort contexts (λ w is_w. aru-reads contexts w (acse_id-fits contexts are) is_w)

@@ -5,6 +5,7 @@ mod Parts
 mod Readings
 mod Measured
 mod OneValue
+mod PlainStrings
 pub mod Recovered
 pub mod Room
 mod TypesRead

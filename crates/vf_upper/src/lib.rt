@@ -10,6 +10,7 @@ mod laws;
 mod lengths;
 mod negotiated;
 mod placed;
+mod plain;
 mod presentation;
 mod primitive;
 mod reading;

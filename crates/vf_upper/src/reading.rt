@@ -1,13 +1,18 @@
 //! Finding of user data.
-ghost use Rattle.std.specs.Prelude.{◌≡◌};
+ghost use Rattle.std.specs.Prelude.{◌≡◌, ◌++◌, ◌∷◌, [], OnOk};
+ghost use Rattle.vf_upper.specs.Carried.{carried_of};
 ghost use Rattle.vf_upper.specs.Conclusions.{Answers};
 ghost use Rattle.vf_upper.specs.Primitives.{is_bare as bare, may_lack as may_be_absent, reading};
+ghost use Rattle.vf_upper_grammar.specs.MarkViews.{marks_of};
+ghost use Rattle.vf_upper_grammar.specs.Marks.{number, value as value_mark};
+ghost use Rattle.vf_upper_grammar.specs.declared.labels.NumberLabel.TheVariants.{AnyContext};
 
 use crate::conclusion::concluded;
-use crate::{Contexts, Primitive, UpperError};
+use crate::plain::plain_in;
+use crate::{CarriedValue, Contexts, Primitive, UpperError};
 use std::alloc::Global;
 use vf_base::{NoMemory, Octets, SpduKind};
-use vf_upper_grammar::{Marks, Stop, find};
+use vf_upper_grammar::{Mark, Marks, NumberLabel, Stop, find};
 
 /// A refusal or an abort may have no user data.
 fn is_bare(carrier: SpduKind, octets: &Octets) -> bool
@@ -58,6 +63,18 @@ pub fn read(
     }
 }
 
+/// Puts a value behind its context.
+fn put_carried(carried: CarriedValue, found: &mut Marks) -> Result<(), NoMemory>
+    ensures { OnOk result (marks_of found.new ≡ marks_of found.old ++ number AnyContext (carried_of carried).context ∷ value_mark (carried_of carried).tree ∷ []) }
+{
+    let CarriedValue { context, value } = carried;
+    found.push(Mark::Number {
+        label: NumberLabel::AnyContext,
+        n: context,
+    })?;
+    found.push(Mark::Value { value })
+}
+
 /// The primitive that the user data of an SPDU are, as `read` gives it; the contents of values are not copied, but
 /// shared with the user data.
 pub fn read_shared(
@@ -71,6 +88,12 @@ pub fn read_shared(
     let mut found = Marks::new(alloc);
     if is_bare(carrier, octets) {
         return concluded(alloc, carrier, contexts.as_slice(), found);
+    }
+    if let SpduKind::DT = carrier {
+        if let Some(carried) = plain_in(octets)? {
+            put_carried(carried, &mut found)?;
+            return concluded(alloc, carrier, contexts.as_slice(), found);
+        }
     }
     match find(alloc, carrier, octets, &mut found) {
         Ok(()) => concluded(alloc, carrier, contexts.as_slice(), found),

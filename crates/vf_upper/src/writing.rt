@@ -5,6 +5,7 @@ ghost use Rattle.vf_upper.specs.Written.{is_empty as lacks_data, IsWritable, use
 
 use crate::acse::{aare, aarq, abrt, acse_data, release};
 use crate::holding::{application, context, holding, holding_two, universal};
+use crate::plain::put_plain;
 use crate::presentation::{data_lists, in_mode, outcomes, proposals};
 use crate::{CarriedValues, ContextEntry, Contexts, Offers, Primitive, Results};
 use std::alloc::Global;
@@ -161,6 +162,11 @@ pub fn write(
 {
     if is_empty(primitive) {
         return Ok(());
+    }
+    if let Primitive::Data { values } = primitive {
+        if put_plain(values.as_slice(), out)? {
+            return Ok(());
+        }
     }
     let value = value_of(alloc, primitive, contexts.as_slice())?;
     match vf_ber::write(alloc, &value, out) {

@@ -11,6 +11,7 @@ use Rattle.vf_party.specs.Quiets.{IsQuiet, stage_of}
 use Rattle.vf_party.specs.Settings.{setting_of}
 use Rattle.vf_party_steps.specs.Steps.{MeetsStep, StandsIn}
 use Rattle.vf_party.specs.Trials.{ComesOf, IsBadItem}
+use Rattle.vf_party.proofs.Lent.{bad_led, comes_led}
 use Rattle.vf_party.proofs.Trials.{answered_item, left_decides, refused_item, stage_is, taken_none, taken_some}
 use Rattle.vf_party.proofs.trying.try_item.Goals as goal
 use Rattle.vf_pdu.specs.declared.pdu.Pdu.{Pdu}
@@ -62,3 +63,9 @@ returns-clause-trial c = λ state party stands represents are.
     (subst (λ (request : Pdu). MeetsStep IsQuiet tables old new state party (setting_of c.same.result) (messages.Pdu request) answer) (sym taken.same) met) in
     answered_item state party setting item tables old new answer quiet tried taken.is stands represents here meets c.take_item-answer.ensures.kept
     (subst (λ (number : ℕ). ComesOf number answer tables tried) c.number-2.ensures c.in_ok-trial-2.ensures)
+
+pub returns-in_default-clause-led : goal.returns-in_default-clause-led
+returns-in_default-clause-led c = bad_led c.args.quiet c.number.result c.plain.result c.args.tables c.in_ok-trial.trial c.in_ok-trial.ensures
+
+pub returns-clause-led : goal.returns-clause-led
+returns-clause-led c = comes_led c.number-2.result c.take_item-answer.result c.args.tables c.in_ok-trial-2.trial c.in_ok-trial-2.ensures

@@ -1,4 +1,5 @@
-use Rattle.std.proofs.Common.{◌≡◌, ◌<◌, ◌≤◌, ◌-◌, ◌∙◌, ℕ, List, length, ap, arith, refl}
+use Rattle.std.proofs.Common.{◌≡◌, ◌<◌, ◌≤◌, ◌-◌, ◌∙◌, ℕ, List, length, ap, arith, refl, subst, sym}
+use Rattle.std.specs.Prelude.{IfSome}
 use Rattle.std.proofs.lemmas.Result.{err_from_is_err_and}
 use Rattle.vf_tables.specs.Changes.{after_all}
 use Rattle.vf_tables.specs.declared.change.Change.{Change}
@@ -12,6 +13,9 @@ use Rattle.vf_store.proofs.Causes.{only_fault}
 use Rattle.vf_store.proofs.Committing.{writable}
 use Rattle.vf_store.proofs.Runs.{idle_either, idle_seen}
 use Rattle.vf_store.proofs.commit.commit_on.Goals as goal
+
+pub apply_over-requires : goal.apply_over-requires
+apply_over-requires g c = subst (λ (l : List Change). IfSome c.args.ahead (λ next. next ≡ after_all c.args.tables.now l)) (sym c.as_slice.ensures) c.requires.over
 
 pub write-requires-clause-writable : goal.write-requires-clause-writable
 write-requires-clause-writable g c =
@@ -27,8 +31,8 @@ pub returns-then-built-limit-clause-any_moment : goal.returns-then-built-limit-c
 returns-then-built-limit-clause-any_moment g c = λ fitting stands.
     idle_either g.D.Disk.shown g.D.Disk.may_leave g.D.Disk.moment g.D.Disk.left_since g.met.D.Disk.only_now c.args.disk.now c.args.journal.now c.args.tables.now (after_all c.args.tables.now c.args.changes.now) stands
 
-pub returns-in_err-apply-clause-any_moment : goal.returns-in_err-apply-clause-any_moment
-returns-in_err-apply-clause-any_moment g c = λ fitting stands.
+pub returns-in_err-apply_over-clause-any_moment : goal.returns-in_err-apply_over-clause-any_moment
+returns-in_err-apply_over-clause-any_moment g c = λ fitting stands.
     idle_either g.D.Disk.shown g.D.Disk.may_leave g.D.Disk.moment g.D.Disk.left_since g.met.D.Disk.only_now c.args.disk.now c.args.journal.now c.args.tables.now (after_all c.args.tables.now c.args.changes.now) stands
 
 pub returns-in_err-write-clause-any_moment : goal.returns-in_err-write-clause-any_moment
@@ -47,8 +51,8 @@ pub returns-then-built-limit-clause-seen : goal.returns-then-built-limit-clause-
 returns-then-built-limit-clause-seen g c = λ fitting stands.
     idle_seen g.D.Disk.shown g.D.Disk.may_leave g.D.Disk.moment g.D.Disk.left_since g.met.D.Disk.only_now c.args.disk.now c.args.journal.now c.args.tables.now (after_all c.args.tables.now c.args.changes.now) stands
 
-pub returns-in_err-apply-clause-seen : goal.returns-in_err-apply-clause-seen
-returns-in_err-apply-clause-seen g c = λ fitting stands.
+pub returns-in_err-apply_over-clause-seen : goal.returns-in_err-apply_over-clause-seen
+returns-in_err-apply_over-clause-seen g c = λ fitting stands.
     idle_seen g.D.Disk.shown g.D.Disk.may_leave g.D.Disk.moment g.D.Disk.left_since g.met.D.Disk.only_now c.args.disk.now c.args.journal.now c.args.tables.now (after_all c.args.tables.now c.args.changes.now) stands
 
 pub returns-in_err-write-clause-seen : goal.returns-in_err-write-clause-seen
@@ -64,7 +68,7 @@ returns-clause-ok g c = λ fitting stands.
     c.in_ok-write.ensures.ok c.args.tables.now (after_all c.args.tables.now c.args.changes.now) (rw c.as_slice-2.ensures.value (c.in_ok-built.ensures.leads stands.records stands.making fitting)) stands
 
 pub returns-clause-tables : goal.returns-clause-tables
-returns-clause-tables g c = c.in_ok-apply.ensures.ok ∙ ap (λ (l : List Change). after_all c.args.tables.now l) c.as_slice.ensures
+returns-clause-tables g c = c.in_ok-apply_over.ensures.ok ∙ ap (λ (l : List Change). after_all c.args.tables.now l) c.as_slice.ensures
 
 pub returns-then-built-limit-clause-answers : goal.returns-then-built-limit-clause-answers
 returns-then-built-limit-clause-answers g c =
