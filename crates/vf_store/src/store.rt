@@ -165,7 +165,7 @@ impl<D: Disk> Store<D> {
         ensures journal { OnOk result (self.new.journal ≡ after_commit self.old.journal self.old.tables changes) }
         ensures limit { self.new.journal.limit ≡ self.old.journal.limit }
     {
-        return self.commit_over(alloc, changes, None);
+        self.commit_over(alloc, changes, None)
     }
 
     /// Lends a second of the tables, where the store has one, in which changes are made before they are committed. While it
