@@ -205,6 +205,16 @@ impl Session {
         self.advance(self.side, say);
     }
 
+    /// The same by data that pass no token, whatever octets they have.
+    pub fn join_data(&mut self)
+        ensures trace { (octets : List ℕ) (trace : Trace) → IsTrue (may_say self.old.side self.old.offer self.old.state (SessionSay.Data false octets)) → Represents self.old trace
+            → Represents self.new (with_sent self.old.side (SessionSay.Data false octets) trace) }
+        ensures state { (octets : List ℕ) → self.new ≡ kept_after self.old.side self.old (SessionSay.Data false octets) }
+        ensures end { IsSameEnd self.old self.new }
+    {
+        self.before = self.state.token;
+    }
+
     /// Which end it is.
     pub fn side(&self) -> TokenSide
         ensures { result ≡ self.now.side }

@@ -36,6 +36,11 @@ abbrev pub Puts : List Carried → (done : Bool) → List ℕ → List ℕ → T
 Puts values true out out' = out' ≡ out ++ spell (user_data (map carried_list values))
 Puts values false out out' = out' ≡ out
 
+-- What stands before so many octets of a string was appended, whatever octets these are, or nothing was.
+abbrev pub PutsFront : (context : ℤ) → (class count : ℕ) → (done : Bool) → List ℕ → List ℕ → Type 0
+PutsFront context class count true out out' = (octets : List ℕ) → length octets ≡ count → out' ++ octets ≡ out ++ spell (string_data context class octets)
+PutsFront context class count false out out' = out' ≡ out
+
 -- In data this value is found, and its context before it.
 abbrev pub IsAlone : List ℕ → Carried → Type 0
 IsAlone octets carried = found_in (user_data_of DT) octets ≡ Ok (number AnyContext carried.context ∷ value carried.tree ∷ [])

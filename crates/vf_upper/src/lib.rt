@@ -27,6 +27,7 @@ pub use laws::{
 };
 pub use lengths::{acceptance_length, data_length, refusal_length};
 pub use placed::is_writable;
+pub use plain::put_front;
 pub use primitive::Primitive;
 pub use reading::{read, read_shared};
 pub use results::Results;

@@ -4,7 +4,7 @@
 ghost use Rattle.std.specs.Prelude.{◌≡◌, ◌<◌, ◌≤◌, ◌∷◌, ◌++◌, [], IfOk, IfSome, IsTrue, OnErr, OnOk, length, map};
 ghost use Rattle.vf_ber.specs.Contents.{integer_octets};
 ghost use Rattle.vf_upper.specs.Carried.{carried_of};
-ghost use Rattle.vf_upper.specs.PlainData.{IsAlone, Puts, front as front_meant};
+ghost use Rattle.vf_upper.specs.PlainData.{IsAlone, Puts, PutsFront, front as front_meant};
 
 use crate::CarriedValue;
 use vf_base::{NoMemory, Octets};
@@ -127,6 +127,23 @@ fn put_value(carried: &CarriedValue, out: &mut Vec<u8>) -> Result<bool, NoMemory
         return Ok(false);
     }
     put_string(id, class, octets.as_slice(), out)?;
+    Ok(true)
+}
+
+/// Appends what stands before so many octets of a string, where data of it alone are spelled so: its tag is universal and of this
+/// number, and it stands in the context with this identifier. Says whether they are. Without memory nothing is appended.
+#[tactic(auto, using(crate::proofs::PlainStrings::data_spelled))]
+pub fn put_front(context: i64, class: u8, count: usize, out: &mut Vec<u8>) -> Result<bool, NoMemory>
+    ensures done { IfOk result (λ done. PutsFront context class count done out.old.items out.new.items) }
+    ensures err { OnErr result (out.new.items ≡ out.old.items) }
+{
+    let Some(id) = one_octet(context) else {
+        return Ok(false);
+    };
+    if !is_plain(class, count) {
+        return Ok(false);
+    }
+    out.extend_from_slice(&front(id, class, count))?;
     Ok(true)
 }
 
