@@ -44,11 +44,12 @@ fn names(contexts: &[ContextEntry], id: i64, syntax: &[u32]) -> bool
 }
 
 /// The first context of this abstract syntax.
+#[tactic(auto, using(crate::proofs::PlacingLemmas::found_soon))]
 fn id_of(contexts: &[ContextEntry], syntax: &[u32]) -> Option<i64>
     ensures { result ≡ first_id syntax.now contexts.now }
 {
     for entry in contexts {
-        if names(contexts, entry.id, syntax) {
+        if entry.syntax.arcs() == syntax && names(contexts, entry.id, syntax) {
             return Some(entry.id);
         }
     }
