@@ -23,3 +23,5 @@ pub mod RequestLemmas
 pub mod ValueLemmas
 pub mod ItselfLemmas
 pub mod HeadLemmas
+pub mod StringLemmas
+pub mod PlacingLemmas

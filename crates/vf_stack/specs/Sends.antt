@@ -1,15 +1,16 @@
 -- What the calls that send owe, by what a stack keeps.
-use Rattle.std.specs.Prelude.{◌≡◌, ℕ, IsTrue, List, ◌++◌, Option, None, Some}
+use Rattle.std.specs.Prelude.{◌≡◌, ℕ, false, IsTrue, List, ◌++◌, Option, None, Some}
 use Rattle.vf_pdu.specs.PduMeaning.{IsInRange}
 use Rattle.vf_pdu.specs.declared.pdu.Pdu.{Pdu}
 use Rattle.vf_session.specs.Trace.{state, with_sent}
 use Rattle.vf_session.specs.declared.units.SessionSay.{SessionSay}
+use Rattle.vf_session.specs.declared.units.SessionSay.TheVariants.{Data}
 use Rattle.vf_session.specs.declared.units.TokenSide.{TokenSide}
 use Rattle.vf_stack.specs.Association.{Association, Exchange}
 use Rattle.vf_stack.specs.Requests.{unit_of}
 use Rattle.vf_stack.specs.Represents.{IsInSession, Kept, Represents, Stands, side_of, standing_of}
 pub use Rattle.vf_stack.specs.Represents.{IsSame}
-use Rattle.vf_stack.specs.Sending.{IsSendable, ending_after, octets_sent, permits, with_request, with_sent_unit}
+use Rattle.vf_stack.specs.Sending.{IsSendable, ending_after, octets_sent, permits, tsdu_of, with_request, with_sent_unit}
 use Rattle.vf_stack.specs.declared.exchange.KeptExchange.{KeptExchange}
 use Rattle.vf_stack.specs.declared.request.Request.{Request}
 use Rattle.vf_tpkt.specs.Sending.{stands}
@@ -44,6 +45,12 @@ pub record Advances (kept : KeptExchange) (unit : SessionSay) (kept' : KeptExcha
 -- The unit joined every exchange that may be kept so.
 abbrev pub Joins : KeptExchange → SessionSay → KeptExchange → Type 0
 Joins kept unit kept' = (x : Exchange) → Stands kept x → Stands kept' (with_sent_unit kept.session.side x unit)
+
+-- What stands in a request's TSDU before a string was appended; it is data that pass no token.
+pub record PutsHead (kept : KeptExchange) (request : Request) (string head head' : List ℕ) : Type 0 where
+  pub octets : List ℕ
+  pub unit_is : unit_kept kept request ≡ Data false octets
+  pub together : head' ++ string ≡ head ++ tsdu_of kept.session.side (unit_kept kept request)
 
 -- The octets of the request were appended, and the association with it is represented.
 pub record Sends (own : TokenSide) (a : Association) (request : Request) (out : List ℕ) (kept' : Kept) (out' : List ℕ) : Type 0 where

@@ -14,6 +14,7 @@ mod may;
 mod placing;
 mod request;
 mod stack;
+mod string;
 mod told;
 mod unit;
 mod writing;

@@ -1,5 +1,5 @@
 //! One end of an association: what it receives, and what it sends.
-ghost use Rattle.std.specs.Prelude.{◌≡◌, ◌↔◌, ◌+◌, ◌++◌, ◌≤◌, [], IfOk, IsTrue, List, OnErr, OnOk, length, ℕ};
+ghost use Rattle.std.specs.Prelude.{◌≡◌, ◌↔◌, ◌+◌, ◌++◌, ◌≤◌, [], IfOk, IsTrue, List, OnErr, OnOk, false, length, true, ℕ};
 ghost use Rattle.vf_stack.specs.Association.{Association, beginning, is_ended as is_over};
 ghost use Rattle.vf_stack.specs.Pieces.{TellOnce};
 ghost use Rattle.vf_stack.specs.Receiving.{octets_received, piece_received};
@@ -166,11 +166,54 @@ impl Stack {
         ensures end { IsSame self.old.exchange self.new.exchange }
         ensures err { OnErr result ((self.new ≡ self.old) × (out.new.items ≡ out.old.items)) }
     {
+        let is_sent = self.send_string(alloc, request, out)?;
+        if is_sent {
+            Ok(())
+        } else {
+            self.send_unit(alloc, request, out)
+        }
+    }
+
+    /// Sends a request by its unit.
+    fn send_unit(
+        &mut self,
+        alloc: Global,
+        request: &Request,
+        out: &mut Vec<u8>,
+    ) -> Result<(), NoMemory>
+        requires { MaySend self.old request.now }
+        ensures sent { (a : Association) → Represents self.old a → OnOk result (Sends (side_of self.old) a request.now out.old.items self.new out.new.items) }
+        ensures end { IsSame self.old.exchange self.new.exchange }
+        ensures err { OnErr result ((self.new ≡ self.old) × (out.new.items ≡ out.old.items)) }
+    {
         let unit = self.exchange.unit_of(alloc, request)?;
         let offers = self.exchange.offers_of(alloc, &unit)?;
         self.put_packets(alloc, &unit, out)?;
         self.exchange.join_sent(&unit, offers);
         Ok(())
+    }
+
+    /// Sends a request that is P-DATA of one string, where that is spelled as nearly all are; says whether it is.
+    fn send_string(
+        &mut self,
+        alloc: Global,
+        request: &Request,
+        out: &mut Vec<u8>,
+    ) -> Result<bool, NoMemory>
+        requires { MaySend self.old request.now }
+        ensures sent { (a : Association) → Represents self.old a → IfOk result (λ done. done ≡ true → Sends (side_of self.old) a request.now out.old.items self.new out.new.items) }
+        ensures not { IfOk result (λ done. done ≡ false → (self.new ≡ self.old) × (out.new.items ≡ out.old.items)) }
+        ensures end { IsSame self.old.exchange self.new.exchange }
+        ensures err { OnErr result ((self.new ≡ self.old) × (out.new.items ≡ out.old.items)) }
+    {
+        let mut head = Vec::new(alloc);
+        let Some(string) = self.exchange.put_before(request, &mut head)? else {
+            return Ok(false);
+        };
+        self.transport
+            .wrap_joined(alloc, head.as_slice(), string.as_slice(), out)?;
+        self.exchange.join_data();
+        Ok(true)
     }
 
     /// Appends the packets of a unit of session.

@@ -1,6 +1,6 @@
 //! The units of requests, and what sending them leaves.
 ghost use Rattle.std.specs.List.{AllByRecursion, flat_map};
-ghost use Rattle.std.specs.Prelude.{◌≡◌, ◌++◌, IfOk, IsTrue, OnOk};
+ghost use Rattle.std.specs.Prelude.{◌≡◌, ◌++◌, false, IfOk, IsTrue, List, ℕ, OnOk};
 ghost use Rattle.vf_pdu.specs.PduNumbers.{number_of};
 ghost use Rattle.vf_session.specs.Sending.{fits, holds_token, spdus};
 ghost use Rattle.vf_session.specs.Trace.{other as other_side};
@@ -26,7 +26,7 @@ use vf_session::{
 use vf_upper::{Contexts, Offers};
 
 /// What stands before data that pass no token, as those of each element: a GT and a DT, neither of which has a parameter.
-const PLAIN: [u8; 4] = [1, 0, 1, 0];
+pub(crate) const PLAIN: [u8; 4] = [1, 0, 1, 0];
 
 /// Whether sync is agreed where the connection stands, and this end has the token.
 pub(crate) fn has_token(state: &SessionState, own: TokenSide) -> bool
@@ -325,5 +325,13 @@ impl KeptExchange {
         if !matches!(ending, Ending::Open) {
             self.ending = ending;
         }
+    }
+
+    /// Data that pass no token and were sent join what is kept, whatever octets they have.
+    pub(crate) fn join_data(&mut self)
+        ensures joined { (octets : List ℕ) → IsPermitted self.old (SessionSay.Data false octets) → Joins self.old (SessionSay.Data false octets) self.new }
+        ensures end { IsSame self.old self.new }
+    {
+        self.session.join_data();
     }
 }

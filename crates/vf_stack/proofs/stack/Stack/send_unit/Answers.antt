@@ -5,7 +5,7 @@ use Rattle.vf_stack.specs.Represents.{IsSame, Kept, side_of}
 use Rattle.vf_stack.specs.Sending.{tsdu_of}
 use Rattle.vf_stack.specs.Sends.{IsPermitted, Joins, unit_kept}
 use Rattle.vf_stack.proofs.SendLemmas.{sends-all}
-use Rattle.vf_stack.proofs.stack.Stack.send.Goals as goal
+use Rattle.vf_stack.proofs.stack.Stack.send_unit.Goals as goal
 
 pub put_packets-requires : goal.put_packets-requires
 put_packets-requires c =
