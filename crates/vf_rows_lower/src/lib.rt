@@ -5,6 +5,8 @@
 #[cfg(test)]
 mod octets;
 #[cfg(test)]
+mod session;
+#[cfg(test)]
 mod spdus;
 #[cfg(test)]
 mod upper;

@@ -5,7 +5,7 @@ use vf_base::{Octets, Oid, SpduKind};
 use vf_ber::{Tag, Value};
 use vf_upper::{
     CarriedValue, CarriedValues, ContextEntry, Contexts, Primitive, Results, is_writable,
-    read_shared, write,
+    put_front, read_shared, write,
 };
 use vf_upper_grammar::{
     Mark, Marks, NameLabel, NumberLabel, Stop, find, is_acse, is_ber, is_ftam, is_ours, is_pci,
@@ -214,6 +214,30 @@ fn carried_string(alloc: Global, string: &[u8]) -> Result<Option<Octets>, Fail> 
         return Ok(None);
     };
     Ok(vf_ber::octets(alloc, &carried.value)?)
+}
+
+/// Whether what stands before a string of so many octets is put at once, and how many octets it has.
+fn front_of(alloc: Global, context: i64, len: usize) -> Result<(bool, usize), Fail> {
+    let mut front = Vec::new(alloc);
+    let done = put_front(context, 4, len, &mut front)?;
+    Ok((done, front.len()))
+}
+
+#[test]
+fn what_stands_before_a_string_is_put_at_once(rt: HostRuntime) -> Result<(), Fail> {
+    let mut front = Vec::new(rt.alloc());
+    assert!(rt; put_front(3, 4, 258, &mut front)?);
+    let octets = [
+        0x61, 130, 1, 17, 0x30, 130, 1, 13, 2, 1, 3, 0xA0, 130, 1, 6, 4, 130, 1, 2,
+    ];
+    assert!(rt; front.as_slice() == octets.as_slice());
+    for (context, len) in [(3, 255), (3, 65_521), (128, 256), (-1, 256)] {
+        assert!(rt;
+            front_of(rt.alloc(), context, len)? == (false, 0),
+            "{context} {len}"
+        );
+    }
+    Ok(())
 }
 
 #[test]
