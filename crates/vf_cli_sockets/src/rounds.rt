@@ -13,6 +13,9 @@ const MOST_OCTETS: usize = 65_536;
 /// A stream that was ended is closed after so many rounds in which nothing came on it.
 const MOST_QUIET: u32 = 1_000;
 
+/// Of so many rounds one visits the port, whatever is known of it.
+const MOST_AWAY: u32 = 16;
+
 /// So many streams that were ended are kept; one more is closed at once.
 const MOST_ENDED: usize = 64;
 
@@ -48,7 +51,8 @@ impl Ended {
 }
 
 /// A port, and the streams that came to it, which are visited in rounds, each once. A round in which nothing came is idle, and
-/// waits for a millisecond, or until something comes.
+/// waits for a millisecond, or until something comes. The port is visited while streams wait there, after a wait that no stream
+/// has ended, and else seldom: the system makes a stream for each such call before it finds that none waits.
 ///
 /// A stream that is shut is closed once its peer has ended it too, or has been quiet for long: one that is closed over octets
 /// that weren't read may take what was sent last away from the peer.
@@ -66,6 +70,10 @@ pub(crate) struct Rounds {
     buffer: Vec<u8>,
     /// Whether the port was visited in this round.
     listened: bool,
+    /// Whether a stream may wait at the port.
+    knocks: bool,
+    /// So many rounds have ended, up to the number of those of which one visits the port.
+    away: u32,
     /// So many of the streams were visited in this round.
     place: usize,
     /// Whether nothing came in this round.
@@ -82,7 +90,7 @@ impl Rounds {
         let waking = Waking::new(rt);
         let mut listener = listener;
         if let Some(listener) = &mut listener {
-            waking.watch(listener);
+            waking.watch_port(listener);
         }
         Rounds {
             rt: *rt,
@@ -92,6 +100,8 @@ impl Rounds {
             ended: Vec::new(rt.alloc()),
             buffer: Vec::new(rt.alloc()),
             listened: false,
+            knocks: true,
+            away: 0,
             place: 0,
             quiet: true,
             idle: 0,
@@ -167,11 +177,12 @@ impl Rounds {
         requires { piece.old.items ≡ [] }
         ensures { IfOk result (λ came. MayCome links piece.new.items came) }
     {
-        if !self.listened {
+        if self.knocks && !self.listened {
             self.listened = true;
             if let Some(event) = self.accept(links)? {
                 return Ok(Some(event));
             }
+            self.knocks = false;
         }
         for _ in self.place..self.streams.len() {
             if let Some(event) = self.visit(links, piece)? {
@@ -201,8 +212,10 @@ impl Rounds {
         self.pass_over();
         if self.quiet {
             self.idle = self.idle.saturating_add(1);
-            self.waking.wait();
+            self.knocks |= self.waking.wait();
         }
+        self.away = self.away.saturating_add(1) % MOST_AWAY;
+        self.knocks |= self.away == 0;
         self.listened = false;
         self.place = 0;
         self.quiet = true;

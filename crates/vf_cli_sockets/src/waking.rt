@@ -1,12 +1,18 @@
 //! What ends the wait of a round in which nothing came.
 use crate::streams::sleep;
 use mio::event::Source;
+use mio::net::{TcpListener, TcpStream};
 use mio::{Events, Interest, Poll, Token};
 use std::net::Net;
 use std::time::Duration;
 
-/// So many events are taken at once. What they tell isn't looked at, since a round visits all streams.
+/// So many events are taken at once. Of streams what they tell isn't looked at, since a round visits all of them.
 const MOST_EVENTS: usize = 64;
+
+/// What is told of the port, and of streams.
+const PORT: Token = Token(0);
+
+const STREAM: Token = Token(1);
 
 /// The system's wait for events, and room for them.
 #[derive(Drop)]
@@ -31,35 +37,49 @@ impl Waking {
         }
     }
 
-    /// Watches a port or a stream. Where this fails, what comes there is only found later.
-    pub(crate) fn watch<S: Source>(&self, source: &mut S) {
+    /// Watches the port. Where this fails, a stream that comes there is only found later.
+    pub(crate) fn watch_port(&self, listener: &mut TcpListener) {
+        self.register(listener, PORT);
+    }
+
+    /// Watches a stream. Where this fails, what comes there is only found later.
+    pub(crate) fn watch(&self, stream: &mut TcpStream) {
+        self.register(stream, STREAM);
+    }
+
+    fn register<S: Source>(&self, source: &mut S, token: Token) {
         if let Some(Waiting { poll, .. }) = &self.waiting {
-            let _ = poll
-                .registry()
-                .register(source, Token(0), Interest::READABLE);
+            let _ = poll.registry().register(source, token, Interest::READABLE);
         }
     }
 
     /// Watches it no more.
-    pub(crate) fn leave<S: Source>(&self, source: &mut S) {
+    pub(crate) fn leave(&self, stream: &mut TcpStream) {
         if let Some(Waiting { poll, .. }) = &self.waiting {
-            let _ = poll.registry().deregister(source);
+            let _ = poll.registry().deregister(stream);
         }
     }
 
-    /// Waits.
-    pub(crate) fn wait(&mut self) {
-        if !self.has_waited() {
-            sleep(&self.rt);
+    /// Waits. False where something came, and nothing on the port.
+    pub(crate) fn wait(&mut self) -> bool {
+        match self.has_waited() {
+            Some(knocks) => knocks,
+            None => {
+                sleep(&self.rt);
+                true
+            }
         }
     }
 
-    /// Waits for events, where the system does.
-    fn has_waited(&mut self) -> bool {
+    /// Waits for events, where the system does; whether none came, or one on the port.
+    fn has_waited(&mut self) -> Option<bool> {
         let Some(Waiting { poll, events }) = &mut self.waiting else {
-            return false;
+            return None;
         };
-        poll.poll(events, Some(Duration::from_millis(1))).is_ok()
+        if poll.poll(events, Some(Duration::from_millis(1))).is_err() {
+            return None;
+        }
+        Some(events.is_empty() || events.iter().any(|event| event.token() == PORT))
     }
 }
 
