@@ -4,114 +4,162 @@ use std::io::{Read, Write};
 use std::net::TcpStream;
 use vf_base::{Dial, LinkEvent, Links};
 
+/// Links over a port, and the octets that came last.
+#[derive(Drop)]
+struct Port {
+    rt: HostRuntime,
+    links: SocketLinks,
+    port: u16,
+    piece: Vec<u8>,
+}
+
+impl Port {
+    fn open(rt: &HostRuntime) -> anyhow::Result<Port> {
+        let listener = listen(rt, 0)?;
+        let port = listener.local_addr()?.port();
+        Ok(Port {
+            rt: *rt,
+            links: SocketLinks::over(rt, Some(listener), 50),
+            port,
+            piece: Vec::new(rt.alloc()),
+        })
+    }
+
+    /// What comes next on which link: it has arrived, octets, its end; or that they are through, or a fault.
+    fn next(&mut self) -> (u8, u32) {
+        match self.links.next(self.rt.alloc(), &mut self.piece) {
+            Ok(LinkEvent::Arrived { link }) => (b'a', link),
+            Ok(LinkEvent::Octets { link, .. }) => (b'o', link),
+            Ok(LinkEvent::Ended { link }) => (b'e', link),
+            Ok(LinkEvent::Done) => (b'd', 0),
+            Err(_) => (b'f', 0),
+        }
+    }
+
+    /// A peer that has sent octets.
+    fn peer(&self, octets: &[u8]) -> anyhow::Result<TcpStream> {
+        let mut peer = TcpStream::connect(&self.rt, ("127.0.0.1", self.port))?;
+        peer.write_all(octets)?;
+        Ok(peer)
+    }
+
+    /// Whether these octets, and no others, come to a peer up to the stream's end.
+    fn comes_to(&self, peer: &mut TcpStream, octets: &[u8]) -> anyhow::Result<bool> {
+        let mut heard = Vec::new(self.rt.alloc());
+        peer.read_to_end(&mut heard)?;
+        Ok(heard.as_slice() == octets)
+    }
+}
+
 #[test]
 fn streams_are_links(rt: HostRuntime) -> anyhow::Result<()> {
-    let alloc = rt.alloc();
-    let listener = listen(&rt, 0)?;
-    let port = listener.local_addr()?.port();
-    let mut links = SocketLinks::over(&rt, Some(listener), 50);
-    let mut piece = Vec::new(alloc);
-
-    let mut peer = TcpStream::connect(&rt, ("127.0.0.1", port))?;
-    peer.write_all(b"ab")?;
-    assert_eq!(rt;
-        links.next(alloc, &mut piece),
-        Ok(LinkEvent::Arrived { link: 1 })
-    );
-    let came = links.next(alloc, &mut piece);
-    assert!(rt; matches!(came, Ok(LinkEvent::Octets { link: 1, .. })));
-    assert_eq!(rt; piece.as_slice(), b"ab".as_slice());
-
-    // What is sent and a shut come in this order, and a link that was shut takes no more.
-    assert_eq!(rt; links.send(1, b"cd"), Ok(()));
-    links.shut(1);
-    assert!(rt; links.send(1, b"e").is_err());
-    assert_eq!(rt; links.send_faults(), 1);
-    let mut heard = Vec::new(alloc);
-    peer.read_to_end(&mut heard)?;
-    assert_eq!(rt; heard.as_slice(), b"cd".as_slice());
-
-    // A link that is shut over octets that weren't read still takes what was sent on it.
-    let mut peer = TcpStream::connect(&rt, ("127.0.0.1", port))?;
-    peer.write_all(vec![in alloc; 7_u8; 300_000]?.as_slice())?;
-    assert_eq!(rt;
-        links.next(alloc, &mut piece),
-        Ok(LinkEvent::Arrived { link: 2 })
-    );
-    let came = links.next(alloc, &mut piece);
-    assert!(rt; matches!(came, Ok(LinkEvent::Octets { link: 2, .. })));
-    assert_eq!(rt; links.send(2, b"cd"), Ok(()));
-    links.shut(2);
-
+    let mut port = Port::open(&rt)?;
+    let _peer = port.peer(b"ab")?;
+    assert!(rt; port.next() == (b'a', 1) && port.next() == (b'o', 1));
+    assert_eq!(rt; port.piece.as_slice(), b"ab".as_slice());
     // Another stream has the next number; its end is told; then nothing comes, and the links are through.
-    drop(TcpStream::connect(&rt, ("127.0.0.1", port))?);
-    assert_eq!(rt;
-        links.next(alloc, &mut piece),
-        Ok(LinkEvent::Arrived { link: 3 })
-    );
-    assert_eq!(rt;
-        links.next(alloc, &mut piece),
-        Ok(LinkEvent::Ended { link: 3 })
-    );
-    assert_eq!(rt; links.next(alloc, &mut piece), Ok(LinkEvent::Done));
-    assert_eq!(rt; piece.len(), 0);
-    assert_eq!(rt; links.faults(), 0);
-    drop(links);
-    let mut heard = Vec::new(alloc);
-    peer.read_to_end(&mut heard)?;
-    assert_eq!(rt; heard.as_slice(), b"cd".as_slice());
-
-    // Over no port each call fails.
-    let mut none = SocketLinks::none(&rt);
-    assert!(rt; none.next(alloc, &mut piece).is_err());
-    assert_eq!(rt; none.faults(), 1);
+    drop(port.peer(b"")?);
+    assert!(rt; port.next() == (b'a', 2) && port.next() == (b'e', 2));
+    assert!(rt; port.next() == (b'd', 0) && port.piece.is_empty());
+    assert_eq!(rt; port.links.faults(), 0);
     Ok(())
 }
 
 #[test]
-fn a_stream_is_dialled(rt: HostRuntime) -> anyhow::Result<()> {
-    let alloc = rt.alloc();
-    let listener = listen(&rt, 0)?;
-    let port = listener.local_addr()?.port();
-    let mut links = SocketLinks::over(&rt, Some(listener), 50);
-    let mut piece = Vec::new(alloc);
-    let mut heard = [0; 8];
-
-    let mut dial = SocketDial::new(&rt, "127.0.0.1", port);
-    assert_eq!(rt; dial.connect(), Ok(()));
-    assert_eq!(rt; dial.send(b"ab"), Ok(()));
-    let came = links.next(alloc, &mut piece);
-    assert_eq!(rt; came, Ok(LinkEvent::Arrived { link: 1 }));
-    let came = links.next(alloc, &mut piece);
-    assert!(rt; matches!(came, Ok(LinkEvent::Octets { link: 1, .. })));
-    assert_eq!(rt; piece.as_slice(), b"ab".as_slice());
-    assert_eq!(rt; links.send(1, b"cde"), Ok(()));
-    assert_eq!(rt; dial.read(&mut heard), Ok(3));
-    assert_eq!(rt; heard, *b"cde\0\0\0\0\0");
-    assert_eq!(rt; dial.lost(), 0);
-
-    // The end of the stream is no fault, and the connection is lost.
-    links.shut(1);
-    assert_eq!(rt; dial.read(&mut heard), Ok(0));
-    assert_eq!(rt; dial.lost(), 1);
-    assert_eq!(rt; dial.faults(), 0);
-
-    // A connection that is closed isn't lost, and its peer is told.
-    assert_eq!(rt; dial.connect(), Ok(()));
-    dial.close();
-    assert_eq!(rt; dial.lost(), 1);
-    let came = links.next(alloc, &mut piece);
-    assert_eq!(rt; came, Ok(LinkEvent::Arrived { link: 2 }));
-    let came = links.next(alloc, &mut piece);
-    assert_eq!(rt; came, Ok(LinkEvent::Ended { link: 2 }));
-
-    // Where nobody listens, and over no host, a connect fails.
-    drop(links);
-    assert!(rt; dial.connect().is_err());
-    assert_eq!(rt; dial.lost(), 2);
-    assert_eq!(rt; dial.faults(), 1);
-    let mut none = SocketDial::none(&rt);
-    assert!(rt; none.connect().is_err());
-    assert_eq!(rt; none.faults(), 1);
+fn streams_that_wait_arrive_one_after_another(rt: HostRuntime) -> anyhow::Result<()> {
+    let mut port = Port::open(&rt)?;
+    let mut peers = Vec::new(rt.alloc());
+    for _ in 0..40 {
+        peers.push(port.peer(b"")?)?;
+    }
+    for link in 1..=40 {
+        assert!(rt; port.next() == (b'a', link));
+    }
     Ok(())
+}
+
+#[test]
+fn a_link_that_is_shut_takes_no_more(rt: HostRuntime) -> anyhow::Result<()> {
+    let mut port = Port::open(&rt)?;
+    let mut peer = port.peer(b"ab")?;
+    assert!(rt; port.next() == (b'a', 1) && port.next() == (b'o', 1));
+    assert_eq!(rt; port.links.send(1, b"cd"), Ok(()));
+    port.links.shut(1);
+    assert!(rt; port.links.send(1, b"e").is_err() && port.links.send_faults() == 1);
+    assert!(rt; port.comes_to(&mut peer, b"cd")?);
+    Ok(())
+}
+
+#[test]
+fn what_was_sent_comes_over_octets_that_werent_read(rt: HostRuntime) -> anyhow::Result<()> {
+    let mut port = Port::open(&rt)?;
+    let mut peer = port.peer(vec![in rt.alloc(); 7_u8; 300_000]?.as_slice())?;
+    assert!(rt; port.next() == (b'a', 1) && port.next() == (b'o', 1));
+    assert_eq!(rt; port.links.send(1, b"cd"), Ok(()));
+    port.links.shut(1);
+    assert!(rt; port.next() == (b'd', 0));
+    assert!(rt; port.comes_to(&mut peer, b"cd")?);
+    Ok(())
+}
+
+#[test]
+fn over_no_port_each_call_fails(rt: HostRuntime) {
+    let mut none = SocketLinks::none(&rt);
+    let mut piece = Vec::new(rt.alloc());
+    assert!(rt; none.next(rt.alloc(), &mut piece).is_err() && none.faults() == 1);
+}
+
+#[test]
+fn a_stream_is_dialled(rt: HostRuntime) -> anyhow::Result<()> {
+    let mut port = Port::open(&rt)?;
+    let mut dial = SocketDial::new(&rt, "127.0.0.1", port.port);
+    assert!(rt; dial.connect().is_ok() && dial.send(b"ab").is_ok());
+    assert!(rt; port.next() == (b'a', 1) && port.next() == (b'o', 1));
+    assert_eq!(rt; port.piece.as_slice(), b"ab".as_slice());
+    assert_eq!(rt; port.links.send(1, b"cde"), Ok(()));
+    let mut heard = [0; 8];
+    assert!(rt; dial.read(&mut heard) == Ok(3) && dial.lost() == 0);
+    assert_eq!(rt; heard, *b"cde\0\0\0\0\0");
+    Ok(())
+}
+
+#[test]
+fn a_stream_that_ends_is_lost(rt: HostRuntime) -> anyhow::Result<()> {
+    let mut port = Port::open(&rt)?;
+    let mut dial = SocketDial::new(&rt, "127.0.0.1", port.port);
+    assert!(rt; dial.connect().is_ok() && port.next() == (b'a', 1));
+    port.links.shut(1);
+    let mut heard = [0; 8];
+    // Its end is no fault.
+    assert!(rt; dial.read(&mut heard) == Ok(0));
+    assert!(rt; dial.lost() == 1 && dial.faults() == 0);
+    Ok(())
+}
+
+#[test]
+fn a_stream_that_is_closed_isnt_lost(rt: HostRuntime) -> anyhow::Result<()> {
+    let mut port = Port::open(&rt)?;
+    let mut dial = SocketDial::new(&rt, "127.0.0.1", port.port);
+    assert!(rt; dial.connect().is_ok());
+    dial.close();
+    assert!(rt; dial.lost() == 0 && dial.faults() == 0);
+    // Its peer is told.
+    assert!(rt; port.next() == (b'a', 1) && port.next() == (b'e', 1));
+    Ok(())
+}
+
+#[test]
+fn a_connect_fails_where_nobody_listens(rt: HostRuntime) -> anyhow::Result<()> {
+    let port = Port::open(&rt)?;
+    let mut dial = SocketDial::new(&rt, "127.0.0.1", port.port);
+    drop(port);
+    assert!(rt; dial.connect().is_err());
+    assert!(rt; dial.lost() == 1 && dial.faults() == 1);
+    Ok(())
+}
+
+#[test]
+fn over_no_host_each_connect_fails(rt: HostRuntime) {
+    let mut none = SocketDial::none(&rt);
+    assert!(rt; none.connect().is_err() && none.faults() == 1);
 }
