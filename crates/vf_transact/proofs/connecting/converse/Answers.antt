@@ -80,7 +80,7 @@ returns-in-Ended-clause-through g c = λ plan kept before output begun.
     let after = counts_by c.send-stands.result counts (g.C.Dial.fault_count c.hear.new.dial) (g.C.Dial.lost_count c.hear.new.dial) seen.counts.faults seen.counts.lost (c.in-Some.ensures.faults ∙ c.loop.invariant.faults) (c.in-Some.ensures.lost ∙ c.loop.invariant.lost)
     c.send-stands.ensures.faults c.send-stands.ensures.lost in
     ends_well g.D.Disk.shown g.D.Disk.may_leave g.D.Disk.moment g.D.Disk.left_since plan kept before output c.args.kind c.args.store.now (c.loop.counter + 1) c.take_piece.new.initiator seen c.take_piece.new.store counts c.in_ok-doing.doing c.send-stands.result c.as_slice-in-Ended.result.now c.octets_of_all-octets.result taken c.in-Ended.is
-    (λ talk represents. c.as_slice-in-Ended.ensures ∙ c.elements.ensures talk represents) c.octets_of_all-octets.ensures after.1 after.0
+    (λ talk represents. c.as_slice-in-Ended.ensures ∙ c.elements.ensures.all talk represents) c.octets_of_all-octets.ensures after.1 after.0
 
 pub returns-then-not-stands-clause-through : goal.returns-then-not-stands-clause-through
 returns-then-not-stands-clause-through g c = λ plan kept before output begun.
