@@ -1,10 +1,10 @@
 //! Octets that stand in parts, so that long strings need no copy.
 ghost use Rattle.std.specs.Prelude.{◌≡◌, ◌+◌, ◌≤◌, ◌∷◌, ◌++◌, [], IfOk, OnOk, OnErr, length, nat_eq};
-ghost use Rattle.vf_disk.specs.Disk.{overwritten};
+ghost use Rattle.vf_disk.specs.Disk.{greatest_length, overwritten};
 ghost use Rattle.vf_disk.specs.Parts.{loose};
 
-use crate::LEAST_SHARED;
 use crate::part::Part;
+use crate::{GREATEST_LENGTH, LEAST_SHARED};
 use std::alloc::Global;
 use std::marker::Model;
 use vf_base::{NoMemory, Octets};
@@ -23,13 +23,15 @@ pub struct Parts {
 }
 
 impl Model for Parts {
+    ghost use Rattle.std.specs.Prelude.{◌≤◌};
+    ghost use Rattle.vf_disk.specs.Disk.{greatest_length};
     ghost use Rattle.vf_disk.specs.Parts.{IsSound, Joined, joined};
 
     ghost Value = { Joined };
 
     ghost view = { λ parts. record { items = joined parts.short.items parts.strings.items } };
 
-    ghost invariant = { λ parts. IsSound parts.short.items parts.strings.items parts.closed parts.count };
+    ghost invariant = { λ parts. IsSound parts.short.items parts.strings.items parts.closed parts.count × (parts.count ≤ greatest_length) };
 }
 
 impl Parts {
@@ -60,9 +62,10 @@ impl Parts {
         })
     }
 
-    /// The number of octets.
+    /// The number of octets, at most that of a disk.
     pub fn len(&self) -> usize
-        ensures { result ≡ length self.now.items }
+        ensures count { result ≡ length self.now.items }
+        ensures bound { result ≤ greatest_length }
     {
         self.count
     }
@@ -78,9 +81,7 @@ impl Parts {
         ensures items { OnOk result (self.new.items ≡ self.old.items ++ octet ∷ []) }
         ensures err { OnErr result (self.new.items ≡ self.old.items) }
     {
-        let Some(count) = self.count.checked_add(1) else {
-            return Err(NoMemory);
-        };
+        let count = grown(self.count, 1)?;
         self.short.push(octet)?;
         self.count = count;
         Ok(())
@@ -91,9 +92,7 @@ impl Parts {
         ensures items { OnOk result (self.new.items ≡ self.old.items ++ octets.now) }
         ensures err { OnErr result (self.new.items ≡ self.old.items) }
     {
-        let Some(count) = self.count.checked_add(octets.len()) else {
-            return Err(NoMemory);
-        };
+        let count = grown(self.count, octets.len())?;
         self.short.extend_from_slice(octets)?;
         self.count = count;
         Ok(())
@@ -116,9 +115,7 @@ impl Parts {
         ensures items { OnOk result (self.new.items ≡ self.old.items ++ string) }
         ensures err { OnErr result (self.new.items ≡ self.old.items) }
     {
-        let Some(count) = self.count.checked_add(string.len()) else {
-            return Err(NoMemory);
-        };
+        let count = grown(self.count, string.len())?;
         let short = self.short.len();
         let part = Part {
             before: short - self.closed,
@@ -137,9 +134,7 @@ impl Parts {
         ensures ok { OnOk result (self.new.items ≡ overwritten (self.old.items ++ last ∷ []) at over.now) }
         ensures err { OnErr result (self.new.items ≡ self.old.items) }
     {
-        let Some(count) = self.count.checked_add(1) else {
-            return Err(NoMemory);
-        };
+        let count = grown(self.count, 1)?;
         if at + over.len() <= first_run(self.short.as_slice(), self.strings.as_slice()) {
             self.short.push(last)?;
             put_over(&mut self.short, at, over);
@@ -171,6 +166,17 @@ impl Parts {
         }
         octets.extend_from_slice(rest)?;
         Ok(octets)
+    }
+}
+
+/// So many octets and more; memory is wanting for more than a disk has.
+fn grown(count: usize, more: usize) -> Result<usize, NoMemory>
+    ensures sum { IfOk result (λ sum. sum ≡ count + more) }
+    ensures bound { IfOk result (λ sum. sum ≤ greatest_length) }
+{
+    match count.checked_add(more) {
+        Some(sum) if sum as u64 <= GREATEST_LENGTH => Ok(sum),
+        _ => Err(NoMemory),
     }
 }
 

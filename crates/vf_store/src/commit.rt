@@ -66,6 +66,7 @@ fn entry_of_changes(alloc: Global, changes: &Changes) -> Result<(Parts, u64), No
 fn area_begun(alloc: Global, tables: &Tables) -> Result<(Parts, u64), NoMemory>
     ensures octets { IfOk result (λ area. area.0.items ≡ (1 ∷ 0 ∷ 0 ∷ 0 ∷ 0 ∷ []) ++ record_of (snapshot_meant tables.now)) }
     ensures count { IfOk result (λ area. area.1 ≡ length (record_of (snapshot_meant tables.now))) }
+    ensures bound { IfOk result (λ area. area.1 ≤ greatest_length) }
     ensures read { list_all is_in_range (snapshot_meant tables.now) ≡ true → length (record_of (snapshot_meant tables.now)) < 2 ^ 32
         → OnOk result (changes_of (record_of (snapshot_meant tables.now)) ≡ Some (snapshot_meant tables.now)) }
 {

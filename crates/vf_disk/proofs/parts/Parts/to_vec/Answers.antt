@@ -6,7 +6,7 @@ use Rattle.vf_disk.proofs.parts.Parts.to_vec.Goals as goal
 
 pub loop-part-init : goal.loop-part-init
 loop-part-init c = record {
-  within = first_short _ _ _ _ _ _ c.self.invariant c.as_slice-strings.ensures.value c.as_slice-rest.ensures.value;
+  within = first_short _ _ _ _ _ _ c.self.invariant.0 c.as_slice-strings.ensures.value c.as_slice-rest.ensures.value;
   so_far = rw c.in_ok-octets.ensures.items refl;
 }
 
