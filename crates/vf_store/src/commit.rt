@@ -2,7 +2,7 @@
 ghost use Rattle.std.specs.Prelude.{◌≡◌, ◌+◌, ◌≤◌, ◌<◌, ◌^◌, [], ◌∷◌, ◌++◌, ℕ, List, true, IsTrue, Some, IfOk, IfSome, OnOk, OnErr, is_err, length};
 ghost use Rattle.std.specs.List.{list_all};
 ghost use Rattle.std.specs.Option.{option_map};
-ghost use Rattle.vf_disk.specs.Disk.{LeavesOnly};
+ghost use Rattle.vf_disk.specs.Disk.{LeavesOnly, greatest_length};
 ghost use Rattle.vf_journal.specs.JournalState.{IsWithin, JournalState, placing};
 ghost use Rattle.vf_journal.specs.Records.{area_with, entry_of, longest};
 ghost use Rattle.vf_journal.specs.Writes.{Shows};
