@@ -10,7 +10,7 @@ ghost use Rattle.vf_journal.specs.JournalState.{IsWithin};
 use bench_base::{Fault, number};
 use std::alloc::Global;
 use vf_base::Octets;
-use vf_disk::{Disk, FileDisk};
+use vf_disk::{Disk, FileDisk, Parts};
 use vf_journal::{Journal, JournalError, built_entry};
 
 /// No record of these runs ends further on.
@@ -116,7 +116,7 @@ fn append<D: Disk>(
 }
 
 /// A record of so many octets in its built form.
-fn entry_of(alloc: Global, length: u32) -> Result<Vec<u8>, JournalError>
+fn entry_of(alloc: Global, length: u32) -> Result<Parts, JournalError>
     ensures { IfOk result (λ entry. IsEntry entry.items) }
 {
     let record = vec![in alloc; 7; length as usize]?;
@@ -128,10 +128,10 @@ fn entry_of(alloc: Global, length: u32) -> Result<Vec<u8>, JournalError>
 fn append_all<D: Disk>(
     journal: &mut Journal,
     disk: &mut D,
-    entry: &[u8],
+    entry: &Parts,
     count: u32,
 ) -> Result<(), JournalError>
-    requires entry { IsEntry entry.now }
+    requires entry { IsEntry entry.now.items }
     requires within { IsWithin journal.old (D.size disk.old) }
 {
     for _done in 0..count {

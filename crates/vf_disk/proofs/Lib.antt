@@ -10,3 +10,4 @@ pub mod CallCounts
 pub mod Rows
 pub mod Noted
 pub mod Stops
+pub mod Joins

@@ -6,3 +6,4 @@ pub mod Steps
 pub mod Memory
 pub mod Replay
 pub mod Laws
+pub mod Parts

@@ -1,5 +1,5 @@
 -- Which calls of a disk in memory are to fail (profile): those of certain numbers, counted from 1 over `len`, `read`,
--- `write_at`, `cut` and `sync` together; a stopped write, cut or sync; and every call after that one. A disk over
+-- `write_at`, `write_parts`, `cut` and `sync` together; a stopped write, cut or sync; and every call after that one. A disk over
 -- the real world tells no plan.
 use Rattle.std.specs.Prelude.{◌≡◌, ℕ, ◌-◌, min, Bool, true, false, ◌||◌, nat_eq, nat_le, List, [], Option, None, Some}
 use Rattle.vf_base.specs.Plans.{FailurePlan, after_call, is_planned}

@@ -6,6 +6,7 @@ ghost use Rattle.vf_disk.specs.State.{State};
 ghost use Rattle.vf_disk.specs.Steps.{LeavesState, MakesSteps};
 ghost use Rattle.vf_disk.specs.declared.step.Step.TheVariants.{Wrote, CutTo, Synced};
 
+use crate::Parts;
 use vf_base::Failed;
 
 /// A disk: octets that are read and written at places from 0, and what a crash may leave of them.
@@ -77,6 +78,20 @@ pub trait Disk {
         ensures time { Elapses (moment self.old) (moment self.new) (left_since self.old) (left_since self.new) (may_leave self.new) }
         ensures plan { ChangesWherePlanned (plan self.old) (plan self.new) (is_err result) }
         ensures state { MakesSteps (Wrote at octets.now true ∷ []) (plan self.old) (plan self.new) (state self.old) (state self.new) (is_err result) (lack_count self.old) (lack_count self.new) }
+        ensures ok { OnOk result (fault_count self.new ≡ fault_count self.old) }
+        ensures falls { NeverFalls (fault_count self.old) (fault_count self.new) }
+        ensures failed { OnErr result (HasRisen (fault_count self.old) (fault_count self.new)) };
+
+    /// Writes octets that stand in parts, as `write_at` writes them, in one call.
+    fn write_parts(&mut self, at: u64, octets: &Parts) -> Result<(), Failed>
+        requires { at ≤ size self.old }
+        ensures shown { Writes (shown self.old) (shown self.new) at octets.now.items result }
+        ensures size { size self.new ≡ length_written (size self.old) at (length octets.now.items) result }
+        ensures crash { Follows (Torn at (length octets.now.items)) (may_leave self.old) (may_leave self.new) }
+        ensures long { greatest_length < at + length octets.now.items → IsErr result × (shown self.new ≡ shown self.old) × Within (may_leave self.old) (may_leave self.new) }
+        ensures time { Elapses (moment self.old) (moment self.new) (left_since self.old) (left_since self.new) (may_leave self.new) }
+        ensures plan { ChangesWherePlanned (plan self.old) (plan self.new) (is_err result) }
+        ensures state { MakesSteps (Wrote at octets.now.items true ∷ []) (plan self.old) (plan self.new) (state self.old) (state self.new) (is_err result) (lack_count self.old) (lack_count self.new) }
         ensures ok { OnOk result (fault_count self.new ≡ fault_count self.old) }
         ensures falls { NeverFalls (fault_count self.old) (fault_count self.new) }
         ensures failed { OnErr result (HasRisen (fault_count self.old) (fault_count self.new)) };

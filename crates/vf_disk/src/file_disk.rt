@@ -3,7 +3,8 @@ ghost use Rattle.std.specs.Prelude.{None, ◌≡◌, ◌≤◌, IfOk};
 ghost use Rattle.vf_base.specs.Faults.{HasRisen};
 ghost use Rattle.vf_disk.specs.Disk.{greatest_length};
 
-use crate::{Disk, GREATEST_LENGTH};
+use crate::file_rows::{block_of, write_rows};
+use crate::{Disk, GREATEST_LENGTH, Parts};
 use std::os::unix::fs::FileExt;
 use std::{fs, io};
 use vf_base::Failed;
@@ -22,6 +23,8 @@ pub struct FileDisk<'a> {
     unsure: bool,
     broken: bool,
     faults: u64,
+    /// Room to gather what one write takes.
+    block: Vec<u8>,
     ghost bound: { length ≤ greatest_length },
 }
 
@@ -59,6 +62,7 @@ impl<'a> FileDisk<'a> {
             unsure: false,
             broken: false,
             faults: 0,
+            block: block_of(rt.alloc()),
         }
     }
 
@@ -211,6 +215,27 @@ impl<'a> Disk for FileDisk<'a> {
             return Err(self.fail());
         };
         if file.write_all_at(octets, at).is_err() {
+            return Err(self.fail_unsure());
+        }
+        if at + count > self.length {
+            self.length = at + count;
+            self.resized = true;
+        }
+        Ok(())
+    }
+
+    fn write_parts(&mut self, at: u64, octets: &Parts) -> Result<(), Failed> {
+        let count = octets.len() as u64;
+        if count > GREATEST_LENGTH - at {
+            return Err(self.fail());
+        }
+        if self.make().is_err() {
+            return Err(self.fail());
+        }
+        let Some(file) = &self.file else {
+            return Err(self.fail());
+        };
+        if write_rows(file, at, octets, &mut self.block).is_err() {
             return Err(self.fail_unsure());
         }
         if at + count > self.length {

@@ -15,7 +15,7 @@ use crate::overwrite::overwrite;
 use crate::plan::Plan;
 use crate::replay::{is_settled, last_sync, make_all, mark_all, shown_by};
 use crate::step::copy_steps;
-use crate::{CrashForm, Disk, GREATEST_LENGTH, Step};
+use crate::{CrashForm, Disk, GREATEST_LENGTH, Parts, Step};
 use std::alloc::Global;
 use std::marker::Model;
 use vf_base::{Failed, NoMemory, Octets};
@@ -44,8 +44,8 @@ impl Model for MemoryDisk {
 }
 
 impl MemoryDisk {
-    /// A disk that holds these octets as synced. The calls of `len`, `read`, `write_at`, `cut` and `sync` of the
-    /// numbers in `failing`, counted together from 1, fail.
+    /// A disk that holds these octets as synced. The calls of `len`, `read`, `write_at`, `write_parts`, `cut` and
+    /// `sync` of the numbers in `failing`, counted together from 1, fail.
     pub fn of(alloc: Global, octets: &[u8], failing: Vec<u64>) -> Result<MemoryDisk, NoMemory>
         ensures disk { IfOk result (λ disk. disk ≡ fresh octets.now failing.items) }
         ensures synced { IfOk result (λ disk. LeavesShown (Some octets.now) (IsImage (state disk))) }
@@ -291,6 +291,27 @@ impl Disk for MemoryDisk {
             return Err(self.lack());
         }
         Ok(())
+    }
+
+    fn write_parts(&mut self, at: u64, octets: &Parts) -> Result<(), Failed>
+        requires { at ≤ length (state self.old).shown }
+        ensures shown { Writes (Some (state self.old).shown) (Some (state self.new).shown) at octets.now.items result }
+        ensures size { length (state self.new).shown ≡ length_written (length (state self.old).shown) at (length octets.now.items) result }
+        ensures crash { Follows (Torn at (length octets.now.items)) (IsImage (state self.old)) (IsImage (state self.new)) }
+        ensures long { greatest_length < at + length octets.now.items → IsErr result × (Some (state self.new).shown ≡ Some (state self.old).shown) × Within (IsImage (state self.old)) (IsImage (state self.new)) }
+        ensures time { Elapses (length self.old.steps) (length self.new.steps) (LeftSince self.old) (LeftSince self.new) (IsImage (state self.new)) }
+        ensures plan { ChangesWherePlanned (Some self.old.plan) (Some self.new.plan) (is_err result) }
+        ensures state { MakesSteps (Wrote at octets.now.items true ∷ []) (Some self.old.plan) (Some self.new.plan) (Some (state self.old)) (Some (state self.new)) (is_err result) self.old.lacks self.new.lacks }
+        ensures ok { OnOk result (self.new.faults ≡ self.old.faults) }
+        ensures falls { NeverFalls self.old.faults self.new.faults }
+        ensures failed { OnErr result (HasRisen self.old.faults self.new.faults) }
+        ensures kept { Keeps self.old self.new (Wrote at octets.now.items true) (is_err result) }
+    {
+        let Ok(joined) = octets.to_vec(self.alloc) else {
+            let _ = self.plan.changes();
+            return Err(self.lack());
+        };
+        self.write_at(at, joined.as_slice())
     }
 
     fn cut(&mut self, to: u64) -> Result<(), Failed>

@@ -5,16 +5,17 @@ ghost use Rattle.vf_journal.specs.Records.{IsArea, IsEntry, area_with, entry_of,
 
 use std::alloc::Global;
 use vf_base::NoMemory;
+use vf_disk::Parts;
 
 /// A record in its built form, in which it is appended: its length in four octets, the record, and the octet 0. The
 /// record has at most 4,294,967,295 octets.
 #[tactic(auto, using(crate::proofs::Numbers::length_octets_are))]
-pub fn built_entry(alloc: Global, item: &[u8]) -> Result<Vec<u8>, NoMemory>
+pub fn built_entry(alloc: Global, item: &[u8]) -> Result<Parts, NoMemory>
     requires { length item.now ≤ longest }
     ensures octets { IfOk result (λ entry. entry.items ≡ entry_of item.now) }
     ensures form { IfOk result (λ entry. IsEntry entry.items) }
 {
-    let mut entry = Vec::with_capacity(alloc, item.len() + 5)?;
+    let mut entry = Parts::with_capacity(alloc, item.len() + 5)?;
     entry.extend_from_slice(&(item.len() as u32).to_be_bytes())?;
     entry.extend_from_slice(item)?;
     entry.push(0)?;
@@ -23,12 +24,12 @@ pub fn built_entry(alloc: Global, item: &[u8]) -> Result<Vec<u8>, NoMemory>
 
 /// An area of one record in its built form, in which it is prepared: the octet 1, and the record in its built form.
 #[tactic(auto, using(crate::proofs::Numbers::length_octets_are))]
-pub fn built_area(alloc: Global, item: &[u8]) -> Result<Vec<u8>, NoMemory>
+pub fn built_area(alloc: Global, item: &[u8]) -> Result<Parts, NoMemory>
     requires { length item.now ≤ longest }
     ensures octets { IfOk result (λ area. area.items ≡ area_with item.now) }
     ensures form { IfOk result (λ area. IsArea area.items) }
 {
-    let mut area = Vec::with_capacity(alloc, item.len() + 6)?;
+    let mut area = Parts::with_capacity(alloc, item.len() + 6)?;
     area.push(1)?;
     area.extend_from_slice(&(item.len() as u32).to_be_bytes())?;
     area.extend_from_slice(item)?;
@@ -36,21 +37,11 @@ pub fn built_area(alloc: Global, item: &[u8]) -> Result<Vec<u8>, NoMemory>
     Ok(area)
 }
 
-/// Puts a length in the place of the four octets that stand at a place.
-#[tactic(auto, using(crate::proofs::Numbers::length_octets_are))]
-fn put_length(octets: &mut [u8], at: usize, count: u32)
-    requires { at + 4 ≤ length octets.old }
-    ensures { octets.new ≡ take at octets.old ++ (length_octets count ++ drop 4 (drop at octets.old)) }
-{
-    let (_, rest) = octets.split_at_mut(at);
-    let (place, _) = rest.split_at_mut(4);
-    place.copy_from_slice(&count.to_be_bytes());
-}
-
 /// Ends a record that was put after four octets at a place, so that it stands there in its built form: its length takes
 /// the place of these octets, and the octet 0 is put after it. A record has at most 4,294,967,295 octets: for a longer one
 /// memory is wanting. Without memory nothing is changed.
-pub fn end_record(octets: &mut Vec<u8>, at: usize) -> Result<(), NoMemory>
+#[tactic(auto, using(crate::proofs::Numbers::length_octets_are))]
+pub fn end_record(octets: &mut Parts, at: usize) -> Result<(), NoMemory>
     requires { at + 4 ≤ length octets.old.items }
     ensures built { OnOk result (octets.new.items ≡ take at octets.old.items ++ entry_of (drop (at + 4) octets.old.items)) }
     ensures short { OnOk result (length (drop (at + 4) octets.old.items) ≤ longest) }
@@ -59,7 +50,6 @@ pub fn end_record(octets: &mut Vec<u8>, at: usize) -> Result<(), NoMemory>
     let Ok(count) = u32::try_from(octets.len() - at - 4) else {
         return Err(NoMemory);
     };
-    octets.push(0)?;
-    put_length(octets.as_mut_slice(), at, count);
+    octets.end(at, &count.to_be_bytes(), 0)?;
     Ok(())
 }

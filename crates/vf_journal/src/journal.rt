@@ -10,7 +10,7 @@ ghost use Rattle.vf_journal.specs.Image.{Holds, HoldsEither, IsNoneOrNew, record
 ghost use Rattle.vf_journal.specs.Writes.{Shows, append_steps, appended, create_steps, prepare_steps, prepared as prepared_on, switch_steps, switched};
 
 use crate::area::Area;
-use crate::device::{write_both_synced, write_synced};
+use crate::device::{write_both_synced, write_parts_synced, write_synced};
 use crate::head::sync_and_judge;
 use crate::layout::{
     FIRST_START, MOST_LATER_OCTETS, MOST_RECORD_OCTETS, REST, SELECTOR, anchor_place, selector,
@@ -20,7 +20,7 @@ use crate::{JournalError, Placing};
 use std::alloc::Global;
 use std::marker::Model;
 use vf_base::Octets;
-use vf_disk::Disk;
+use vf_disk::{Disk, Parts};
 
 /// Where a journal stands on its disk, which every call is handed. After `DiskFault` it is spent: the disk has to be
 /// opened again.
@@ -159,25 +159,25 @@ impl Journal {
     /// Appends a record, which is handed in its built form: its length in four octets, the record, and the octet 0.
     /// In four calls, or in none where the record would end past the limit. A crash at any moment leaves the records
     /// with the new one or without.
-    pub fn append<D: Disk>(&mut self, disk: &mut D, entry: &[u8]) -> Result<(), JournalError>
-        requires entry { IsEntry entry.now }
+    pub fn append<D: Disk>(&mut self, disk: &mut D, entry: &Parts) -> Result<(), JournalError>
+        requires entry { IsEntry entry.now.items }
         requires within { IsWithin self.old (D.size disk.old) }
-        ensures ok { OnOk result ((item : List ℕ) (records : List (List ℕ)) → entry.now ≡ entry_of item → StandsOn D.shown D.may_leave self.old disk.old records
+        ensures ok { OnOk result ((item : List ℕ) (records : List (List ℕ)) → entry.now.items ≡ entry_of item → StandsOn D.shown D.may_leave self.old disk.old records
             → StandsOn D.shown D.may_leave self.new disk.new (records ++ item ∷ [])) }
-        ensures shown { (image : List ℕ) → D.shown disk.old ≡ Some image → OnOk result (D.shown disk.new ≡ Some (appended image self.old.area.end entry.now)) }
-        ensures seen { (item : List ℕ) (records : List (List ℕ)) → entry.now ≡ entry_of item → StandsOn D.shown D.may_leave self.old disk.old records
+        ensures shown { (image : List ℕ) → D.shown disk.old ≡ Some image → OnOk result (D.shown disk.new ≡ Some (appended image self.old.area.end entry.now.items)) }
+        ensures seen { (item : List ℕ) (records : List (List ℕ)) → entry.now.items ≡ entry_of item → StandsOn D.shown D.may_leave self.old disk.old records
             → Shows (D.shown disk.new) (HoldsEither records (records ++ item ∷ [])) }
-        ensures size { OnOk result (D.size disk.new ≡ max (D.size disk.old) (self.old.area.end + length entry.now)) }
-        ensures any_moment { (item : List ℕ) (records : List (List ℕ)) → entry.now ≡ entry_of item → StandsOn D.shown D.may_leave self.old disk.old records
+        ensures size { OnOk result (D.size disk.new ≡ max (D.size disk.old) (self.old.area.end + length entry.now.items)) }
+        ensures any_moment { (item : List ℕ) (records : List (List ℕ)) → entry.now.items ≡ entry_of item → StandsOn D.shown D.may_leave self.old disk.old records
             → LeavesOnly D.moment D.left_since disk.old disk.new (HoldsEither records (records ++ item ∷ [])) }
-        ensures moved { OnOk result (self.new ≡ after_append self.old (length entry.now - 5)) }
+        ensures moved { OnOk result (self.new ≡ after_append self.old (length entry.now.items - 5)) }
         ensures limit { self.new.limit ≡ self.old.limit }
         ensures err { OnErr result (self.new ≡ self.old) }
         ensures full { IsUntouched disk.old disk.new result }
         ensures within { IsWithin self.new (D.size disk.new) }
         ensures calls { AppendCalls (D.plan disk.old) (D.plan disk.new) result }
-        ensures steps { self.old.area.end + length entry.now ≤ self.old.limit → MakesSteps (append_steps self.old.area.end entry.now) (D.plan disk.old) (D.plan disk.new) (D.state disk.old) (D.state disk.new) (is_err result) (D.lack_count disk.old) (D.lack_count disk.new) }
-        ensures causes { AppendAnswers (self.old.area.end + length entry.now) self.old.limit (D.fault_count disk.old) (D.fault_count disk.new) result }
+        ensures steps { self.old.area.end + length entry.now.items ≤ self.old.limit → MakesSteps (append_steps self.old.area.end entry.now.items) (D.plan disk.old) (D.plan disk.new) (D.state disk.old) (D.state disk.new) (is_err result) (D.lack_count disk.old) (D.lack_count disk.new) }
+        ensures causes { AppendAnswers (self.old.area.end + length entry.now.items) self.old.limit (D.fault_count disk.old) (D.fault_count disk.new) result }
     {
         let end = self.area.end + entry.len() as u64;
         if end > self.limit {
@@ -186,7 +186,7 @@ impl Journal {
                 limit: self.limit,
             });
         }
-        write_synced(disk, self.area.end, entry)?;
+        write_parts_synced(disk, self.area.end, entry)?;
         write_synced(disk, self.area.end - 1, &[1])?;
         self.area = self.area.with(entry.len() as u64 - 5);
         self.prepared = None;
@@ -195,23 +195,23 @@ impl Journal {
 
     /// Writes an area of one record, in its built form, beside the selected one, and the anchor that isn't selected,
     /// in three calls. The area is to end within the limit. A crash at any moment leaves the records as they are.
-    pub fn prepare<D: Disk>(&mut self, disk: &mut D, area: &[u8]) -> Result<(), JournalError>
-        requires area { IsArea area.now }
-        requires planned { new_start self.old (length area.now) + length area.now ≤ self.old.limit }
+    pub fn prepare<D: Disk>(&mut self, disk: &mut D, area: &Parts) -> Result<(), JournalError>
+        requires area { IsArea area.now.items }
+        requires planned { new_start self.old (length area.now.items) + length area.now.items ≤ self.old.limit }
         requires within { IsWithin self.old (D.size disk.old) }
-        ensures ok { OnOk result ((item : List ℕ) (records : List (List ℕ)) → area.now ≡ area_with item → StandsOn D.shown D.may_leave self.old disk.old records
+        ensures ok { OnOk result ((item : List ℕ) (records : List (List ℕ)) → area.now.items ≡ area_with item → StandsOn D.shown D.may_leave self.old disk.old records
             → StandsOn D.shown D.may_leave self.new disk.new records × HasPrepared D.shown self.new disk.new item) }
-        ensures shown { (image : List ℕ) → D.shown disk.old ≡ Some image → OnOk result (D.shown disk.new ≡ Some (prepared_on image (new_start self.old (length area.now)) area.now (not self.old.second))) }
+        ensures shown { (image : List ℕ) → D.shown disk.old ≡ Some image → OnOk result (D.shown disk.new ≡ Some (prepared_on image (new_start self.old (length area.now.items)) area.now.items (not self.old.second))) }
         ensures seen { (records : List (List ℕ)) → StandsOn D.shown D.may_leave self.old disk.old records → Shows (D.shown disk.new) (λ image. Holds image records) }
-        ensures size { OnOk result (D.size disk.new ≡ max (D.size disk.old) (new_start self.old (length area.now) + length area.now)) }
+        ensures size { OnOk result (D.size disk.new ≡ max (D.size disk.old) (new_start self.old (length area.now.items) + length area.now.items)) }
         ensures any_moment { (records : List (List ℕ)) → StandsOn D.shown D.may_leave self.old disk.old records
             → LeavesOnly D.moment D.left_since disk.old disk.new (λ image. Holds image records) }
-        ensures moved { OnOk result (self.new ≡ after_prepare self.old (length area.now)) }
+        ensures moved { OnOk result (self.new ≡ after_prepare self.old (length area.now.items)) }
         ensures limit { self.new.limit ≡ self.old.limit }
         ensures err { OnErr result (self.new ≡ self.old) }
         ensures within { IsWithin self.new (D.size disk.new) }
         ensures calls { MakesChanges 3 (D.plan disk.old) (D.plan disk.new) (is_err result) }
-        ensures steps { MakesSteps (prepare_steps (new_start self.old (length area.now)) area.now (not self.old.second)) (D.plan disk.old) (D.plan disk.new) (D.state disk.old) (D.state disk.new) (is_err result) (D.lack_count disk.old) (D.lack_count disk.new) }
+        ensures steps { MakesSteps (prepare_steps (new_start self.old (length area.now.items)) area.now.items (not self.old.second)) (D.plan disk.old) (D.plan disk.new) (D.state disk.old) (D.state disk.new) (is_err result) (D.lack_count disk.old) (D.lack_count disk.new) }
         ensures causes { FaultAlone (D.fault_count disk.old) (D.fault_count disk.new) result }
     {
         let count = area.len() as u64;

@@ -41,6 +41,48 @@ fn a_disk_over_a_file_gives_what_was_written(rt: HostRuntime) -> Result<(), Fail
     Ok(())
 }
 
+/// Short octets, and between them two strings that are shared, of which one is longer than what is gathered for a write.
+fn parts(alloc: Global) -> Result<Parts, NoMemory> {
+    let string = Octets::from_vec(vec![in alloc; 7; 2_000]?)?;
+    let long = Octets::from_vec(vec![in alloc; 8; 300_000]?)?;
+    let mut octets = Parts::new(alloc);
+    octets.extend_from_slice(b"ab")?;
+    octets.end(0, b"A", b'c')?;
+    octets.push_shared(&string)?;
+    octets.push(b'd')?;
+    octets.push_shared(&long)?;
+    octets.push_shared(&string)?;
+    octets.extend_from_slice(b"e")?;
+    Ok(octets)
+}
+
+/// Whether octets in parts are written as they are in one row.
+fn writes_parts<D: Disk>(alloc: Global, disk: &mut D) -> Result<bool, NoMemory> {
+    let octets = parts(alloc)?;
+    let wanted = octets.to_vec(alloc)?;
+    if disk.write_parts(0, &octets).is_err() {
+        return Ok(false);
+    }
+    let Ok(length) = disk.len() else {
+        return Ok(false);
+    };
+    let mut found = vec![in alloc; 0; length as usize]?;
+    let read = disk.read(0, &mut found).is_ok();
+    Ok(read && found == wanted && found.starts_with(b"Abc\x07") && found.len() == 304_005)
+}
+
+#[test]
+fn octets_in_parts_are_written_as_in_one_row(rt: HostRuntime) -> Result<(), Fail> {
+    let path = "vf_disk_test_parts";
+    let _ = fs::remove_file(&rt, path);
+    let mut disk = FileDisk::open(&rt, path);
+    assert!(rt; writes_parts(rt.alloc(), &mut disk)?);
+    let mut disk = MemoryDisk::of(rt.alloc(), b"", Vec::new(rt.alloc()))?;
+    assert!(rt; writes_parts(rt.alloc(), &mut disk)?);
+    fs::remove_file(&rt, path)?;
+    Ok(())
+}
+
 #[test]
 fn a_file_that_is_not_there_is_made_by_the_first_write(rt: HostRuntime) -> Result<(), Fail> {
     let path = "vf_disk_test_missing";

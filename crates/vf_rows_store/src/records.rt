@@ -2,6 +2,7 @@
 use std::alloc::Global;
 use std::test::Fail;
 use vf_base::Octets;
+use vf_disk::Parts;
 use vf_store_record::{read, write};
 use vf_tables::{Change, Changes};
 
@@ -51,9 +52,10 @@ fn octets_are_read_as_changes(rt: HostRuntime) -> Result<(), Fail> {
 /// Whether the changes of these octets, which are a record, are written as the same octets.
 fn is_written_again(alloc: Global, octets: &[u8]) -> Result<bool, Fail> {
     let changes = changes_of(alloc, octets)?;
-    let mut out = Vec::new(alloc);
+    let mut out = Parts::new(alloc);
     write(changes.as_slice(), &mut out)?;
-    Ok(out.as_slice() == octets)
+    let written = out.to_vec(alloc)?;
+    Ok(written.as_slice() == octets)
 }
 
 #[test]

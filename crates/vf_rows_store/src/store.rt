@@ -5,7 +5,7 @@ ghost use Rattle.vf_tables.specs.Snapshot.{HasFewPieces};
 use std::alloc::Global;
 use std::test::Fail;
 use vf_base::{Name, NoMemory, Octets, Sequence};
-use vf_disk::{Disk, MemoryDisk};
+use vf_disk::{Disk, MemoryDisk, Parts};
 use vf_store::{Store, StoreError};
 use vf_store_record::write;
 use vf_tables::{Change, Changes, Tables, User};
@@ -48,9 +48,9 @@ pub fn whole_of(alloc: Global, tables: &Tables) -> Result<Vec<u8>, NoMemory> {
         return Err(NoMemory);
     }
     let changes = tables.snapshot(alloc)?;
-    let mut octets = Vec::new(alloc);
+    let mut octets = Parts::new(alloc);
     write(changes.as_slice(), &mut octets)?;
-    Ok(octets)
+    octets.to_vec(alloc)
 }
 
 /// The change that puts the user `ann` with the password `pw`.

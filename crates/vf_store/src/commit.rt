@@ -2,7 +2,7 @@
 ghost use Rattle.std.specs.Prelude.{◌≡◌, ◌+◌, ◌≤◌, ◌<◌, ◌^◌, [], ◌∷◌, ◌++◌, ℕ, List, true, IsTrue, Some, IfOk, IfSome, OnOk, OnErr, is_err, length};
 ghost use Rattle.std.specs.List.{list_all};
 ghost use Rattle.std.specs.Option.{option_map};
-ghost use Rattle.vf_disk.specs.Disk.{LeavesOnly};
+ghost use Rattle.vf_disk.specs.Disk.{LeavesOnly, greatest_length};
 ghost use Rattle.vf_journal.specs.JournalState.{IsWithin, JournalState, placing};
 ghost use Rattle.vf_journal.specs.Records.{area_with, entry_of, longest};
 ghost use Rattle.vf_journal.specs.Writes.{Shows};
@@ -22,7 +22,7 @@ use crate::room::room_for;
 use crate::writing::write;
 use std::alloc::Global;
 use vf_base::NoMemory;
-use vf_disk::Disk;
+use vf_disk::{Disk, Parts};
 use vf_journal::{Journal, end_record};
 use vf_tables::{Changes, Doubled, Tables, kept_stay, snapshot_makes};
 
@@ -30,27 +30,26 @@ use vf_tables::{Changes, Doubled, Tables, kept_stay, snapshot_makes};
 #[derive(Drop)]
 struct Built {
     /// An area of one record, which makes the tables that stand, where a switch is due and possible.
-    area: Option<Vec<u8>>,
+    area: Option<Parts>,
     /// The record of the changes, in its built form.
-    entry: Vec<u8>,
+    entry: Parts,
     /// Where the record is to end, in octets.
     end: u64,
 }
 
-/// The record of changes after these octets. The room for all of it is taken at once, so that the contents of files are
-/// copied once.
-fn spelled(alloc: Global, before: &[u8], changes: &Changes) -> Result<Vec<u8>, NoMemory>
+/// The record of changes after these octets. Its long strings are shared, and the room for all else is taken at once.
+fn spelled(alloc: Global, before: &[u8], changes: &Changes) -> Result<Parts, NoMemory>
     ensures octets { IfOk result (λ octets. octets.items ≡ before.now ++ record_of changes.now) }
     ensures read { list_all is_in_range changes.now ≡ true → length (record_of changes.now) < 2 ^ 32 → OnOk result (changes_of (record_of changes.now) ≡ Some changes.now) }
 {
-    let mut octets = Vec::with_capacity(alloc, room_for(changes.as_slice()))?;
+    let mut octets = Parts::with_capacity(alloc, room_for(changes.as_slice()))?;
     octets.extend_from_slice(before)?;
     vf_store_record::write(changes.as_slice(), &mut octets)?;
     Ok(octets)
 }
 
 /// The record of changes in its built form, and its length.
-fn entry_of_changes(alloc: Global, changes: &Changes) -> Result<(Vec<u8>, u64), NoMemory>
+fn entry_of_changes(alloc: Global, changes: &Changes) -> Result<(Parts, u64), NoMemory>
     ensures octets { IfOk result (λ entry. entry.0.items ≡ entry_of (record_of changes.now)) }
     ensures count { IfOk result (λ entry. entry.1 ≡ length (record_of changes.now)) }
     ensures short { OnOk result (length (record_of changes.now) ≤ longest) }
@@ -64,9 +63,10 @@ fn entry_of_changes(alloc: Global, changes: &Changes) -> Result<(Vec<u8>, u64), 
 
 /// An area of one record, which makes the tables, and the length of that record. It isn't ended: the four octets for the
 /// length hold nothing yet.
-fn area_begun(alloc: Global, tables: &Tables) -> Result<(Vec<u8>, u64), NoMemory>
+fn area_begun(alloc: Global, tables: &Tables) -> Result<(Parts, u64), NoMemory>
     ensures octets { IfOk result (λ area. area.0.items ≡ (1 ∷ 0 ∷ 0 ∷ 0 ∷ 0 ∷ []) ++ record_of (snapshot_meant tables.now)) }
     ensures count { IfOk result (λ area. area.1 ≡ length (record_of (snapshot_meant tables.now))) }
+    ensures bound { IfOk result (λ area. area.1 ≤ greatest_length) }
     ensures read { list_all is_in_range (snapshot_meant tables.now) ≡ true → length (record_of (snapshot_meant tables.now)) < 2 ^ 32
         → OnOk result (changes_of (record_of (snapshot_meant tables.now)) ≡ Some (snapshot_meant tables.now)) }
 {
@@ -98,7 +98,7 @@ fn place(
     journal: &Journal,
     tables: &Doubled,
     count: u64,
-) -> Result<(Option<Vec<u8>>, u64), NoMemory>
+) -> Result<(Option<Parts>, u64), NoMemory>
     requires { count ≤ longest }
     ensures area { let placed = placing journal.now count (length (record_of (snapshot_meant tables.now))) in
         IfOk result (λ place. option_map (λ octets. octets.items) place.0 ≡ option_map (λ (start : ℕ). area_with (record_of (snapshot_meant tables.now))) placed.switch) }
@@ -172,6 +172,6 @@ pub(crate) fn commit_on<D: Disk>(
         });
     }
     tables.apply_over(alloc, changes.as_slice(), ahead)?;
-    write(journal, disk, &built.area, built.entry.as_slice())?;
+    write(journal, disk, &built.area, &built.entry)?;
     Ok(())
 }

@@ -1,6 +1,7 @@
-//! About how many octets a record is to have. No promise rests on it: where it has more, its room grows.
+//! About how many octets of a record are to be copied. No promise rests on it: where there are more, their room grows.
 use vf_attr::File;
 use vf_base::Element;
+use vf_disk::LEAST_SHARED;
 use vf_tables::Change;
 use vf_tree::octets_of;
 
@@ -13,7 +14,10 @@ const FIELDS: usize = 256;
 fn room_of_elements(elements: &[Element]) -> usize {
     let mut room = AROUND;
     for element in elements {
-        room = room.saturating_add(octets_of(element) as usize);
+        let octets = octets_of(element) as usize;
+        if octets < LEAST_SHARED {
+            room = room.saturating_add(octets);
+        }
         room = room.saturating_add(AROUND);
     }
     room

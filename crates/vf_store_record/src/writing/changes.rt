@@ -14,9 +14,10 @@ use super::plans::put_plan;
 use super::regimes::put_regime;
 use vf_attr::{Attributes, File};
 use vf_base::{Elements, Name, NoMemory};
+use vf_disk::Parts;
 use vf_tables::{Change, Plan, Regime, User};
 
-fn put_docketed(identity: &Name, activity: u32, out: &mut Vec<u8>) -> Result<(), NoMemory>
+fn put_docketed(identity: &Name, activity: u32, out: &mut Parts) -> Result<(), NoMemory>
     ensures { OnOk result (Writes docketed (record { identity = identity.now; activity = activity }) Always out.old.items out.new.items) }
 {
     put_name(identity, out)?;
@@ -24,7 +25,7 @@ fn put_docketed(identity: &Name, activity: u32, out: &mut Vec<u8>) -> Result<(),
     Ok(())
 }
 
-fn put_piece(first: u32, last: u32, elements: &Elements, out: &mut Vec<u8>) -> Result<(), NoMemory>
+fn put_piece(first: u32, last: u32, elements: &Elements, out: &mut Parts) -> Result<(), NoMemory>
     ensures { OnOk result (Writes piece (record { first = first; last = last; elements = elements.now }) (AreElements elements.now) out.old.items out.new.items) }
 {
     put_u32(first, out)?;
@@ -33,7 +34,7 @@ fn put_piece(first: u32, last: u32, elements: &Elements, out: &mut Vec<u8>) -> R
     Ok(())
 }
 
-fn user_put(user: &User, out: &mut Vec<u8>) -> Result<(), NoMemory>
+fn user_put(user: &User, out: &mut Parts) -> Result<(), NoMemory>
     ensures { OnOk result (Writes change_format (PutUser user.now) (IsChange (PutUser user.now)) out.old.items out.new.items) }
 {
     put_octet(1, out)?;
@@ -41,7 +42,7 @@ fn user_put(user: &User, out: &mut Vec<u8>) -> Result<(), NoMemory>
     Ok(())
 }
 
-fn file_put(file: &File, out: &mut Vec<u8>) -> Result<(), NoMemory>
+fn file_put(file: &File, out: &mut Parts) -> Result<(), NoMemory>
     ensures { OnOk result (Writes change_format (PutFile file.now) (IsChange (PutFile file.now)) out.old.items out.new.items) }
 {
     put_octet(2, out)?;
@@ -53,7 +54,7 @@ fn attributes_put(
     old: &Name,
     name: &Name,
     attributes: &Attributes,
-    out: &mut Vec<u8>,
+    out: &mut Parts,
 ) -> Result<(), NoMemory>
     ensures { OnOk result (Writes change_format (PutAttributes old.now name.now attributes.now) (IsChange (PutAttributes old.now name.now attributes.now)) out.old.items out.new.items) }
 {
@@ -64,7 +65,7 @@ fn attributes_put(
     Ok(())
 }
 
-fn file_dropped(name: &Name, out: &mut Vec<u8>) -> Result<(), NoMemory>
+fn file_dropped(name: &Name, out: &mut Parts) -> Result<(), NoMemory>
     ensures { OnOk result (Writes change_format (DropFile name.now) (IsChange (DropFile name.now)) out.old.items out.new.items) }
 {
     put_octet(4, out)?;
@@ -72,7 +73,7 @@ fn file_dropped(name: &Name, out: &mut Vec<u8>) -> Result<(), NoMemory>
     Ok(())
 }
 
-fn docket_put(regime: &Regime, out: &mut Vec<u8>) -> Result<(), NoMemory>
+fn docket_put(regime: &Regime, out: &mut Parts) -> Result<(), NoMemory>
     ensures { OnOk result (Writes change_format (PutDocket regime.now) (IsChange (PutDocket regime.now)) out.old.items out.new.items) }
 {
     put_octet(5, out)?;
@@ -86,7 +87,7 @@ fn staged(
     first: u32,
     last: u32,
     elements: &Elements,
-    out: &mut Vec<u8>,
+    out: &mut Parts,
 ) -> Result<(), NoMemory>
     ensures { OnOk result (Writes change_format (Stage identity.now activity first last elements.now) (IsChange (Stage identity.now activity first last elements.now)) out.old.items out.new.items) }
 {
@@ -96,7 +97,7 @@ fn staged(
     Ok(())
 }
 
-fn stage_cut(identity: &Name, activity: u32, point: u32, out: &mut Vec<u8>) -> Result<(), NoMemory>
+fn stage_cut(identity: &Name, activity: u32, point: u32, out: &mut Parts) -> Result<(), NoMemory>
     ensures { OnOk result (Writes change_format (CutStage identity.now activity point) (IsChange (CutStage identity.now activity point)) out.old.items out.new.items) }
 {
     put_octet(7, out)?;
@@ -105,7 +106,7 @@ fn stage_cut(identity: &Name, activity: u32, point: u32, out: &mut Vec<u8>) -> R
     Ok(())
 }
 
-fn docket_dropped(identity: &Name, activity: u32, out: &mut Vec<u8>) -> Result<(), NoMemory>
+fn docket_dropped(identity: &Name, activity: u32, out: &mut Parts) -> Result<(), NoMemory>
     ensures { OnOk result (Writes change_format (DropDocket identity.now activity) (IsChange (DropDocket identity.now activity)) out.old.items out.new.items) }
 {
     put_octet(8, out)?;
@@ -113,7 +114,7 @@ fn docket_dropped(identity: &Name, activity: u32, out: &mut Vec<u8>) -> Result<(
     Ok(())
 }
 
-fn task_put(plan: &Plan, out: &mut Vec<u8>) -> Result<(), NoMemory>
+fn task_put(plan: &Plan, out: &mut Parts) -> Result<(), NoMemory>
     ensures { OnOk result (Writes change_format (PutTask plan.now) (IsChange (PutTask plan.now)) out.old.items out.new.items) }
 {
     put_octet(9, out)?;
@@ -125,7 +126,7 @@ fn task_staged(
     activity: u32,
     point: u32,
     elements: &Elements,
-    out: &mut Vec<u8>,
+    out: &mut Parts,
 ) -> Result<(), NoMemory>
     ensures { OnOk result (Writes change_format (StageTask activity point elements.now) (IsChange (StageTask activity point elements.now)) out.old.items out.new.items) }
 {
@@ -136,7 +137,7 @@ fn task_staged(
     Ok(())
 }
 
-fn task_cut(activity: u32, point: u32, out: &mut Vec<u8>) -> Result<(), NoMemory>
+fn task_cut(activity: u32, point: u32, out: &mut Parts) -> Result<(), NoMemory>
     ensures { OnOk result (Writes change_format (CutTask activity point) (IsChange (CutTask activity point)) out.old.items out.new.items) }
 {
     put_octet(11, out)?;
@@ -145,7 +146,7 @@ fn task_cut(activity: u32, point: u32, out: &mut Vec<u8>) -> Result<(), NoMemory
     Ok(())
 }
 
-fn task_dropped(activity: u32, out: &mut Vec<u8>) -> Result<(), NoMemory>
+fn task_dropped(activity: u32, out: &mut Parts) -> Result<(), NoMemory>
     ensures { OnOk result (Writes change_format (DropTask activity) (IsChange (DropTask activity)) out.old.items out.new.items) }
 {
     put_octet(12, out)?;
@@ -153,7 +154,7 @@ fn task_dropped(activity: u32, out: &mut Vec<u8>) -> Result<(), NoMemory>
     Ok(())
 }
 
-fn put_change(change: &Change, out: &mut Vec<u8>) -> Result<(), NoMemory>
+fn put_change(change: &Change, out: &mut Parts) -> Result<(), NoMemory>
     ensures { OnOk result (Writes change_format change.now (IsChange change.now) out.old.items out.new.items) }
 {
     match change {
@@ -190,7 +191,7 @@ fn put_change(change: &Change, out: &mut Vec<u8>) -> Result<(), NoMemory>
     }
 }
 
-fn put_changes(changes: &[Change], out: &mut Vec<u8>) -> Result<(), NoMemory>
+fn put_changes(changes: &[Change], out: &mut Parts) -> Result<(), NoMemory>
     ensures { OnOk result (Writes changes_format changes.now (AreChanges changes.now) out.old.items out.new.items) }
 {
     put_count(changes.len(), out)?;
@@ -203,7 +204,7 @@ fn put_changes(changes: &[Change], out: &mut Vec<u8>) -> Result<(), NoMemory>
 /// Puts the record of changes after the octets that stand. Where memory is wanting, some of its octets may stand there.
 ///
 /// Where each change is in its range and the record has fewer than 2^32 octets, it is read again as these changes.
-pub fn write(changes: &[Change], out: &mut Vec<u8>) -> Result<(), NoMemory>
+pub fn write(changes: &[Change], out: &mut Parts) -> Result<(), NoMemory>
     ensures octets { OnOk result (out.new.items ≡ out.old.items ++ record_of changes.now) }
     ensures read { list_all is_in_range changes.now ≡ true → length (record_of changes.now) < 2 ^ 32 → OnOk result (changes_of (record_of changes.now) ≡ Some changes.now) }
 {

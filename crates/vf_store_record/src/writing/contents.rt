@@ -9,16 +9,17 @@ use super::fields::{put_count, put_name, put_string};
 use super::files::put_attributes_of;
 use vf_attr::File;
 use vf_base::{Contents, DataUnit, Element, NoMemory};
+use vf_disk::Parts;
 
 /// The octets of an element that has no string.
-fn put_no_string(out: &mut Vec<u8>) -> Result<(), NoMemory>
+fn put_no_string(out: &mut Parts) -> Result<(), NoMemory>
     ensures { OnOk result (Writes string_format [] (IsShortList {A = ℕ} []) out.old.items out.new.items) }
 {
     put_count(0, out)?;
     Ok(())
 }
 
-fn put_octets_of(element: &Element, out: &mut Vec<u8>) -> Result<(), NoMemory>
+fn put_octets_of(element: &Element, out: &mut Parts) -> Result<(), NoMemory>
     ensures { OnOk result (Writes string_format (octets_meant element.now) (IsShortList (octets_meant element.now)) out.old.items out.new.items) }
 {
     match element {
@@ -31,7 +32,7 @@ fn put_octets_of(element: &Element, out: &mut Vec<u8>) -> Result<(), NoMemory>
 }
 
 /// The string of an element.
-fn put_string_of(contents: &Contents, element: &Element, out: &mut Vec<u8>) -> Result<(), NoMemory>
+fn put_string_of(contents: &Contents, element: &Element, out: &mut Parts) -> Result<(), NoMemory>
     ensures { OnOk result (Writes (string_in contents.now) element.now (IsString contents.now element.now) out.old.items out.new.items) }
 {
     let _ = contents;
@@ -39,7 +40,7 @@ fn put_string_of(contents: &Contents, element: &Element, out: &mut Vec<u8>) -> R
     Ok(())
 }
 
-fn put_unit(contents: &Contents, unit: &[Element], out: &mut Vec<u8>) -> Result<(), NoMemory>
+fn put_unit(contents: &Contents, unit: &[Element], out: &mut Parts) -> Result<(), NoMemory>
     ensures { OnOk result (Writes (unit_in contents.now) unit.now (AreStrings contents.now unit.now) out.old.items out.new.items) }
 {
     put_count(unit.len(), out)?;
@@ -49,7 +50,7 @@ fn put_unit(contents: &Contents, unit: &[Element], out: &mut Vec<u8>) -> Result<
     Ok(())
 }
 
-fn put_units(contents: &Contents, units: &[DataUnit], out: &mut Vec<u8>) -> Result<(), NoMemory>
+fn put_units(contents: &Contents, units: &[DataUnit], out: &mut Parts) -> Result<(), NoMemory>
     ensures { OnOk result (Writes (units_in contents.now) units.now (AreUnits contents.now units.now) out.old.items out.new.items) }
 {
     put_count(units.len(), out)?;
@@ -59,7 +60,7 @@ fn put_units(contents: &Contents, units: &[DataUnit], out: &mut Vec<u8>) -> Resu
     Ok(())
 }
 
-pub(crate) fn put_file(file: &File, out: &mut Vec<u8>) -> Result<(), NoMemory>
+pub(crate) fn put_file(file: &File, out: &mut Parts) -> Result<(), NoMemory>
     ensures { OnOk result (Writes file_format file.now (IsWholeFile file.now) out.old.items out.new.items) }
 {
     put_name(&file.name, out)?;

@@ -8,9 +8,10 @@ use super::fields::{
     put_count, put_name, put_octet, put_optional_name, put_optional_text, put_string, put_truth,
 };
 use vf_base::{Element, Name, NoMemory};
+use vf_disk::Parts;
 use vf_tables::User;
 
-pub(crate) fn put_user(user: &User, out: &mut Vec<u8>) -> Result<(), NoMemory>
+pub(crate) fn put_user(user: &User, out: &mut Parts) -> Result<(), NoMemory>
     ensures { OnOk result (Writes user_format user.now (is_short user.now.password ≡ true) out.old.items out.new.items) }
 {
     put_name(&user.identity, out)?;
@@ -18,7 +19,7 @@ pub(crate) fn put_user(user: &User, out: &mut Vec<u8>) -> Result<(), NoMemory>
     Ok(())
 }
 
-fn put_descriptor(name: &Option<Name>, filled: bool, out: &mut Vec<u8>) -> Result<(), NoMemory>
+fn put_descriptor(name: &Option<Name>, filled: bool, out: &mut Parts) -> Result<(), NoMemory>
     ensures { OnOk result (Writes descriptor_format (name.now, filled) Always out.old.items out.new.items) }
 {
     put_optional_name(name, out)?;
@@ -26,7 +27,7 @@ fn put_descriptor(name: &Option<Name>, filled: bool, out: &mut Vec<u8>) -> Resul
     Ok(())
 }
 
-fn put_element(element: &Element, out: &mut Vec<u8>) -> Result<(), NoMemory>
+fn put_element(element: &Element, out: &mut Parts) -> Result<(), NoMemory>
     ensures { OnOk result (Writes element_format element.now (IsElement element.now) out.old.items out.new.items) }
 {
     match element {
@@ -48,7 +49,7 @@ fn put_element(element: &Element, out: &mut Vec<u8>) -> Result<(), NoMemory>
     Ok(())
 }
 
-pub(crate) fn put_elements(elements: &[Element], out: &mut Vec<u8>) -> Result<(), NoMemory>
+pub(crate) fn put_elements(elements: &[Element], out: &mut Parts) -> Result<(), NoMemory>
     ensures { OnOk result (Writes elements_format elements.now (AreElements elements.now) out.old.items out.new.items) }
 {
     put_count(elements.len(), out)?;

@@ -8,8 +8,9 @@ ghost use Rattle.vf_tables.specs.Fitting.{is_short};
 
 use vf_attr::Stamp;
 use vf_base::{Actions, Control, Moment, Name, NoMemory, Octets, Term};
+use vf_disk::Parts;
 
-pub(crate) fn put_octet(octet: u8, out: &mut Vec<u8>) -> Result<(), NoMemory>
+pub(crate) fn put_octet(octet: u8, out: &mut Parts) -> Result<(), NoMemory>
     ensures { OnOk result (Writes octet_format octet Always out.old.items out.new.items) }
 {
     out.push(octet)?;
@@ -17,7 +18,7 @@ pub(crate) fn put_octet(octet: u8, out: &mut Vec<u8>) -> Result<(), NoMemory>
 }
 
 #[tactic(auto, unfolding(crate::specs::Fields::number16))]
-pub(crate) fn put_u16(number: u16, out: &mut Vec<u8>) -> Result<(), NoMemory>
+pub(crate) fn put_u16(number: u16, out: &mut Parts) -> Result<(), NoMemory>
     ensures { OnOk result (Writes number16 number Always out.old.items out.new.items) }
 {
     out.extend_from_slice(&number.to_be_bytes())?;
@@ -25,7 +26,7 @@ pub(crate) fn put_u16(number: u16, out: &mut Vec<u8>) -> Result<(), NoMemory>
 }
 
 #[tactic(auto, unfolding(crate::specs::Fields::number32))]
-pub(crate) fn put_u32(number: u32, out: &mut Vec<u8>) -> Result<(), NoMemory>
+pub(crate) fn put_u32(number: u32, out: &mut Parts) -> Result<(), NoMemory>
     ensures { OnOk result (Writes number32 number Always out.old.items out.new.items) }
 {
     out.extend_from_slice(&number.to_be_bytes())?;
@@ -33,7 +34,7 @@ pub(crate) fn put_u32(number: u32, out: &mut Vec<u8>) -> Result<(), NoMemory>
 }
 
 #[tactic(auto, unfolding(crate::specs::Fields::number64))]
-pub(crate) fn put_u64(number: u64, out: &mut Vec<u8>) -> Result<(), NoMemory>
+pub(crate) fn put_u64(number: u64, out: &mut Parts) -> Result<(), NoMemory>
     ensures { OnOk result (Writes number64 number Always out.old.items out.new.items) }
 {
     out.extend_from_slice(&number.to_be_bytes())?;
@@ -41,7 +42,7 @@ pub(crate) fn put_u64(number: u64, out: &mut Vec<u8>) -> Result<(), NoMemory>
 }
 
 /// A number of items in four octets, the lowest ones of more.
-pub(crate) fn put_count(count: usize, out: &mut Vec<u8>) -> Result<(), NoMemory>
+pub(crate) fn put_count(count: usize, out: &mut Parts) -> Result<(), NoMemory>
     ensures { OnOk result (out.new.items ≡ out.old.items ++ to_be_bytes w32 count) }
 {
     let number = (count % 4_294_967_296) as u32;
@@ -50,7 +51,7 @@ pub(crate) fn put_count(count: usize, out: &mut Vec<u8>) -> Result<(), NoMemory>
 }
 
 /// Octets after their number in two octets, the lowest ones of more.
-pub(crate) fn put_text(text: &Octets, out: &mut Vec<u8>) -> Result<(), NoMemory>
+pub(crate) fn put_text(text: &Octets, out: &mut Parts) -> Result<(), NoMemory>
     ensures { OnOk result (Writes text_format text.now (IsShortText text.now) out.old.items out.new.items) }
 {
     let number = (text.len() % 65_536) as u16;
@@ -59,15 +60,15 @@ pub(crate) fn put_text(text: &Octets, out: &mut Vec<u8>) -> Result<(), NoMemory>
     Ok(())
 }
 
-pub(crate) fn put_string(string: &Octets, out: &mut Vec<u8>) -> Result<(), NoMemory>
+pub(crate) fn put_string(string: &Octets, out: &mut Parts) -> Result<(), NoMemory>
     ensures { OnOk result (Writes string_format string.now (IsShortList string.now) out.old.items out.new.items) }
 {
     put_count(string.len(), out)?;
-    out.extend_from_slice(string.as_slice())?;
+    out.push_shared(string)?;
     Ok(())
 }
 
-pub(crate) fn put_name(name: &Name, out: &mut Vec<u8>) -> Result<(), NoMemory>
+pub(crate) fn put_name(name: &Name, out: &mut Parts) -> Result<(), NoMemory>
     ensures { OnOk result (Writes name_format name.now Always out.old.items out.new.items) }
 {
     let octets = name.as_slice();
@@ -83,14 +84,14 @@ fn truth_number(truth: bool) -> u8
     if truth { 1 } else { 0 }
 }
 
-pub(crate) fn put_truth(truth: bool, out: &mut Vec<u8>) -> Result<(), NoMemory>
+pub(crate) fn put_truth(truth: bool, out: &mut Parts) -> Result<(), NoMemory>
     ensures { OnOk result (Writes truth_format truth Always out.old.items out.new.items) }
 {
     put_octet(truth_number(truth), out)?;
     Ok(())
 }
 
-pub(crate) fn put_actions(actions: Actions, out: &mut Vec<u8>) -> Result<(), NoMemory>
+pub(crate) fn put_actions(actions: Actions, out: &mut Parts) -> Result<(), NoMemory>
     ensures { OnOk result (Writes actions_format actions Always out.old.items out.new.items) }
 {
     put_octet(actions.value, out)?;
@@ -108,21 +109,21 @@ fn control_number(control: Control) -> u8
     }
 }
 
-pub(crate) fn put_control(control: Control, out: &mut Vec<u8>) -> Result<(), NoMemory>
+pub(crate) fn put_control(control: Control, out: &mut Parts) -> Result<(), NoMemory>
     ensures { OnOk result (Writes control_format control Always out.old.items out.new.items) }
 {
     put_octet(control_number(control), out)?;
     Ok(())
 }
 
-fn put_moment(moment: Moment, out: &mut Vec<u8>) -> Result<(), NoMemory>
+fn put_moment(moment: Moment, out: &mut Parts) -> Result<(), NoMemory>
     ensures { OnOk result (Writes moment_format moment Always out.old.items out.new.items) }
 {
     put_u64(moment.seconds(), out)?;
     Ok(())
 }
 
-pub(crate) fn put_stamp(stamp: &Stamp, out: &mut Vec<u8>) -> Result<(), NoMemory>
+pub(crate) fn put_stamp(stamp: &Stamp, out: &mut Parts) -> Result<(), NoMemory>
     ensures { OnOk result (Writes stamp_format stamp.now Always out.old.items out.new.items) }
 {
     put_moment(stamp.moment, out)?;
@@ -130,7 +131,7 @@ pub(crate) fn put_stamp(stamp: &Stamp, out: &mut Vec<u8>) -> Result<(), NoMemory
     Ok(())
 }
 
-pub(crate) fn put_optional_stamp(stamp: &Option<Stamp>, out: &mut Vec<u8>) -> Result<(), NoMemory>
+pub(crate) fn put_optional_stamp(stamp: &Option<Stamp>, out: &mut Parts) -> Result<(), NoMemory>
     ensures { OnOk result (Writes optional_stamp_format stamp.now Always out.old.items out.new.items) }
 {
     let Some(stamp) = stamp else {
@@ -142,7 +143,7 @@ pub(crate) fn put_optional_stamp(stamp: &Option<Stamp>, out: &mut Vec<u8>) -> Re
     Ok(())
 }
 
-pub(crate) fn put_optional_name(name: &Option<Name>, out: &mut Vec<u8>) -> Result<(), NoMemory>
+pub(crate) fn put_optional_name(name: &Option<Name>, out: &mut Parts) -> Result<(), NoMemory>
     ensures { OnOk result (Writes optional_name_format name.now Always out.old.items out.new.items) }
 {
     let Some(name) = name else {
@@ -154,7 +155,7 @@ pub(crate) fn put_optional_name(name: &Option<Name>, out: &mut Vec<u8>) -> Resul
     Ok(())
 }
 
-pub(crate) fn put_optional_text(text: &Option<Octets>, out: &mut Vec<u8>) -> Result<(), NoMemory>
+pub(crate) fn put_optional_text(text: &Option<Octets>, out: &mut Parts) -> Result<(), NoMemory>
     ensures { OnOk result (Writes optional_text_format text.now (is_short text.now ≡ true) out.old.items out.new.items) }
 {
     let Some(text) = text else {
@@ -166,7 +167,7 @@ pub(crate) fn put_optional_text(text: &Option<Octets>, out: &mut Vec<u8>) -> Res
     Ok(())
 }
 
-pub(crate) fn put_term(term: &Term, out: &mut Vec<u8>) -> Result<(), NoMemory>
+pub(crate) fn put_term(term: &Term, out: &mut Parts) -> Result<(), NoMemory>
     ensures { OnOk result (Writes term_format term.now (IsTerm term.now) out.old.items out.new.items) }
 {
     put_optional_name(&term.identity, out)?;

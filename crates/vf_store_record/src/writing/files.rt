@@ -12,9 +12,10 @@ use super::fields::{
 use crate::contents::kind_number;
 use vf_attr::{Attributes, File, Stamp};
 use vf_base::{Actions, Contents, NoMemory, Term, Terms};
+use vf_disk::Parts;
 
 /// A contents type, which of FTAM-1, FTAM-2 and FTAM-3 is spelled by its number.
-fn put_contents(contents: &Contents, out: &mut Vec<u8>) -> Result<(), NoMemory>
+fn put_contents(contents: &Contents, out: &mut Parts) -> Result<(), NoMemory>
     ensures { OnOk result (Writes contents_format contents.now (has_kind contents.now ≡ true) out.old.items out.new.items) }
 {
     put_octet(kind_number(contents), out)?;
@@ -24,7 +25,7 @@ fn put_contents(contents: &Contents, out: &mut Vec<u8>) -> Result<(), NoMemory>
     Ok(())
 }
 
-fn put_terms(terms: &[Term], out: &mut Vec<u8>) -> Result<(), NoMemory>
+fn put_terms(terms: &[Term], out: &mut Parts) -> Result<(), NoMemory>
     ensures { OnOk result (Writes terms_format terms.now (AreTerms terms.now) out.old.items out.new.items) }
 {
     put_count(terms.len(), out)?;
@@ -38,7 +39,7 @@ fn put_settings(
     permitted: Actions,
     contents: &Contents,
     terms: &Terms,
-    out: &mut Vec<u8>,
+    out: &mut Parts,
 ) -> Result<(), NoMemory>
     ensures { OnOk result (Writes settings_format (record { permitted = permitted; contents = contents.now; terms = terms.now }) (AreSettings contents.now terms.now) out.old.items out.new.items) }
 {
@@ -53,7 +54,7 @@ fn put_stamps(
     modified: &Option<Stamp>,
     read: &Option<Stamp>,
     changed: &Option<Stamp>,
-    out: &mut Vec<u8>,
+    out: &mut Parts,
 ) -> Result<(), NoMemory>
     ensures { OnOk result (Writes stamps_format (record { created = created.now; modified = modified.now; read = read.now; changed = changed.now }) Always out.old.items out.new.items) }
 {
@@ -64,7 +65,7 @@ fn put_stamps(
     Ok(())
 }
 
-pub(crate) fn put_attributes(attributes: &Attributes, out: &mut Vec<u8>) -> Result<(), NoMemory>
+pub(crate) fn put_attributes(attributes: &Attributes, out: &mut Parts) -> Result<(), NoMemory>
     ensures { OnOk result (Writes attributes_format attributes.now (AreSettings attributes.now.contents attributes.now.terms) out.old.items out.new.items) }
 {
     put_settings(
@@ -85,7 +86,7 @@ pub(crate) fn put_attributes(attributes: &Attributes, out: &mut Vec<u8>) -> Resu
 }
 
 /// The attributes of a file, without its name.
-pub(crate) fn put_attributes_of(file: &File, out: &mut Vec<u8>) -> Result<(), NoMemory>
+pub(crate) fn put_attributes_of(file: &File, out: &mut Parts) -> Result<(), NoMemory>
     ensures { OnOk result (Writes attributes_format (attributes_of file.now) (AreSettings file.now.contents file.now.terms) out.old.items out.new.items) }
 {
     put_settings(file.permitted, &file.contents, &file.terms, out)?;

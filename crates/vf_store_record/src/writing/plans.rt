@@ -5,6 +5,7 @@ ghost use Rattle.vf_store_record.specs.Writing.{Always, Writes};
 
 use super::fields::{put_name, put_octet, put_u16, put_u32};
 use vf_base::NoMemory;
+use vf_disk::Parts;
 use vf_tables::{Phase, Plan, Way};
 
 fn way_number(way: Way) -> u8
@@ -16,7 +17,7 @@ fn way_number(way: Way) -> u8
     }
 }
 
-fn put_way(way: Way, out: &mut Vec<u8>) -> Result<(), NoMemory>
+fn put_way(way: Way, out: &mut Parts) -> Result<(), NoMemory>
     ensures { OnOk result (Writes way_format way Always out.old.items out.new.items) }
 {
     put_octet(way_number(way), out)?;
@@ -34,14 +35,14 @@ fn phase_number(phase: Phase) -> u8
     }
 }
 
-fn put_phase(phase: Phase, out: &mut Vec<u8>) -> Result<(), NoMemory>
+fn put_phase(phase: Phase, out: &mut Parts) -> Result<(), NoMemory>
     ensures { OnOk result (Writes phase_format phase Always out.old.items out.new.items) }
 {
     put_octet(phase_number(phase), out)?;
     Ok(())
 }
 
-fn put_purpose(plan: &Plan, out: &mut Vec<u8>) -> Result<(), NoMemory>
+fn put_purpose(plan: &Plan, out: &mut Parts) -> Result<(), NoMemory>
     ensures { OnOk result (Writes purpose (record { activity = plan.now.activity; way = plan.now.way; kind = plan.now.kind; every = plan.now.every }) Always out.old.items out.new.items) }
 {
     put_u32(plan.activity, out)?;
@@ -51,7 +52,7 @@ fn put_purpose(plan: &Plan, out: &mut Vec<u8>) -> Result<(), NoMemory>
     Ok(())
 }
 
-fn put_course(plan: &Plan, out: &mut Vec<u8>) -> Result<(), NoMemory>
+fn put_course(plan: &Plan, out: &mut Parts) -> Result<(), NoMemory>
     ensures { OnOk result (Writes course (record { number = plan.now.number; point = plan.now.point; phase = plan.now.phase; outcome = plan.now.outcome }) Always out.old.items out.new.items) }
 {
     put_u32(plan.number, out)?;
@@ -61,7 +62,7 @@ fn put_course(plan: &Plan, out: &mut Vec<u8>) -> Result<(), NoMemory>
     Ok(())
 }
 
-pub(crate) fn put_plan(plan: &Plan, out: &mut Vec<u8>) -> Result<(), NoMemory>
+pub(crate) fn put_plan(plan: &Plan, out: &mut Parts) -> Result<(), NoMemory>
     ensures { OnOk result (Writes plan_format plan.now Always out.old.items out.new.items) }
 {
     put_purpose(plan, out)?;

@@ -11,9 +11,10 @@ use super::fields::{
     put_u64,
 };
 use vf_base::{Context, Control, Controls, FaduId, NoMemory};
+use vf_disk::Parts;
 use vf_tables::{Direction, Operation, Regime};
 
-fn put_ownership(regime: &Regime, out: &mut Vec<u8>) -> Result<(), NoMemory>
+fn put_ownership(regime: &Regime, out: &mut Parts) -> Result<(), NoMemory>
     ensures { OnOk result (Writes ownership (record { identity = regime.now.identity; activity = regime.now.activity; file = regime.now.file }) Always out.old.items out.new.items) }
 {
     put_name(&regime.identity, out)?;
@@ -22,7 +23,7 @@ fn put_ownership(regime: &Regime, out: &mut Vec<u8>) -> Result<(), NoMemory>
     Ok(())
 }
 
-fn put_each(each: &[Control], out: &mut Vec<u8>) -> Result<(), NoMemory>
+fn put_each(each: &[Control], out: &mut Parts) -> Result<(), NoMemory>
     requires { length each.now ≡ 8 }
     ensures { OnOk result (Writes (repeated 8 control) each.now Always out.old.items out.new.items) }
 {
@@ -32,14 +33,14 @@ fn put_each(each: &[Control], out: &mut Vec<u8>) -> Result<(), NoMemory>
     Ok(())
 }
 
-fn put_controls(controls: &Controls, out: &mut Vec<u8>) -> Result<(), NoMemory>
+fn put_controls(controls: &Controls, out: &mut Parts) -> Result<(), NoMemory>
     ensures { OnOk result (Writes controls_format controls.now Always out.old.items out.new.items) }
 {
     put_each(&controls.each, out)?;
     Ok(())
 }
 
-fn put_permission(regime: &Regime, out: &mut Vec<u8>) -> Result<(), NoMemory>
+fn put_permission(regime: &Regime, out: &mut Parts) -> Result<(), NoMemory>
     ensures { OnOk result (Writes permission (record { requested = regime.now.requested; controls = regime.now.controls; mode = regime.now.mode; password = regime.now.password }) (is_short regime.now.password ≡ true) out.old.items out.new.items) }
 {
     put_actions(regime.requested, out)?;
@@ -49,7 +50,7 @@ fn put_permission(regime: &Regime, out: &mut Vec<u8>) -> Result<(), NoMemory>
     Ok(())
 }
 
-fn put_progress(regime: &Regime, out: &mut Vec<u8>) -> Result<(), NoMemory>
+fn put_progress(regime: &Regime, out: &mut Parts) -> Result<(), NoMemory>
     ensures { OnOk result (Writes progress (record { position = regime.now.position; number = regime.now.number; last = regime.now.last; window = regime.now.window }) Always out.old.items out.new.items) }
 {
     put_u32(regime.position, out)?;
@@ -59,7 +60,7 @@ fn put_progress(regime: &Regime, out: &mut Vec<u8>) -> Result<(), NoMemory>
     Ok(())
 }
 
-fn put_standing(regime: &Regime, out: &mut Vec<u8>) -> Result<(), NoMemory>
+fn put_standing(regime: &Regime, out: &mut Parts) -> Result<(), NoMemory>
     ensures { OnOk result (Writes standing (record { refused = regime.now.refused; point = regime.now.point; ended = regime.now.ended; version = regime.now.version }) Always out.old.items out.new.items) }
 {
     put_u16(regime.refused, out)?;
@@ -127,14 +128,14 @@ fn fadu_number(fadu: FaduId) -> u64
     }
 }
 
-fn put_fadu(fadu: FaduId, out: &mut Vec<u8>) -> Result<(), NoMemory>
+fn put_fadu(fadu: FaduId, out: &mut Parts) -> Result<(), NoMemory>
     ensures { OnOk result (Writes fadu_format fadu (is_numbered fadu ≡ true) out.old.items out.new.items) }
 {
     put_u64(fadu_number(fadu), out)?;
     Ok(())
 }
 
-fn put_transfer(regime: &Regime, out: &mut Vec<u8>) -> Result<(), NoMemory>
+fn put_transfer(regime: &Regime, out: &mut Parts) -> Result<(), NoMemory>
     ensures { OnOk result (Writes transfer (record { direction = regime.now.direction; fadu = regime.now.fadu }) (is_numbered regime.now.fadu ≡ true) out.old.items out.new.items) }
 {
     put_octet(direction_number(regime.direction), out)?;
@@ -143,7 +144,7 @@ fn put_transfer(regime: &Regime, out: &mut Vec<u8>) -> Result<(), NoMemory>
     Ok(())
 }
 
-pub(crate) fn put_regime(regime: &Regime, out: &mut Vec<u8>) -> Result<(), NoMemory>
+pub(crate) fn put_regime(regime: &Regime, out: &mut Parts) -> Result<(), NoMemory>
     ensures { OnOk result (Writes regime_format regime.now (is_regime regime.now ≡ true) out.old.items out.new.items) }
 {
     put_ownership(regime, out)?;

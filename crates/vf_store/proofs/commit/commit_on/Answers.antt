@@ -20,8 +20,8 @@ apply_over-requires g c = subst (λ (l : List Change). IfSome c.args.ahead (λ n
 pub write-requires-clause-writable : goal.write-requires-clause-writable
 write-requires-clause-writable g c =
     let within : (placed c.args.journal.now c.args.tables.now c.args.changes.now).end ≤ c.args.journal.now.limit = omega (arith, c.in_ok-built.ensures.built.end, c.if-built-limit.false, c.limit-limit.ensures) in
-    rw c.as_slice-2.ensures.value (writable c.args.journal.now c.args.tables.now c.args.changes.now (area_in c.in_ok-built.built) c.in_ok-built.built.entry.items
-    c.in_ok-built.ensures.short c.in_ok-built.ensures.built.area c.in_ok-built.ensures.built.entry within)
+    writable c.args.journal.now c.args.tables.now c.args.changes.now (area_in c.in_ok-built.built) c.in_ok-built.built.entry.items
+    c.in_ok-built.ensures.short c.in_ok-built.ensures.built.area c.in_ok-built.ensures.built.entry within
 
 pub returns-in_err-built-clause-any_moment : goal.returns-in_err-built-clause-any_moment
 returns-in_err-built-clause-any_moment g c = λ fitting stands.
@@ -37,11 +37,11 @@ returns-in_err-apply_over-clause-any_moment g c = λ fitting stands.
 
 pub returns-in_err-write-clause-any_moment : goal.returns-in_err-write-clause-any_moment
 returns-in_err-write-clause-any_moment g c = λ fitting stands.
-    c.write.ensures.any_moment c.args.tables.now (after_all c.args.tables.now c.args.changes.now) (rw c.as_slice-2.ensures.value (c.in_ok-built.ensures.leads stands.records stands.making fitting)) stands
+    c.write.ensures.any_moment c.args.tables.now (after_all c.args.tables.now c.args.changes.now) (c.in_ok-built.ensures.leads stands.records stands.making fitting) stands
 
 pub returns-clause-any_moment : goal.returns-clause-any_moment
 returns-clause-any_moment g c = λ fitting stands.
-    c.write.ensures.any_moment c.args.tables.now (after_all c.args.tables.now c.args.changes.now) (rw c.as_slice-2.ensures.value (c.in_ok-built.ensures.leads stands.records stands.making fitting)) stands
+    c.write.ensures.any_moment c.args.tables.now (after_all c.args.tables.now c.args.changes.now) (c.in_ok-built.ensures.leads stands.records stands.making fitting) stands
 
 pub returns-in_err-built-clause-seen : goal.returns-in_err-built-clause-seen
 returns-in_err-built-clause-seen g c = λ fitting stands.
@@ -57,15 +57,15 @@ returns-in_err-apply_over-clause-seen g c = λ fitting stands.
 
 pub returns-in_err-write-clause-seen : goal.returns-in_err-write-clause-seen
 returns-in_err-write-clause-seen g c = λ fitting stands.
-    c.write.ensures.seen c.args.tables.now (after_all c.args.tables.now c.args.changes.now) (rw c.as_slice-2.ensures.value (c.in_ok-built.ensures.leads stands.records stands.making fitting)) stands
+    c.write.ensures.seen c.args.tables.now (after_all c.args.tables.now c.args.changes.now) (c.in_ok-built.ensures.leads stands.records stands.making fitting) stands
 
 pub returns-clause-seen : goal.returns-clause-seen
 returns-clause-seen g c = λ fitting stands.
-    c.write.ensures.seen c.args.tables.now (after_all c.args.tables.now c.args.changes.now) (rw c.as_slice-2.ensures.value (c.in_ok-built.ensures.leads stands.records stands.making fitting)) stands
+    c.write.ensures.seen c.args.tables.now (after_all c.args.tables.now c.args.changes.now) (c.in_ok-built.ensures.leads stands.records stands.making fitting) stands
 
 pub returns-clause-ok : goal.returns-clause-ok
 returns-clause-ok g c = λ fitting stands.
-    c.in_ok-write.ensures.ok c.args.tables.now (after_all c.args.tables.now c.args.changes.now) (rw c.as_slice-2.ensures.value (c.in_ok-built.ensures.leads stands.records stands.making fitting)) stands
+    c.in_ok-write.ensures.ok c.args.tables.now (after_all c.args.tables.now c.args.changes.now) (c.in_ok-built.ensures.leads stands.records stands.making fitting) stands
 
 pub returns-clause-tables : goal.returns-clause-tables
 returns-clause-tables g c = c.in_ok-apply_over.ensures.ok ∙ ap (λ (l : List Change). after_all c.args.tables.now l) c.as_slice.ensures
@@ -91,14 +91,14 @@ pub returns-in_err-write-clause-steps : goal.returns-in_err-write-clause-steps
 returns-in_err-write-clause-steps g c =
     let p = err_from_is_err_and c.from_residual-in_err-write.result c.from_residual-in_err-write.ensures.1 in
     let fault = only_fault (Unit {0}) (g.D.Disk.fault_count c.args.disk.now) (g.D.Disk.fault_count c.write.new.disk) c.in_err-write.field-0.0 c.in_err-write.ensures.causes in
-    let made = rw (c.as_slice-2.ensures.value, c.in_ok-built.ensures.built.entry, c.in_ok-built.ensures.built.area) at c.in_err-write.ensures.steps in
+    let made = rw (c.in_ok-built.ensures.built.entry, c.in_ok-built.ensures.built.area) at c.in_err-write.ensures.steps in
     rw (p.1, p.2, fault.0) made
 
 pub returns-clause-steps : goal.returns-clause-steps
-returns-clause-steps g c = rw (c.as_slice-2.ensures.value, c.in_ok-built.ensures.built.entry, c.in_ok-built.ensures.built.area) at c.in_ok-write.ensures.steps
+returns-clause-steps g c = rw (c.in_ok-built.ensures.built.entry, c.in_ok-built.ensures.built.area) at c.in_ok-write.ensures.steps
 
 pub returns-clause-moved : goal.returns-clause-moved
 returns-clause-moved g c =
-    let moved = rw (c.as_slice-2.ensures.value, c.in_ok-built.ensures.built.entry, c.in_ok-built.ensures.built.area) at c.in_ok-write.ensures.moved in
+    let moved = rw (c.in_ok-built.ensures.built.entry, c.in_ok-built.ensures.built.area) at c.in_ok-write.ensures.moved in
     let count : length (entry_of (record_of c.args.changes.now)) - 5 ≡ length (record_of c.args.changes.now) = omega (arith, length-entry_of (record_of c.args.changes.now)) in
     moved ∙ ap (λ (n : ℕ). after_append (after_move c.args.journal.now (area_planned c.args.tables.now (placed c.args.journal.now c.args.tables.now c.args.changes.now).switch)) n) count

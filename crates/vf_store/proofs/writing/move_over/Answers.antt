@@ -53,23 +53,23 @@ returns-clause-seen g c = λ tables area stands.
 pub returns-in_err-prepare-clause-steps : goal.returns-in_err-prepare-clause-steps
 returns-in_err-prepare-clause-steps g c =
     let p = err_from_is_err_and c.from_residual.result c.from_residual.ensures.1 in
-    let start = new_start c.args.journal.now (length c.args.area.now) in
-    rw p.1 (steps_failed (prepare_steps start c.args.area.now (not c.args.journal.now.second)) (switch_steps (not c.args.journal.now.second)) (g.D.Disk.plan c.args.disk.now) (g.D.Disk.plan c.prepare.new.disk)
+    let start = new_start c.args.journal.now (length c.args.area.now.items) in
+    rw p.1 (steps_failed (prepare_steps start c.args.area.now.items (not c.args.journal.now.second)) (switch_steps (not c.args.journal.now.second)) (g.D.Disk.plan c.args.disk.now) (g.D.Disk.plan c.prepare.new.disk)
     (g.D.Disk.state c.args.disk.now) (g.D.Disk.state c.prepare.new.disk) (g.D.Disk.lack_count c.args.disk.now) (g.D.Disk.lack_count c.prepare.new.disk) c.in_err-prepare.ensures.steps)
 
 pub returns-in_err-switch-clause-steps : goal.returns-in_err-switch-clause-steps
 returns-in_err-switch-clause-steps g c =
     let p = err_from_is_err_and c.from_residual-in_err-switch.result c.from_residual-in_err-switch.ensures.1 in
-    let start = new_start c.args.journal.now (length c.args.area.now) in
+    let start = new_start c.args.journal.now (length c.args.area.now.items) in
     let second = rw c.in_ok-prepare.ensures.moved at c.in_err-switch.ensures.steps in
-    rw p.1 (steps_joined (prepare_steps start c.args.area.now (not c.args.journal.now.second)) (switch_steps (not c.args.journal.now.second)) (g.D.Disk.plan c.args.disk.now) (g.D.Disk.plan c.prepare.new.disk) (g.D.Disk.plan c.switch.new.disk)
+    rw p.1 (steps_joined (prepare_steps start c.args.area.now.items (not c.args.journal.now.second)) (switch_steps (not c.args.journal.now.second)) (g.D.Disk.plan c.args.disk.now) (g.D.Disk.plan c.prepare.new.disk) (g.D.Disk.plan c.switch.new.disk)
     (g.D.Disk.state c.args.disk.now) (g.D.Disk.state c.prepare.new.disk) (g.D.Disk.state c.switch.new.disk) true (g.D.Disk.lack_count c.args.disk.now) (g.D.Disk.lack_count c.prepare.new.disk) (g.D.Disk.lack_count c.switch.new.disk)
     c.in_ok-prepare.ensures.steps second)
 
 pub returns-clause-steps : goal.returns-clause-steps
 returns-clause-steps g c =
-    let start = new_start c.args.journal.now (length c.args.area.now) in
+    let start = new_start c.args.journal.now (length c.args.area.now.items) in
     let second = rw c.in_ok-prepare.ensures.moved at c.in_ok-switch.ensures.steps in
-    steps_joined (prepare_steps start c.args.area.now (not c.args.journal.now.second)) (switch_steps (not c.args.journal.now.second)) (g.D.Disk.plan c.args.disk.now) (g.D.Disk.plan c.prepare.new.disk) (g.D.Disk.plan c.switch.new.disk)
+    steps_joined (prepare_steps start c.args.area.now.items (not c.args.journal.now.second)) (switch_steps (not c.args.journal.now.second)) (g.D.Disk.plan c.args.disk.now) (g.D.Disk.plan c.prepare.new.disk) (g.D.Disk.plan c.switch.new.disk)
     (g.D.Disk.state c.args.disk.now) (g.D.Disk.state c.prepare.new.disk) (g.D.Disk.state c.switch.new.disk) false (g.D.Disk.lack_count c.args.disk.now) (g.D.Disk.lack_count c.prepare.new.disk) (g.D.Disk.lack_count c.switch.new.disk)
     c.in_ok-prepare.ensures.steps second

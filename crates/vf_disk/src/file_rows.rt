@@ -1,0 +1,63 @@
+//! Octets that stand in parts, written to a file: row after row, of which short ones are gathered for one write.
+use crate::Parts;
+use std::alloc::Global;
+use std::os::unix::fs::FileExt;
+use std::{fs, io};
+
+/// The most octets that are gathered for one write.
+const BLOCK: usize = 262_144;
+
+/// Room to gather octets; none without memory, and then each row is a write of its own.
+pub(crate) fn block_of(alloc: Global) -> Vec<u8> {
+    match Vec::with_capacity(alloc, BLOCK) {
+        Ok(block) => block,
+        Err(_) => Vec::new(alloc),
+    }
+}
+
+/// Writes the octets at a place of the file; those of short rows are gathered in the block. No memory is taken.
+pub(crate) fn write_rows(
+    file: &fs::File,
+    at: u64,
+    octets: &Parts,
+    block: &mut Vec<u8>,
+) -> io::Result<()> {
+    let strings = octets.strings.as_slice();
+    let mut rest = octets.short.as_slice();
+    if strings.is_empty() {
+        return file.write_all_at(rest, at);
+    }
+    block.clear();
+    let mut place = at;
+    for part in strings {
+        let (here, later) = rest.split_at(part.before);
+        put(file, &mut place, here, block)?;
+        put(file, &mut place, part.octets.as_slice(), block)?;
+        rest = later;
+    }
+    put(file, &mut place, rest, block)?;
+    flush(file, &mut place, block)
+}
+
+/// Puts a row after those in the block, which is written first where there is no room. A row that has no room in an
+/// empty block either is written by itself.
+fn put(file: &fs::File, place: &mut u64, row: &[u8], block: &mut Vec<u8>) -> io::Result<()> {
+    if row.len() > block.capacity() - block.len() {
+        flush(file, place, block)?;
+    }
+    if row.len() <= block.capacity() - block.len() {
+        block.extend_from_slice(row)?;
+        return Ok(());
+    }
+    file.write_all_at(row, *place)?;
+    *place = place.saturating_add(row.len() as u64);
+    Ok(())
+}
+
+/// Writes what the block holds, which is empty then.
+fn flush(file: &fs::File, place: &mut u64, block: &mut Vec<u8>) -> io::Result<()> {
+    file.write_all_at(block.as_slice(), *place)?;
+    *place = place.saturating_add(block.len() as u64);
+    block.clear();
+    Ok(())
+}
