@@ -1,5 +1,6 @@
 pub mod Answering
 pub mod Cuts
+pub mod Decided
 pub mod Ended
 pub mod Gathers
 pub mod Greeting
@@ -7,6 +8,7 @@ pub mod Kept
 pub mod KeptRows
 pub mod KeptTalks
 pub mod Marks
+pub mod Saying
 pub mod Sent
 pub mod Staged
 pub mod Taking

@@ -3,15 +3,16 @@ use Rattle.std.proofs.Common.{◌≡◌, ◌≤◌, ◌<◌, ◌+◌, ℕ, Bool,
 use Rattle.std.proofs.lemmas.Bool.Decides.{nat_tests}
 use Rattle.vf_initiator.proofs.Ended.{ended_over, fed_stays, looked, over_spent, over_takes, received_stream, takes_more}
 use Rattle.vf_initiator.proofs.Taking.{few_taken, single}
-use Rattle.vf_initiator.specs.Few.{AreFew, TakesAtOnce, TakesOn, TakesOnward, fed_of, received}
-use Rattle.vf_initiator.specs.Owed.{IsSameEnd, LeadsAnswers, LeadsGreeting, offer_by, unless_ended, unless_spent}
+use Rattle.vf_initiator.proofs.Saying.{owes_of, all_said}
+use Rattle.vf_initiator.specs.Few.{AreFew, OwesOnward, TakesAtOnce, TakesOn, TakesOnward, fed_of, received}
+use Rattle.vf_initiator.specs.Owed.{IsSameEnd, LeadsAnswers, SaysAll, LeadsGreeting, offer_by, unless_ended, unless_spent}
 use Rattle.vf_initiator.specs.Gathering.{marked}
 use Rattle.vf_initiator.specs.Keeping.{changes_since, mark_of}
 use Rattle.vf_initiator.specs.Says.{doing_in}
 use Rattle.vf_initiator.specs.declared.doing.Doing.{Doing}
 use Rattle.vf_initiator.specs.declared.mark.Mark.{Mark}
 use Rattle.vf_tables.specs.declared.change.Change.{Change}
-use Rattle.vf_initiator.specs.Represents.{Holds, Represents, TakesPiece, resumed}
+use Rattle.vf_initiator.specs.Represents.{Holds, Lags, Owes, Represents, TakesPiece, TakesWaiting, resumed}
 use Rattle.vf_initiator.specs.Rows.{ended, is_over}
 use Rattle.vf_initiator.specs.Talking.{AnswersAll, Greets, Takes, Talk, released, within_budget}
 use Rattle.vf_initiator.specs.declared.conduct.Conduct.{Conduct}
@@ -80,25 +81,33 @@ ended_false : (t e : Bool) → (t ≡ true → e ≡ true) → e ≡ false → t
 ended_false false e on unset = refl
 ended_false true e on unset = absurd (let f : true ≡ false = sym (on refl) ∙ unset in cc)
 
-represents_so : (i i3 i4 : Initiator) (answered : Talk) → Holds i3 answered → i4 ≡ record i3 { conduct = unless_spent i3.octets (unless_ended (is_ended i3.stack.exchange.ending) i3.conduct) }
+owes_so : (i i3 i4 : Initiator) (answered : Talk) (rest : List ℕ) → (lags : Lags i3 answered rest) → is_ended lags.now.exchange.ending ≡ is_ended answered.association.exchange.ending
+    → i4 ≡ record i3 { conduct = unless_spent i3.octets (unless_ended (is_ended i3.stack.exchange.ending) i3.conduct) }
     → (is_ended answered.association.exchange.ending ≡ false → i3.octets ≡ min (length answered.association.stream) 18446744073709551615)
-    → Represents i4 (within_budget (released answered))
-represents_so i i3 i4 answered holds is count =
+    → Owes i4 (within_budget (released answered)) rest
+owes_so i i3 i4 answered rest lags lasts is count =
+    let holds = lags.holds in
     let e : Bool = is_ended answered.association.exchange.ending in
     let n : ℕ = length answered.association.stream in
     let c : Conduct = unless_ended e answered.conduct in
     let after : Talk = record answered { conduct = unless_spent n c } in
+    let ended_is : is_ended i3.stack.exchange.ending ≡ e = ap (λ (x : Ending). is_ended x) holds.association.stands.ending_is ∙ lasts in
     let here : unless_ended (is_ended i3.stack.exchange.ending) i3.conduct ≡ c =
-    ap (λ (x : Ending). unless_ended (is_ended x) i3.conduct) holds.association.stands.ending_is ∙ ap (λ (d : Conduct). unless_ended e d) holds.conduct in
+    ap (λ (t : Bool). unless_ended t i3.conduct) ended_is ∙ ap (λ (d : Conduct). unless_ended e d) holds.conduct in
     let over : e ≡ true → is_over c.stage ≡ true = λ (x : e ≡ true). ended_over e answered.conduct x in
     let conduct : unless_spent i3.octets (unless_ended (is_ended i3.stack.exchange.ending) i3.conduct) ≡ unless_spent n c =
     ap (λ (d : Conduct). unless_spent i3.octets d) here ∙ same_spent e i3.octets n c count over in
-    let kept : Represents (record i3 { conduct = unless_spent i3.octets (unless_ended (is_ended i3.stack.exchange.ending) i3.conduct) }) after =
+    let kept : Owes (record i3 { conduct = unless_spent i3.octets (unless_ended (is_ended i3.stack.exchange.ending) i3.conduct) }) after rest =
     record {
-      holds = record { association = holds.association; side = holds.side; offer = holds.offer; greeting = holds.greeting; conduct = conduct };
+      lags =
+          record {
+            now = lags.now;
+            holds = record { association = holds.association; side = holds.side; offer = holds.offer; greeting = holds.greeting; conduct = conduct };
+            sends = lags.sends;
+          };
       octets = λ goes. exact i3.octets n (count (goes_unended e n c over goes)) (still_few n c goes);
     } in
-    subst (λ (t : Talk). Represents i4 t) (sym (looked answered)) (subst (λ (j : Initiator). Represents j after) (sym is) kept)
+    subst (λ (t : Talk). Owes i4 t rest) (sym (looked answered)) (subst (λ (j : Initiator). Owes j after rest) (sym is) kept)
 
 -- ---- all of it
 
@@ -141,9 +150,10 @@ took_few i i1 i2 i3 i4 talk piece told out out1 out2 out3 is goes some few law f
     same_count i.octets (length a.stream) i3.octets (length piece) (is.octets goes) (h.count_is ∙ (g.count_is ∙ count)) (length h.after.association.stream) sum in
     record {
       octets = octets;
+      later = h.later;
       after = after;
       takes = taken i talk piece octets after is goes some few law at_once;
-      represents = represents_so i i3 i4 h.after h.holds look counted;
+      owes = owes_so i i3 i4 h.after h.later h.lags h.lasts look counted;
       given_is = ap (λ (x : Initiator). x.given) look ∙ (h.given_is ∙ (g.given_is ∙ given));
       sent =
           h.sent ∙ (ap (λ (o : List ℕ). o ++ h.octets) g.sent
@@ -153,21 +163,36 @@ took_few i i1 i2 i3 i4 talk piece told out out1 out2 out3 is goes some few law f
 
 -- ---- a few at a time
 
-pub took_none : (i : Initiator) (talk : Talk) (piece out : List ℕ) → Represents i talk → TakesOnward i talk piece out i out piece
+pub took_none : (i : Initiator) (talk : Talk) (piece out : List ℕ) → Represents i talk → OwesOnward i talk piece out i out piece
 took_none i talk piece out is =
-    record { octets = []; now = talk; represents = is; given_is = refl; sent = sym (append-nil out); onward = λ later after takes. takes }
+    record { octets = []; later = []; now = talk; owes = owes_of i talk is; given_is = refl; sent = refl; onward = λ more after takes. takes }
 
-pub took_on : (i now then : Initiator) (talk : Talk) (piece out out' out'' rest front left : List ℕ) → rest ≡ front ++ left → is_over now.conduct.stage ≡ false
-    → TakesOnward i talk piece out now out' rest → ((t : Talk) → Represents now t → is_over t.conduct.stage ≡ false → TakesOn now t front out' then out'')
-    → TakesOnward i talk piece out then out'' left
-took_on i now then talk piece out out' out'' rest front left is goes before few =
-    let next = few before.now before.represents (ap (λ (c : Conduct). is_over c.stage) (sym before.represents.holds.conduct) ∙ goes) in
+-- what waited is spelled, and more is taken
+took_said : (i now then : Initiator) (talk : Talk) (piece out out' out'' rest : List ℕ) → OwesOnward i talk piece out now out' rest
+    → ((t : Talk) (r : List ℕ) → Lags now t r → SaysAll now t r out' then out'') → TakesOnward i talk piece out then out'' rest
+took_said i now then talk piece out out' out'' rest before says =
+    let all = says before.now before.later before.owes.lags in
+    record {
+      octets = before.octets;
+      now = before.now;
+      represents = all_said now then before.now before.later out' out'' before.owes all;
+      given_is = all.given_is ∙ before.given_is;
+      sent = all.sent ∙ before.sent;
+      onward = before.onward;
+    }
+
+took_few_more : (i now then : Initiator) (talk : Talk) (piece out out' out'' rest front left : List ℕ) → rest ≡ front ++ left → (before : TakesOnward i talk piece out now out' rest) → is_over before.now.conduct.stage ≡ false
+    → ((t : Talk) → Represents now t → is_over t.conduct.stage ≡ false → TakesOn now t front out' then out'')
+    → OwesOnward i talk piece out then out'' left
+took_few_more i now then talk piece out out' out'' rest front left is before goes few =
+    let next = few before.now before.represents goes in
     let takes : Takes i.given (offer_by i.given) before.now front next.octets next.after =
     subst (λ (x : Given). Takes x (offer_by x) before.now front next.octets next.after) before.given_is next.takes in
     record {
       octets = before.octets ++ next.octets;
+      later = next.later;
       now = next.after;
-      represents = next.represents;
+      owes = next.owes;
       given_is = next.given_is ∙ before.given_is;
       sent = next.sent ∙ (ap (λ (o : List ℕ). o ++ next.octets) before.sent ∙ append_assoc out before.octets next.octets);
       onward = λ later after more.
@@ -177,22 +202,32 @@ took_on i now then talk piece out out' out'' rest front left is goes before few 
           (takes_more i.given (offer_by i.given) before.now front next.octets next.after left later after takes more)));
     }
 
+pub took_on : (i now mid then : Initiator) (talk : Talk) (piece out out' out'' out3 rest front left : List ℕ) → rest ≡ front ++ left → is_over now.conduct.stage ≡ false
+    → OwesOnward i talk piece out now out' rest → ((t : Talk) (r : List ℕ) → Lags now t r → SaysAll now t r out' mid out'')
+    → ((t : Talk) → Represents mid t → is_over t.conduct.stage ≡ false → TakesOn mid t front out'' then out3)
+    → OwesOnward i talk piece out then out3 left
+unfolding took_said
+took_on i now mid then talk piece out out' out'' out3 rest front left is goes before says few =
+    took_few_more i mid then talk piece out out'' out3 rest front left is (took_said i now mid talk piece out out' out'' rest before says)
+    (ap (λ (c : Conduct). is_over c.stage) (sym before.owes.lags.holds.conduct) ∙ goes) few
+
 no_octets : (given : Given) (offer : Bool) (talk : Talk) (rest : List ℕ) → (length rest ≡ 0) ⊎ (is_over talk.conduct.stage ≡ true) → Takes given offer talk rest [] talk
 no_octets given offer talk [] done = (refl, refl)
 no_octets given offer talk (octet ∷ rest) (inl none) = absurd (omega (arith, none))
 no_octets given offer talk (octet ∷ rest) (inr over) = over_takes given offer talk (octet ∷ rest) over
 
-pub took_all : (i now : Initiator) (talk : Talk) (piece out out' rest : List ℕ) → (length rest ≡ 0) ⊎ (is_over now.conduct.stage ≡ true) → TakesOnward i talk piece out now out' rest → TakesOn i talk piece out now out'
+pub took_all : (i now : Initiator) (talk : Talk) (piece out out' rest : List ℕ) → (length rest ≡ 0) ⊎ (is_over now.conduct.stage ≡ true) → OwesOnward i talk piece out now out' rest → TakesOn i talk piece out now out'
 took_all i now talk piece out out' rest done last =
     let so : (length rest ≡ 0) ⊎ (is_over last.now.conduct.stage ≡ true) =
-    subst (λ (c : Conduct). (length rest ≡ 0) ⊎ (is_over c.stage ≡ true)) last.represents.holds.conduct done in
+    subst (λ (c : Conduct). (length rest ≡ 0) ⊎ (is_over c.stage ≡ true)) last.owes.lags.holds.conduct done in
     record {
       octets = last.octets;
+      later = last.later;
       after = last.now;
       takes =
           subst (λ (o : List ℕ). Takes i.given (offer_by i.given) talk piece o last.now) (append-nil last.octets)
           (last.onward [] last.now (no_octets i.given (offer_by i.given) last.now rest so));
-      represents = last.represents;
+      owes = last.owes;
       given_is = last.given_is;
       sent = last.sent;
     }
@@ -203,42 +238,64 @@ pub took_piece : (i i2 : Initiator) (c1 : Conduct) (mark : Mark) (talk : Talk) (
     → Represents i talk → c1 ≡ record i.conduct { gathered = marked i.conduct.gathered } → mark ≡ mark_of i.given i.conduct
     → ((t : Talk) → Represents (record i { conduct = c1 }) t → TakesOn (record i { conduct = c1 }) t piece out i2 out')
     → changes' ≡ changes ++ changes_since i2.given mark i2.conduct → stand ≡ doing_in i2.conduct.stage
-    → TakesPiece i talk piece changes out i2 changes' out' stand
+    → TakesWaiting i talk piece changes out i2 changes' out' stand
 took_piece i i2 c1 mark talk piece changes changes' out out' stand is marks marked_so takes put stands =
     let conduct : c1 ≡ record talk.conduct { gathered = marked talk.conduct.gathered } = marks ∙ ap (λ (c : Conduct). record c { gathered = marked c.gathered }) is.holds.conduct in
     let begun : Represents (record i { conduct = c1 }) (resumed talk) =
     record {
       holds = record { association = is.holds.association; side = is.holds.side; offer = is.holds.offer; greeting = is.holds.greeting; conduct = conduct };
       octets = is.octets;
+      waits = is.waits;
     } in
     let t = takes (resumed talk) begun in
     let mark_is : mark ≡ mark_of i.given talk.conduct = marked_so ∙ ap (λ (c : Conduct). mark_of i.given c) is.holds.conduct in
     record {
       after = t.after;
       octets = t.octets;
+      rest = t.later;
       takes = t.takes;
-      represents = t.represents;
+      owes = t.owes;
       given_is = t.given_is;
       sent = t.sent;
       changed =
           put
           ∙ (ap (λ (g : Given). changes ++ changes_since g mark i2.conduct) t.given_is
           ∙ (ap (λ (m : Mark). changes ++ changes_since i.given m i2.conduct) mark_is
-          ∙ ap (λ (c : Conduct). changes ++ changes_since i.given (mark_of i.given talk.conduct) c) t.represents.holds.conduct));
-      doing_is = stands ∙ ap (λ (c : Conduct). doing_in c.stage) t.represents.holds.conduct;
+          ∙ ap (λ (c : Conduct). changes ++ changes_since i.given (mark_of i.given talk.conduct) c) t.owes.lags.holds.conduct));
+      doing_is = stands ∙ ap (λ (c : Conduct). doing_in c.stage) t.owes.lags.holds.conduct;
     }
 
 -- What is sent was collected first, and then appended.
 pub took_appended : (i i2 : Initiator) (talk : Talk) (piece : List ℕ) (changes changes' : List Change) (none sent appended out out' : List ℕ) (stand : Doing)
-    → none ≡ [] → appended ≡ sent → out' ≡ out ++ appended → TakesPiece i talk piece changes none i2 changes' sent stand → TakesPiece i talk piece changes out i2 changes' out' stand
+    → none ≡ [] → appended ≡ sent → out' ≡ out ++ appended → TakesWaiting i talk piece changes none i2 changes' sent stand → TakesWaiting i talk piece changes out i2 changes' out' stand
 took_appended i i2 talk piece changes changes' none sent appended out out' stand empty same is t =
     record {
       after = t.after;
       octets = t.octets;
+      rest = t.rest;
       takes = t.takes;
-      represents = t.represents;
+      owes = t.owes;
       given_is = t.given_is;
-      sent = is ∙ ap (λ (o : List ℕ). out ++ o) (same ∙ (t.sent ∙ ap (λ (o : List ℕ). o ++ t.octets) empty));
+      sent =
+          ap (λ (o : List ℕ). o ++ t.rest) (is ∙ ap (λ (o : List ℕ). out ++ o) same)
+          ∙ (append_assoc out sent t.rest ∙ ap (λ (o : List ℕ). out ++ o) (t.sent ∙ ap (λ (o : List ℕ). o ++ t.octets) empty));
+      changed = t.changed;
+      doing_is = t.doing_is;
+    }
+
+-- All that waited was spelled then.
+pub took_whole : (i i2 i3 : Initiator) (talk : Talk) (piece : List ℕ) (changes changes' : List Change) (none sent sent' out out' : List ℕ) (stand : Doing)
+    → none ≡ [] → out' ≡ out ++ sent' → TakesWaiting i talk piece changes none i2 changes' sent stand → ((t : Talk) (r : List ℕ) → Lags i2 t r → SaysAll i2 t r sent i3 sent')
+    → TakesPiece i talk piece changes out i3 changes' out' stand
+took_whole i i2 i3 talk piece changes changes' none sent sent' out out' stand empty is t says =
+    let all = says t.after t.rest t.owes.lags in
+    record {
+      after = t.after;
+      octets = t.octets;
+      takes = t.takes;
+      represents = all_said i2 i3 t.after t.rest sent sent' t.owes all;
+      given_is = all.given_is ∙ t.given_is;
+      sent = is ∙ ap (λ (o : List ℕ). out ++ o) (all.sent ∙ (t.sent ∙ ap (λ (o : List ℕ). o ++ t.octets) empty));
       changed = t.changed;
       doing_is = t.doing_is;
     }

@@ -1,7 +1,7 @@
 -- So few octets of a connection that they are taken at once, and any number of them, that are taken so few at a time.
 use Rattle.std.specs.Prelude.{◌≡◌, ◌+◌, ◌≤◌, ◌⊎◌, ℕ, Bool, List, ◌++◌, length, None}
 use Rattle.vf_initiator.specs.Owed.{offer_by}
-use Rattle.vf_initiator.specs.Represents.{Represents}
+use Rattle.vf_initiator.specs.Represents.{Owes, Represents}
 use Rattle.vf_initiator.specs.Talking.{AnswersAll, Greets, Takes, Talk, released, within_budget}
 use Rattle.vf_initiator.specs.declared.given.Given.{Given}
 use Rattle.vf_initiator.specs.declared.initiator.Initiator.{Initiator}
@@ -36,14 +36,15 @@ TakesAtOnce given offer talk piece octets talk' = TakesFed given offer (received
 abbrev pub AreFew : Initiator → List ℕ → Type 0
 AreFew i piece = (length piece ≡ 1) ⊎ ((i.greeting ≡ None) × (length piece ≤ lacking i.stack.transport.packet) × (i.octets + length piece ≤ BUDGET))
 
--- Octets were taken.
+-- Octets were taken; of what is sent for them the last octets wait.
 pub record TakesOn (i : Initiator) (talk : Talk) (piece out : List ℕ) (i' : Initiator) (out' : List ℕ) : Type 0 where
   pub octets : List ℕ
+  pub later : List ℕ
   pub after : Talk
   pub takes : Takes i.given (offer_by i.given) talk piece octets after
-  pub represents : Represents i' after
+  pub owes : Owes i' after later
   pub given_is : i'.given ≡ i.given
-  pub sent : out' ≡ out ++ octets
+  pub sent : out' ++ later ≡ out ++ octets
 
 -- Some of them were taken, and those that are left do the rest.
 pub record TakesOnward (i : Initiator) (talk : Talk) (piece out : List ℕ) (i' : Initiator) (out' rest : List ℕ) : Type 0 where
@@ -55,3 +56,15 @@ pub record TakesOnward (i : Initiator) (talk : Talk) (piece out : List ℕ) (i' 
   pub onward :
       (later : List ℕ) (after : Talk) → Takes i.given (offer_by i.given) now rest later after
       → Takes i.given (offer_by i.given) talk piece (octets ++ later) after
+
+-- The same, but of what was sent so far the last octets wait.
+pub record OwesOnward (i : Initiator) (talk : Talk) (piece out : List ℕ) (i' : Initiator) (out' rest : List ℕ) : Type 0 where
+  pub octets : List ℕ
+  pub later : List ℕ
+  pub now : Talk
+  pub owes : Owes i' now later
+  pub given_is : i'.given ≡ i.given
+  pub sent : out' ++ later ≡ out ++ octets
+  pub onward :
+      (more : List ℕ) (after : Talk) → Takes i.given (offer_by i.given) now rest more after
+      → Takes i.given (offer_by i.given) talk piece (octets ++ more) after

@@ -1,12 +1,13 @@
 //! The initiator of one connection.
-ghost use Rattle.std.specs.Prelude.{◌≡◌, ◌+◌, ◌≤◌, ◌⊎◌, ◌++◌, IfOk, IsFalse, IsTrue, None, OnErr, OnOk, false, length, option_copied, true, List, ℕ};
+ghost use Rattle.std.specs.Prelude.{◌≡◌, ◌+◌, ◌≤◌, ◌⊎◌, ◌++◌, [], ◌<◌, IfOk, IsFalse, IsTrue, None, OnErr, OnOk, false, length, option_copied, true, List, ℕ};
+ghost use Rattle.std.specs.List.{list_all};
 ghost use Rattle.vf_initiator.specs.Asking.{associate as greeting_of};
 ghost use Rattle.vf_initiator.specs.Assignments.{assignment_of, given_of, kept_pieces, way_in};
 ghost use Rattle.vf_initiator.specs.Gathering.{started};
 ghost use Rattle.vf_initiator.specs.Few.{AreFew, TakesOn};
 ghost use Rattle.vf_initiator.specs.Rows.{is_over};
-ghost use Rattle.vf_initiator.specs.Owed.{IsSameEnd, LeadsAnswer, LeadsAnswers, LeadsGreeting, Sends, unless_ended, unless_spent};
-ghost use Rattle.vf_initiator.specs.Represents.{Holds, Represents, TakesPiece};
+ghost use Rattle.vf_initiator.specs.Owed.{IsSameEnd, is_open as open_meant, LeadsAnswer, LeadsAnswers, LeadsGreeting, SaysAll, SaysOn, Sends, unless_ended, unless_spent};
+ghost use Rattle.vf_initiator.specs.Represents.{Holds, IsSaid, Lags, Owes, Represents, TakesPiece, TakesWaiting};
 ghost use Rattle.vf_initiator.specs.Says.{beginning, doing_in, elements_of};
 ghost use Rattle.vf_initiator.specs.Talking.{AreSent, IsSent, Talk, begun};
 ghost use Rattle.vf_session.specs.declared.units.TokenSide.TheVariants as sides;
@@ -26,6 +27,7 @@ use crate::requests::associate;
 use crate::stage::Stage;
 use crate::{Doing, Plan, TaskError};
 use std::alloc::Global;
+use std::collections::VecDeque;
 use vf_base::{Elements, NoMemory};
 use vf_stack::{Indication, Item, Request, Stack, few_octets_tell_last};
 use vf_tables::{Changes, Task as KeptTask, Way};
@@ -48,6 +50,8 @@ pub struct Initiator {
     /// F-INITIALIZE, until it is sent.
     greeting: Option<Request>,
     conduct: Conduct,
+    /// The requests that answer the last message and wait to be spelled; the stack is as before them.
+    waiting: VecDeque<Request>,
     /// How many octets the connection gave.
     octets: u64,
 }
@@ -86,6 +90,7 @@ impl Initiator {
                 },
                 good: 0,
             },
+            waiting: VecDeque::new(alloc),
             octets: 0,
         })
     }
@@ -107,12 +112,48 @@ impl Initiator {
         ensures taken { (talk : Talk) → Represents self.old talk → IfOk result (λ doing. TakesPiece self.old talk piece.now changes.old out.old.items self.new changes.new out.new.items doing) }
         ensures memory { OnErr result (out.new.items ≡ out.old.items) }
     {
+        let mut sent = Vec::new(alloc);
+        let doing = self.take_waiting(alloc, piece, changes, &mut sent)?;
+        self.say_all(alloc, &mut sent)?;
+        append_all(sent, out)?;
+        Ok(doing)
+    }
+
+    /// The same, but the requests that answer the last message may wait: `say` spells them, and is called until none waits
+    /// before anything else is asked of the initiator. So the first octets of a long answer may be sent while the others aren't
+    /// spelled yet.
+    pub fn take_waiting(
+        &mut self,
+        alloc: Global,
+        piece: &[u8],
+        changes: &mut Changes,
+        out: &mut Vec<u8>,
+    ) -> Result<Doing, NoMemory>
+        // Of every talk that the initiator represents.
+        ensures taken { (talk : Talk) → Represents self.old talk → IfOk result (λ doing. TakesWaiting self.old talk piece.now changes.old out.old.items self.new changes.new out.new.items doing) }
+        ensures memory { OnErr result (out.new.items ≡ out.old.items) }
+    {
         let mark = self.conduct.mark(&self.given);
         let mut sent = Vec::new(alloc);
         self.take_all(alloc, piece, &mut sent)?;
         self.conduct.put_changes(alloc, &self.given, mark, changes)?;
         append_all(sent, out)?;
         Ok(self.doing())
+    }
+
+    /// Spells requests that wait, one after another, until `out` has `most` octets or none waits; tells whether more wait.
+    /// Without memory the initiator and `out` are only to be dropped.
+    pub fn say(&mut self, alloc: Global, most: usize, out: &mut Vec<u8>) -> Result<bool, NoMemory>
+        // Of every talk that is represented once these octets are spelled.
+        ensures said { (talk : Talk) (rest : List ℕ) → Owes self.old talk rest → IfOk result (λ more. IsSaid self.old talk rest out.old.items self.new out.new.items more) }
+        ensures full { IfOk result (λ more. IsTrue more → most ≤ length out.new.items) }
+        ensures none { IfOk result (λ more. IsFalse more → self.new.waiting.items ≡ []) }
+        ensures fewer { IfOk result (λ more. IsTrue more → length out.old.items < most → length self.new.waiting.items < length self.old.waiting.items) }
+    {
+        while !self.has_said(most, out) {
+            self.say_next(alloc, out)?;
+        }
+        Ok(!self.waiting.is_empty())
     }
 
     /// How many octets of the connection may be taken so that they tell one thing at most, by the last of them: those that a
@@ -135,7 +176,8 @@ impl Initiator {
 
     /// What a get has received; nothing is what a put has.
     pub fn elements(&self) -> &Elements
-        ensures { (talk : Talk) → Represents self.now talk → result.now ≡ elements_of talk.conduct }
+        ensures all { (talk : Talk) → Represents self.now talk → result.now ≡ elements_of talk.conduct }
+        ensures owed { (talk : Talk) (rest : List ℕ) → Owes self.now talk rest → result.now ≡ elements_of talk.conduct }
     {
         self.conduct.gathered.elements()
     }
@@ -156,11 +198,43 @@ impl Initiator {
     {
         let mut rest = piece;
         while !self.is_done(rest) {
+            self.say_all(alloc, out)?;
             let (front, more) = rest.split_at(self.next_length(rest));
             self.take_few(alloc, front, out)?;
             rest = more;
         }
         Ok(())
+    }
+
+    /// None waits, or the octets are as many.
+    fn has_said(&self, most: usize, out: &Vec<u8>) -> bool
+        ensures done { IsTrue result → (self.now.waiting.items ≡ []) ⊎ (most ≤ length out.now.items) }
+        ensures more { IsFalse result → 0 < length self.now.waiting.items }
+    {
+        self.waiting.is_empty() || out.len() >= most
+    }
+
+    /// Spells all that waits.
+    fn say_all(&mut self, alloc: Global, out: &mut Vec<u8>) -> Result<(), NoMemory>
+        ensures said { (talk : Talk) (rest : List ℕ) → Lags self.old talk rest → OnOk result (SaysAll self.old talk rest out.old.items self.new out.new.items) }
+        ensures none { OnOk result (self.new.waiting.items ≡ []) }
+    {
+        while !self.waiting.is_empty() {
+            self.say_next(alloc, out)?;
+        }
+        Ok(())
+    }
+
+    /// Spells the next request that waits, where it may be sent.
+    fn say_next(&mut self, alloc: Global, out: &mut Vec<u8>) -> Result<(), NoMemory>
+        requires { 0 < length self.old.waiting.items }
+        ensures said { (talk : Talk) (rest : List ℕ) → Lags self.old talk rest → OnOk result (SaysOn self.old talk rest out.old.items self.new out.new.items) }
+        ensures fewer { OnOk result (length self.new.waiting.items + 1 ≡ length self.old.waiting.items) }
+    {
+        let Some(request) = self.waiting.pop_front() else {
+            return Ok(());
+        };
+        send_one(alloc, &mut self.stack, &request, out)
     }
 
     /// Nothing is left to be taken, or nothing is taken any more.
@@ -211,7 +285,8 @@ impl Initiator {
     /// Sends F-INITIALIZE as soon as it may be sent, which is once transport stands.
     fn greet(&mut self, alloc: Global, out: &mut Vec<u8>) -> Result<(), NoMemory>
         // Of every talk that the initiator represents.
-        ensures { (talk : Talk) → Holds self.old talk → OnOk result (LeadsGreeting self.old talk out.old.items self.new out.new.items) }
+        ensures greets { (talk : Talk) → Holds self.old talk → OnOk result (LeadsGreeting self.old talk out.old.items self.new out.new.items) }
+        ensures waits { self.new.waiting.items ≡ self.old.waiting.items }
     {
         let Some(request) = &self.greeting else {
             return Ok(());
@@ -224,29 +299,30 @@ impl Initiator {
         Ok(())
     }
 
-    /// Takes messages, and sends what is to be said to them.
+    /// Takes messages, and sends what is to be said to them; of the last one it may wait.
     fn hear_all(
         &mut self,
         alloc: Global,
         told: Vec<Indication>,
         out: &mut Vec<u8>,
     ) -> Result<(), NoMemory>
-        ensures { (talk : Talk) → Holds self.old talk → OnOk result (LeadsAnswers self.old talk told.items out.old.items self.new out.new.items) }
+        ensures { (talk : Talk) → Holds self.old talk → self.old.waiting.items ≡ [] → OnOk result (LeadsAnswers self.old talk told.items out.old.items self.new out.new.items) }
     {
         for indication in told {
+            self.say_all(alloc, out)?;
             self.hear(alloc, indication, out)?;
         }
         Ok(())
     }
 
-    /// Takes a message, and sends what is to be said to it.
+    /// Takes a message, and sends what is to be said to it. Data and checks, which don't end the association, wait.
     fn hear(
         &mut self,
         alloc: Global,
         indication: Indication,
         out: &mut Vec<u8>,
     ) -> Result<(), NoMemory>
-        ensures { (talk : Talk) → Holds self.old talk → OnOk result (LeadsAnswer self.old talk indication out.old.items self.new out.new.items) }
+        ensures { (talk : Talk) → Holds self.old talk → self.old.waiting.items ≡ [] → OnOk result (LeadsAnswer self.old talk indication out.old.items self.new out.new.items) }
     {
         let setting = Setting {
             serial: self.stack.next_serial(),
@@ -256,6 +332,10 @@ impl Initiator {
         let mut said = Vec::new(alloc);
         self.conduct
             .hear(alloc, &self.given, setting, heard, &mut said)?;
+        if may_wait(said.as_slice()) {
+            self.waiting = VecDeque::from_vec(said);
+            return Ok(());
+        }
         send_all(alloc, &mut self.stack, said.as_slice(), out)
     }
 
@@ -308,6 +388,24 @@ fn append_all(octets: Vec<u8>, out: &mut Vec<u8>) -> Result<(), NoMemory>
     }
     out.extend_from_slice(octets.as_slice())?;
     Ok(())
+}
+
+/// Data or a check.
+fn is_open(request: &Request) -> bool
+    ensures { result ≡ open_meant request.now }
+{
+    match request {
+        Request::Item(_) => true,
+        Request::Check { .. } => true,
+        _ => false,
+    }
+}
+
+/// They are data and checks alone.
+fn may_wait(requests: &[Request]) -> bool
+    ensures { result ≡ list_all open_meant requests.now }
+{
+    requests.iter().all(|request| is_open(request))
 }
 
 /// About how many octets a request is sent in. No promise rests on it: where it has more, the room for it grows.

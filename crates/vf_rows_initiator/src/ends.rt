@@ -10,6 +10,9 @@ use vf_initiator::{Doing, Initiator, KeptTask, Plan};
 use vf_stack::Stack;
 use vf_tables::{Changes, Tables};
 
+/// Where so many octets are taken at a time, their answer waits.
+const WAITING: usize = 7;
+
 /// The initiator of one connection, and the other end.
 #[derive(Drop)]
 pub(crate) struct Ends {
@@ -71,11 +74,28 @@ impl Ends {
     /// The initiator takes octets.
     fn take(&mut self, alloc: Global, octets: &[u8]) -> Result<(), Fail> {
         for piece in octets.chunks(self.pieces.max(1)) {
-            self.doing = self
-                .initiator
-                .take(alloc, piece, &mut self.changes, &mut self.sent)?;
+            self.doing = if self.pieces == WAITING {
+                self.take_waiting(alloc, piece)?
+            } else {
+                self.initiator
+                    .take(alloc, piece, &mut self.changes, &mut self.sent)?
+            };
         }
         Ok(())
+    }
+
+    /// The same, where the answer may wait, and is spelled a request at a time.
+    fn take_waiting(&mut self, alloc: Global, piece: &[u8]) -> Result<Doing, Fail> {
+        let doing = self
+            .initiator
+            .take_waiting(alloc, piece, &mut self.changes, &mut self.sent)?;
+        for _ in 0..1000 {
+            let most = self.sent.len().saturating_add(1);
+            if !self.initiator.say(alloc, most, &mut self.sent)? {
+                return Ok(doing);
+            }
+        }
+        Err(Fail::from("the answer is too long"))
     }
 
     /// What the other end says.

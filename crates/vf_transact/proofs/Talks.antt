@@ -8,7 +8,7 @@ use Rattle.vf_base.specs.Faults.{HasRisen, counted}
 use Rattle.vf_base.specs.declared.element.Element.{Element}
 use Rattle.vf_initiator.specs.Assignments.{given_of, kind_in}
 use Rattle.vf_initiator.specs.Output.{written}
-use Rattle.vf_initiator.specs.Represents.{Represents as IsInitiatorOf, resumed}
+use Rattle.vf_initiator.specs.Represents.{Owes, Represents as IsInitiatorOf, resumed}
 use Rattle.vf_initiator.specs.Says.{doing_of, elements_of}
 use Rattle.vf_initiator.specs.Talking.{Takes, Talk}
 use Rattle.vf_initiator.specs.declared.doing.Doing.{Doing}
@@ -26,9 +26,9 @@ use Rattle.vf_tables.specs.declared.tables.Tables.{Tables}
 use Rattle.vf_tables.specs.declared.task.Task.{Task}
 use Rattle.vf_tpkt.specs.Tpdu.{packet, request}
 use Rattle.vf_tree.specs.FileTree.{octets_of_unit}
-use Rattle.vf_transact.specs.Connecting.{FailsBy, HearsOn, IsBegun, IsOn, IsThrough, KeepsAs, KeepsPiece, LosesIn, LosesPiece, SaysOn, StandsOr, TakesIn, Writes, WritesPart, is_no_failure}
+use Rattle.vf_transact.specs.Connecting.{FailsBy, HearsOn, IsBegun, IsOn, IsThrough, KeepsAs, KeepsPiece, LosesIn, LosesPiece, OwesAfter, SaysOn, StandsOr, TakesIn, Writes, WritesPart, is_no_failure}
 use Rattle.vf_transact.specs.Conversation.{AnswersAll, AnswersLastInPart, Converses, IsFront, Standing, TakesOne, TellsOnce, standing_first, tables_at, talk_begun}
-use Rattle.vf_transact.specs.Transaction.{Counts, EndsOn, HasFailed, InterruptsTaking, IsLost, KeepsStore, MayBeLost, Seen, StoreByCause, WritesFront, interrupts_connection, is_disk, written_at}
+use Rattle.vf_transact.specs.Transaction.{Counts, EndsOn, HasFailed, InterruptsTaking, IsLost, KeepsStore, MayBeLost, Seen, StoreByCause, WritesFront, WritesWhole, interrupts_connection, is_disk, written_at}
 use Rattle.vf_transact.specs.declared.connecting.Outcome.{Outcome}
 use Rattle.vf_transact.specs.declared.connecting.Outcome.TheVariants.{Broke, Ended, Failed}
 use Rattle.vf_transact.specs.declared.error.TransactError.{TransactError}
@@ -82,7 +82,9 @@ pub record IsTaken {D : Type 0} (shown : D → Option (List ℕ)) (may_leave : D
   pub on : IsOn before said heard told
   pub spoken : Spoken plan kept heard said stands trail (standing_first plan kept old.tables) (record { talk = talk; tables = new.tables })
   pub given_is : i.given ≡ given_of plan kept
-  pub represents : IsInitiatorOf i talk
+  pub later : List ℕ
+  pub owes : Owes i talk later
+  pub represents : stands ≡ true → IsInitiatorOf i talk
   pub doing_is : doing ≡ doing_of talk.conduct
   pub kind_is : kind ≡ kind_in plan.task
   pub writes : Writes kind (elements_of talk.conduct) doing (Some output) taken
@@ -312,7 +314,7 @@ module _ {D : Type 0} (shown : D → Option (List ℕ)) (may_leave : D → List 
         goes = (
           (faults, stood),
           fails,
-          record {
+          inl (record {
             heard = t.heard;
             unanswered = piece;
             first = t.trail;
@@ -325,19 +327,25 @@ module _ {D : Type 0} (shown : D → Option (List ℕ)) (may_leave : D → List 
             trail_is = refl;
             tables_are = refl;
             stops = ends.1.1;
-          },
+          }),
         );
         keeps = keeps_then shown may_leave moment left_since old mid new t.trail loses.next mid.tables mid.tables (is_disk error) t.keeps among loses.keeps;
         again = tt;
       }
 
-  -- ---- one that is
+  -- ---- one of which memory was wanting to spell the whole answer
 
-  pub takes_more : (reads : ℕ) (i i' : Initiator) (told told' : Option Connections) (taken taken' : Option (List ℕ)) (mid new : StoreState D) (piece none sent : List ℕ) (doing : Doing) (stands : Bool) (t : Talking reads i told taken mid) (after : Talk)
-      → 0 < length piece → TellsOnce t.talk.association piece → none ≡ [] → TakesIn i t.talk piece none i' after sent doing → Writes kind (elements_of after.conduct) doing taken taken'
-      → KeepsPiece shown may_leave moment left_since i.given after doing mid new → SaysOn before t.said (t.heard ++ piece) sent told' stands
-      → Taken (reads + 1) i' told' taken' new doing stands
-  takes_more reads i i' told told' taken taken' mid new piece none sent doing stands t after some once empty takes writes keeps says =
+  whole_written : (at : Standing) (doing : Doing) (taken' : Option (List ℕ)) → kind ≡ kind_in plan.task → Writes kind (elements_of at.talk.conduct) doing (Some output) taken'
+      → (output' : List ℕ) × ((taken' ≡ Some output') × WritesWhole plan at doing (record { output = output; output' = output' }))
+  whole_written at doings.Ended taken' is writes = (output ++ written_at plan at, (all_written kind plan at output taken' is writes, refl))
+  whole_written at doings.Going taken' is writes = (output, (writes, refl))
+  whole_written at (doings.Failed error) taken' is writes = (output, (writes, refl))
+
+  pub stops_saying : (reads : ℕ) (i i' : Initiator) (told told' : Option Connections) (taken taken' : Option (List ℕ)) (mid new : StoreState D) (counts counts' : Counts) (piece none sent : List ℕ) (doing : Doing) (error : TransactError) (t : Talking reads i told taken mid) (after : Talk)
+      → 0 < length piece → TellsOnce t.talk.association piece → none ≡ [] → (takes : TakesIn i t.talk piece none i' after sent doing) → Writes kind (elements_of after.conduct) doing taken taken'
+      → KeepsPiece shown may_leave moment left_since i.given after doing mid new → SaysOn before t.said (t.heard ++ piece) (sent ++ takes.rest) told' false
+      → error ≡ errors.NoMemory → counts'.faults ≡ counts.faults → counts'.lost ≡ counts.lost → Through counts (record { told = told'; taken = taken'; counts = counts' }) new (Err error)
+  stops_saying reads i i' told told' taken taken' mid new counts counts' piece none sent doing error t after some once empty takes writes keeps says wanting faults stood =
       let given = given_of plan kept in
       let here : Standing = record { talk = t.talk; tables = mid.tables } in
       let there : Standing = record { talk = after; tables = new.tables } in
@@ -348,7 +356,69 @@ module _ {D : Type 0} (shown : D → Option (List ℕ)) (may_leave : D → List 
         takes = subst (λ (x : Given). Takes x (is_some x.assignment.activity) (resumed t.talk) piece takes.octets after) t.given_is takes.takes;
         kept = tables_are;
       } in
-      let sent_is : sent ≡ takes.octets = takes.sent ∙ ap (λ (l : List ℕ). l ++ takes.octets) empty in
+      let sent_is : sent ++ takes.rest ≡ takes.octets = takes.sent ∙ ap (λ (l : List ℕ). l ++ takes.octets) empty in
+      let so = subst (λ (l : List ℕ). SaysOn before t.said (t.heard ++ piece) l told' false) sent_is says in
+      let among = last_among given t.answered.pieces t.answered.answers t.trail (standing_first plan kept old.tables) here t.answered.takes in
+      let w = whole_written there doing taken' t.kind_is (subst (λ (o : Option (List ℕ)). Writes kind (elements_of after.conduct) doing o taken') t.taken_is writes) in
+      record {
+        said = t.said ++ so.0;
+        heard = t.heard ++ piece;
+        output' = w.0;
+        trail = t.trail ++ new.tables ∷ [];
+        tables' = new.tables;
+        on = so.1.1;
+        taken_is = w.1.0;
+        goes = (
+          (faults, stood),
+          subst (λ (e : TransactError). interrupts_connection e ≡ true) (sym wanting) refl,
+          inr (record {
+            at = there;
+            in_part = record {
+              earlier = t.heard;
+              piece = piece;
+              before = t.said;
+              answer = takes.octets;
+              front = so.0;
+              first = t.trail;
+              middle = here;
+              answered = t.answered;
+              takes = one;
+              heard_is = refl;
+              trail_is = refl;
+              said_is = refl;
+              is_front = so.1.0;
+            };
+            going = t.going;
+            some = some;
+            tables_are = refl;
+            writes = subst (λ (d : Doing). WritesWhole plan there d (record { output = output; output' = w.0 })) takes.doing_is w.1.1;
+            error_is = wanting;
+          }),
+        );
+        keeps = subst (λ (e : TransactError). KeepsStore shown may_leave moment left_since old new (t.trail ++ new.tables ∷ []) new.tables (is_disk e)) (sym wanting)
+            (keeps_then shown may_leave moment left_since old mid new t.trail (new.tables ∷ []) mid.tables new.tables false t.keeps among
+            (subst (λ (x : Tables). KeepsStore shown may_leave moment left_since mid new (x ∷ []) x false) (sym tables_are) piece_kept.keeps));
+        again = tt;
+      }
+
+  -- ---- one that is answered
+
+  pub takes_more : (reads : ℕ) (i i' i'' : Initiator) (told told' : Option Connections) (taken taken' : Option (List ℕ)) (mid new : StoreState D) (piece none sent : List ℕ) (doing : Doing) (stands : Bool) (t : Talking reads i told taken mid) (after : Talk)
+      → 0 < length piece → TellsOnce t.talk.association piece → none ≡ [] → (takes : TakesIn i t.talk piece none i' after sent doing) → OwesAfter i' after i'' stands → Writes kind (elements_of after.conduct) doing taken taken'
+      → KeepsPiece shown may_leave moment left_since i.given after doing mid new → SaysOn before t.said (t.heard ++ piece) (sent ++ takes.rest) told' stands
+      → Taken (reads + 1) i'' told' taken' new doing stands
+  takes_more reads i i' i'' told told' taken taken' mid new piece none sent doing stands t after some once empty takes owes writes keeps says =
+      let given = given_of plan kept in
+      let here : Standing = record { talk = t.talk; tables = mid.tables } in
+      let there : Standing = record { talk = after; tables = new.tables } in
+      let piece_kept : KeepsPiece shown may_leave moment left_since given after doing mid new = subst (λ (x : Given). KeepsPiece shown may_leave moment left_since x after doing mid new) t.given_is keeps in
+      let tables_are : new.tables ≡ tables_at given after.conduct mid.tables = (piece_kept.keeps.stands refl).1 in
+      let one : TakesOne given piece takes.octets here there = record {
+        once = once;
+        takes = subst (λ (x : Given). Takes x (is_some x.assignment.activity) (resumed t.talk) piece takes.octets after) t.given_is takes.takes;
+        kept = tables_are;
+      } in
+      let sent_is : sent ++ takes.rest ≡ takes.octets = takes.sent ∙ ap (λ (l : List ℕ). l ++ takes.octets) empty in
       let so = spoken_by plan kept before t.heard t.said t.trail (standing_first plan kept old.tables) here there piece takes.octets told' stands t.answered one
       (subst (λ (l : List ℕ). SaysOn before t.said (t.heard ++ piece) l told' stands) sent_is says) in
       let among = last_among given t.answered.pieces t.answered.answers t.trail (standing_first plan kept old.tables) here t.answered.takes in
@@ -359,8 +429,10 @@ module _ {D : Type 0} (shown : D → Option (List ℕ)) (may_leave : D → List 
         talk = after;
         on = so.1.0;
         spoken = so.1.1;
-        given_is = takes.given_is ∙ t.given_is;
-        represents = takes.represents;
+        given_is = owes.given_is ∙ takes.given_is ∙ t.given_is;
+        later = owes.later;
+        owes = owes.owes;
+        represents = owes.all;
         doing_is = takes.doing_is;
         kind_is = t.kind_is;
         writes = subst (λ (o : Option (List ℕ)). Writes kind (elements_of after.conduct) doing o taken') t.taken_is writes;
@@ -380,7 +452,7 @@ module _ {D : Type 0} (shown : D → Option (List ℕ)) (may_leave : D → List 
     on = a.on;
     answered = a.spoken;
     given_is = a.given_is;
-    represents = a.represents;
+    represents = a.represents refl;
     going = sym a.doing_is;
     kind_is = a.kind_is;
     taken_is = a.writes;
@@ -468,11 +540,11 @@ module _ {D : Type 0} (shown : D → Option (List ℕ)) (may_leave : D → List 
       failed_after reads i seen new counts error stands (subst (λ (d : Doing). Taken reads i seen.told seen.taken new d stands) is a) (λ no. (lost no).0) may
 
   pub ends_well : (reads : ℕ) (i : Initiator) (seen : Seen) (new : StoreState D) (counts : Counts) (how : Doing) (stands : Bool) (elements : List Element) (octets : ℕ) → Taken reads i seen.told seen.taken new how stands → how ≡ doings.Ended
-      → ((talk : Talk) → IsInitiatorOf i talk → elements ≡ elements_of talk.conduct) → octets ≡ min (octets_of_unit elements) 18446744073709551615
+      → ((talk : Talk) (rest : List ℕ) → Owes i talk rest → elements ≡ elements_of talk.conduct) → octets ≡ min (octets_of_unit elements) 18446744073709551615
       → (stands ≡ false → HasFailed counts seen.counts × IsLost counts seen.counts) → MayBeLost counts seen.counts → Through counts seen new (Ok (Ended octets))
   ends_well reads i seen new counts how stands elements octets a is received count lost may =
       let b = subst (λ (d : Doing). Taken reads i seen.told seen.taken new d stands) is a in
-      ended_after reads i seen new counts octets stands b (count ∙ ap (λ (l : List Element). min (octets_of_unit l) 18446744073709551615) (received b.talk b.represents)) (λ no. (lost no).0) may
+      ended_after reads i seen new counts octets stands b (count ∙ ap (λ (l : List Element). min (octets_of_unit l) 18446744073709551615) (received b.talk b.later b.owes)) (λ no. (lost no).0) may
 
   pub goes_on : (reads : ℕ) (i : Initiator) (told : Option Connections) (taken : Option (List ℕ)) (new : StoreState D) (how : Doing) (stands : Bool) → Taken reads i told taken new how stands → how ≡ doings.Going → stands ≡ true → Talking reads i told taken new
   goes_on reads i told taken new how stands a going is =

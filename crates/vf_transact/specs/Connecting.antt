@@ -6,7 +6,7 @@ use Rattle.vf_base.specs.declared.element.Element.{Element}
 use Rattle.vf_initiator.specs.Assignments.{given_of, kind_in}
 use Rattle.vf_initiator.specs.Keepable.{MayKeep}
 use Rattle.vf_initiator.specs.Keeping.{changes_since, mark_of}
-use Rattle.vf_initiator.specs.Represents.{Represents, resumed}
+use Rattle.vf_initiator.specs.Represents.{Owes, Represents, resumed}
 use Rattle.vf_initiator.specs.Output.{written}
 use Rattle.vf_initiator.specs.Says.{doing_of, elements_of, task_kept}
 use Rattle.vf_initiator.specs.Talking.{Takes, Talk}
@@ -49,6 +49,22 @@ abbrev pub SaysOn : (before : List Call) → (said heard octets : List ℕ) → 
 SaysOn before said heard octets told true = IsOn before (said ++ octets) heard told
 SaysOn before said heard octets told false = (front : List ℕ) × (IsFront front octets × IsOn before (said ++ front) heard told)
 
+-- An answer is said whole unless a send failed or memory was wanting; only a failed send ends the connection.
+abbrev pub is_whole : {E : Type 0} → Result Bool E → Bool
+is_whole (Ok stands) = stands
+is_whole (Err error) = false
+
+abbrev pub still_stands : {E : Type 0} → Result Bool E → Bool
+still_stands (Ok stands) = stands
+still_stands (Err error) = true
+
+-- Where the connection stands, all that waited was said.
+pub record OwesAfter (i : Initiator) (talk : Talk) (i' : Initiator) (stands : Bool) : Type 0 where
+  pub later : List ℕ
+  pub owes : Owes i' talk later
+  pub given_is : i'.given ≡ i.given
+  pub all : stands ≡ true → Represents i' talk
+
 -- A piece was heard on it; or none, where the other end ended the stream or that failed.
 abbrev pub HearsOn : (before : List Call) → (said heard : List ℕ) → Option Connections → (faults faults' : ℕ) → Option (List ℕ) → Type 0
 HearsOn before said heard told faults faults' None = (on : IsOn before said heard told) × (HasRisen faults faults' ⊎ (on.left ≡ []))
@@ -70,13 +86,14 @@ KeepsAs given talk tables = (is_valid tables ≡ true) × KeepsUnder given talk 
 
 -- ---- one piece
 
--- A piece was taken, and what is to be sent for it was appended.
+-- A piece was taken, and what is to be sent for it was appended, but for what waits.
 pub record TakesIn (i : Initiator) (talk : Talk) (piece said : List ℕ) (i' : Initiator) (after : Talk) (said' : List ℕ) (doing : Doing) : Type 0 where
   pub octets : List ℕ
+  pub rest : List ℕ
   pub takes : Takes i.given (is_some i.given.assignment.activity) (resumed talk) piece octets after
-  pub represents : Represents i' after
+  pub owes : Owes i' after rest
   pub given_is : i'.given ≡ i.given
-  pub sent : said' ≡ said ++ octets
+  pub sent : said' ++ rest ≡ said ++ octets
   pub doing_is : doing ≡ doing_of after.conduct
 
 -- of a get that has ended all that it received was written, and else nothing

@@ -24,7 +24,7 @@ use Rattle.vf_tables.specs.declared.change.Change.{Change}
 use Rattle.vf_tables.specs.declared.tables.Tables.{Tables}
 use Rattle.vf_tables.specs.declared.task.Task.{Task}
 use Rattle.vf_tree.specs.FileTree.{octets_of_unit}
-use Rattle.vf_transact.specs.Conversation.{AnswersAll, Converses, IsSpent, Standing, TakesOne, doing_at, standing_first, tables_at}
+use Rattle.vf_transact.specs.Conversation.{AnswersAll, AnswersLastInPart, Converses, IsSpent, Standing, TakesOne, doing_at, standing_first, tables_at}
 use Rattle.vf_transact.specs.Starting.{TakenUp, connections_of, interrupts, keeping, kept_in, octets_sent, taken_up, taken_up_with}
 use Rattle.vf_transact.specs.Writing.{PassesFront}
 use Rattle.vf_transact.specs.declared.error.TransactError.{TransactError}
@@ -118,7 +118,7 @@ InterruptsTaking ends plan kept unanswered next at outside error =
 
 -- A connection on which the call was interrupted: all that was heard was answered, and the task goes on; but a piece that was heard
 -- then isn't answered.
-pub record StopsWithin (ends : Tables → List Change → ℕ → Type 0) (plan : Plan) (kept : Option Task) (call : Call) (outside : Outside) (trail : List Tables) (tables tables' : Tables) (error : TransactError) : Type 0 where
+pub record StopsTaking (ends : Tables → List Change → ℕ → Type 0) (plan : Plan) (kept : Option Task) (call : Call) (outside : Outside) (trail : List Tables) (tables tables' : Tables) (error : TransactError) : Type 0 where
   pub heard : List ℕ
   pub unanswered : List ℕ
   pub first : List Tables
@@ -131,6 +131,28 @@ pub record StopsWithin (ends : Tables → List Change → ℕ → Type 0) (plan 
   pub trail_is : trail ≡ first ++ next
   pub tables_are : tables' ≡ at.tables
   pub stops : InterruptsTaking ends plan kept unanswered next at outside error
+
+-- Of a get that has ended all that it received was written, and else nothing.
+abbrev pub WritesWhole : Plan → Standing → Doing → Outside → Type 0
+WritesWhole plan at Ended outside = outside.output' ≡ outside.output ++ written_at plan at
+WritesWhole plan at Going outside = NothingWritten outside
+WritesWhole plan at (Failed error) outside = NothingWritten outside
+
+-- A connection on which memory was wanting to spell the rest of an answer: a long answer is said while it is spelled, so that the
+-- other end hears its first octets at once, and what was said can't be taken back. All before it was answered; the piece was taken,
+-- what it is to write was written, and the tables with the task as it then stands are those that stand.
+pub record StopsSaying (plan : Plan) (kept : Option Task) (call : Call) (outside : Outside) (trail : List Tables) (tables tables' : Tables) (error : TransactError) : Type 0 where
+  pub at : Standing
+  pub in_part : AnswersLastInPart plan kept call.heard call.said trail (standing_first plan kept tables) at
+  pub going : doing_at in_part.middle ≡ Going
+  pub some : 0 < length in_part.piece
+  pub tables_are : tables' ≡ at.tables
+  pub writes : WritesWhole plan at (doing_at at) outside
+  pub error_is : error ≡ errors.NoMemory
+
+abbrev pub StopsWithin : (Tables → List Change → ℕ → Type 0) → Plan → Option Task → Call → Outside → (trail : List Tables) → (tables tables' : Tables) → TransactError → Type 0
+StopsWithin ends plan kept call outside trail tables tables' error =
+    StopsTaking ends plan kept call outside trail tables tables' error ⊎ StopsSaying plan kept call outside trail tables tables' error
 
 -- Nothing is begun, or the call is interrupted before a connection.
 abbrev pub StopsBefore : List Call → Outside → Counts → Counts → (tables tables' : Tables) → Type 0

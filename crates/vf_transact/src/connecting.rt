@@ -3,14 +3,14 @@ ghost use Rattle.std.specs.Prelude.{◌≡◌, ◌<◌, ◌≤◌, ◌++◌, [],
 ghost use Rattle.vf_base.specs.Dial.{Call, Connections};
 ghost use Rattle.vf_base.specs.Faults.{counted};
 ghost use Rattle.vf_initiator.specs.Assignments.{given_of, kind_in};
-ghost use Rattle.vf_initiator.specs.Represents.{Represents};
+ghost use Rattle.vf_initiator.specs.Represents.{Owes, Represents};
 ghost use Rattle.vf_initiator.specs.Says.{elements_of};
 ghost use Rattle.vf_initiator.specs.Talking.{Talk};
 ghost use Rattle.vf_initiator.specs.declared.plan.Plan.{Plan as PlanMeant};
 ghost use Rattle.vf_store.specs.StoreState.{IsRepresented};
 ghost use Rattle.vf_tables.specs.declared.task.Task.{Task as TaskMeant};
 ghost use Rattle.vf_tpkt.specs.Tpdu.{packet, request};
-ghost use Rattle.vf_transact.specs.Connecting.{HearsOn, IsBegun, IsNoFailure, IsOn, IsThrough, IsTried, KeepsAs, KeepsPiece, LosesIn, LostBy, MayBegin, SaysOn, StandsOr, TakesIn, Writes, WritesByCause, WritesPart, kept_when, outcome_of};
+ghost use Rattle.vf_transact.specs.Connecting.{HearsOn, IsBegun, IsNoFailure, IsOn, IsThrough, IsTried, KeepsAs, KeepsPiece, LosesIn, LostBy, MayBegin, OwesAfter, SaysOn, StandsOr, TakesIn, Writes, WritesByCause, WritesPart, is_whole, kept_when, outcome_of, still_stands};
 ghost use Rattle.vf_transact.specs.Conversation.{talk_begun};
 ghost use Rattle.vf_transact.specs.Writing.{HasCause};
 ghost use Rattle.vf_transact.specs.Transaction.{StoreByCause};
@@ -25,6 +25,9 @@ use vf_base::{Dial, NoMemory, Sequence, Sink};
 use vf_disk::Disk;
 use vf_initiator::{Doing, Initiator, KeptTask, Plan, TaskError, tasks_are_kept};
 use vf_store::Store;
+
+/// A long answer is sent in so many octets at a time, or a little more.
+const BLOCK: usize = 65_536;
 
 /// How the task stands after a connection.
 #[derive(Clone, Copy)]
@@ -44,8 +47,8 @@ fn write_ended<O: Sink>(
     initiator: &Initiator,
     out: &mut O,
 ) -> Result<(), TransactError>
-    ensures all { (talk : Talk) → Represents initiator.now talk → OnOk result (Writes kind (elements_of talk.conduct) doing (O.taken out.old) (O.taken out.new)) }
-    ensures front { (talk : Talk) → Represents initiator.now talk → OnErr result (WritesPart kind (elements_of talk.conduct) doing (O.taken out.old) (O.taken out.new)) }
+    ensures all { (talk : Talk) (rest : List ℕ) → Owes initiator.now talk rest → OnOk result (Writes kind (elements_of talk.conduct) doing (O.taken out.old) (O.taken out.new)) }
+    ensures front { (talk : Talk) (rest : List ℕ) → Owes initiator.now talk rest → OnErr result (WritesPart kind (elements_of talk.conduct) doing (O.taken out.old) (O.taken out.new)) }
     ensures cause { HasCause result (O.fault_count out.old) (O.fault_count out.new) }
 {
     match doing {
@@ -55,7 +58,7 @@ fn write_ended<O: Sink>(
     }
 }
 
-/// Takes a piece of the connection, and appends what is to be sent for it. What is kept by it is on the disk then; a get that has
+/// Takes a piece of the connection, and appends what is to be sent for it, but for what waits to be spelled. What is kept by it is on the disk then; a get that has
 /// ended is written before its task is dropped.
 fn take_piece<D: Disk, O: Sink>(
     alloc: Global,
@@ -82,7 +85,7 @@ fn take_piece<D: Disk, O: Sink>(
 {
     tasks_are_kept();
     let mut changes = Sequence::new(alloc);
-    let doing = initiator.take(alloc, piece, &mut changes, said)?;
+    let doing = initiator.take_waiting(alloc, piece, &mut changes, said)?;
     write_ended(alloc, kind, doing, initiator, out)?;
     match commit(alloc, changes, store) {
         Ok(()) => Ok(doing),
@@ -102,6 +105,36 @@ fn send<C: Dial>(octets: &[u8], dial: &mut C) -> bool
         return true;
     }
     dial.send(octets).is_ok()
+}
+
+/// Says an answer, a block at a time: the octets that are spelled, and then those that wait. Answers whether the connection
+/// stands; where it doesn't, a front was said. So it is where memory is wanting too, and then the connection stands.
+fn say<C: Dial>(
+    alloc: Global,
+    initiator: &mut Initiator,
+    said: &mut Vec<u8>,
+    dial: &mut C,
+) -> Result<bool, NoMemory>
+    requires { C.stands dial.old ≡ true }
+    ensures said { (talk : Talk) (rest : List ℕ) → Owes initiator.old talk rest → (before : List Call) (said_before heard : List ℕ) → IsOn before said_before heard (C.told dial.old)
+        → SaysOn before said_before heard (said.old.items ++ rest) (C.told dial.new) (is_whole result) }
+    ensures owes { (talk : Talk) (rest : List ℕ) → Owes initiator.old talk rest → IfOk result (λ stands. OwesAfter initiator.old talk initiator.new stands) }
+    ensures stands { C.stands dial.new ≡ still_stands result }
+    ensures lost { C.lost_count dial.new ≡ (if still_stands result then C.lost_count dial.old else counted (C.lost_count dial.old)) }
+    ensures faults { StandsOr (still_stands result) (C.fault_count dial.old) (C.fault_count dial.new) }
+{
+    let mut more = initiator.say(alloc, BLOCK, said)?;
+    if !send(said.as_slice(), dial) {
+        return Ok(false);
+    }
+    while more {
+        said.clear();
+        more = initiator.say(alloc, BLOCK, said)?;
+        if !send(said.as_slice(), dial) {
+            return Ok(false);
+        }
+    }
+    Ok(true)
 }
 
 /// Hears some octets, and no more than so many; none where the connection was lost.
@@ -156,14 +189,15 @@ fn converse<D: Disk, C: Dial, O: Sink>(
     if !send(first, dial) {
         return Ok(Outcome::Broke);
     }
+    let mut said = Vec::new(alloc);
     // Each read gives an octet at least, so that no connection is read more often than it may give octets.
     for _ in 0..MOST_READS {
         let Some(piece) = hear(room, initiator.wanted(), dial) else {
             return Ok(Outcome::Broke);
         };
-        let mut said = Vec::new(alloc);
+        said.clear();
         let doing = take_piece(alloc, kind, piece, initiator, store, out, &mut said)?;
-        let stands = send(said.as_slice(), dial);
+        let stands = say(alloc, initiator, &mut said, dial)?;
         match doing {
             Doing::Failed(error) => return Ok(Outcome::Failed(error)),
             Doing::Ended => {

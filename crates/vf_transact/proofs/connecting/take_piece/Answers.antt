@@ -32,7 +32,7 @@ returns-in_err-write_ended-clause-interrupted g c = λ talk represents stands ke
     let taken = c.in_ok-doing.ensures.taken talk represents in
     let next = tables_at given taken.after.conduct c.args.store.now.tables in
     let p = err_from_is_err_and c.from_residual-in_err-write_ended.result c.from_residual-in_err-write_ended.ensures.1 in
-    let part = subst (λ (d : Doing). WritesPart c.args.kind (elements_of taken.after.conduct) d (g.O.Sink.taken c.args.out.now) (g.O.Sink.taken c.write_ended.new.out)) taken.doing_is (c.in_err-write_ended.ensures.front taken.after taken.represents) in
+    let part = subst (λ (d : Doing). WritesPart c.args.kind (elements_of taken.after.conduct) d (g.O.Sink.taken c.args.out.now) (g.O.Sink.taken c.write_ended.new.out)) taken.doing_is (c.in_err-write_ended.ensures.front taken.after taken.rest taken.owes) in
     if_err c.from_residual-in_err-write_ended.result (LosesIn g.D.Disk.shown g.D.Disk.may_leave g.D.Disk.moment g.D.Disk.left_since given c.args.kind talk c.args.piece.now c.args.store.now c.args.store.now (g.O.Sink.taken c.args.out.now) (g.O.Sink.taken c.write_ended.new.out)) p.0 p.1
     (record {
       next = next ∷ [];
@@ -56,10 +56,10 @@ returns-in-Err-clause-interrupted g c = λ talk represents stands keeps.
     let given = c.args.initiator.now.given in
     let taken = c.in_ok-doing.ensures.taken talk represents in
     let next = tables_at given taken.after.conduct c.args.store.now.tables in
-    let lead = leads_for c.tasks_are_kept.ensures.taken given (is_some given.assignment.activity) talk c.args.piece.now taken.octets taken.after c.args.store.now.tables c.new-changes.result c.take.new.changes c.new-changes.ensures taken.changed keeps taken.takes in
+    let lead = leads_for c.tasks_are_kept.ensures.taken given (is_some given.assignment.activity) talk c.args.piece.now taken.octets taken.after c.args.store.now.tables c.new-changes.result c.take_waiting.new.changes c.new-changes.ensures taken.changed keeps taken.takes in
     let part = part_of_all c.args.kind (elements_of taken.after.conduct) (doing_of taken.after.conduct) (g.O.Sink.taken c.args.out.now) (g.O.Sink.taken c.write_ended.new.out)
-    (subst (λ (d : Doing). Writes c.args.kind (elements_of taken.after.conduct) d (g.O.Sink.taken c.args.out.now) (g.O.Sink.taken c.write_ended.new.out)) taken.doing_is (c.in_ok-write_ended.ensures.all taken.after taken.represents)) in
-    let changed : c.take.new.changes ≡ changes_since given (mark_of given talk.conduct) taken.after.conduct = taken.changed ∙ ap (λ (l : List Change). l ++ changes_since given (mark_of given talk.conduct) taken.after.conduct) c.new-changes.ensures in
+    (subst (λ (d : Doing). Writes c.args.kind (elements_of taken.after.conduct) d (g.O.Sink.taken c.args.out.now) (g.O.Sink.taken c.write_ended.new.out)) taken.doing_is (c.in_ok-write_ended.ensures.all taken.after taken.rest taken.owes)) in
+    let changed : c.take_waiting.new.changes ≡ changes_since given (mark_of given talk.conduct) taken.after.conduct = taken.changed ∙ ap (λ (l : List Change). l ++ changes_since given (mark_of given talk.conduct) taken.after.conduct) c.new-changes.ensures in
     record {
       next = next ∷ [];
       loses = inr (
@@ -69,7 +69,7 @@ returns-in-Err-clause-interrupted g c = λ talk represents stands keeps.
           taken.takes,
           refl,
           part,
-          full_on g.D.Disk.shown g.D.Disk.may_leave c.args.store.now c.commit.new.store c.take.new.changes (changes_since given (mark_of given talk.conduct) taken.after.conduct) c.in-Err.error stands changed c.in-Err.ensures.full,
+          full_on g.D.Disk.shown g.D.Disk.may_leave c.args.store.now c.commit.new.store c.take_waiting.new.changes (changes_since given (mark_of given talk.conduct) taken.after.conduct) c.in-Err.error stands changed c.in-Err.ensures.full,
         ),
       );
       keeps = c.in-Err.ensures.kept next lead stands;
@@ -81,11 +81,11 @@ returns-in-Ok-clause-takes g c = λ talk represents.
     let taken = c.in_ok-doing.ensures.taken talk represents in
     let next = tables_at given taken.after.conduct c.args.store.now.tables in (
       taken.after,
-      record { octets = taken.octets; takes = taken.takes; represents = taken.represents; given_is = taken.given_is; sent = taken.sent; doing_is = taken.doing_is },
-      c.in_ok-write_ended.ensures.all taken.after taken.represents,
+      record { octets = taken.octets; rest = taken.rest; takes = taken.takes; owes = taken.owes; given_is = taken.given_is; sent = taken.sent; doing_is = taken.doing_is },
+      c.in_ok-write_ended.ensures.all taken.after taken.rest taken.owes,
       λ stands keeps.
           let law = c.tasks_are_kept.ensures.taken in
-          let lead = leads_for law given (is_some given.assignment.activity) talk c.args.piece.now taken.octets taken.after c.args.store.now.tables c.new-changes.result c.take.new.changes c.new-changes.ensures taken.changed keeps taken.takes in
+          let lead = leads_for law given (is_some given.assignment.activity) talk c.args.piece.now taken.octets taken.after c.args.store.now.tables c.new-changes.result c.take_waiting.new.changes c.new-changes.ensures taken.changed keeps taken.takes in
           let kept = c.in-Ok.ensures.kept next lead stands in
           record {
             keeps = kept;

@@ -1,4 +1,4 @@
-use Rattle.std.proofs.Common.{◌≡◌, ◌≤◌, ◌+◌, ◌∙◌, ap, sym, arith, ℕ, List, ◌++◌, ◌∷◌, [], length, length-append}
+use Rattle.std.proofs.Common.{◌≡◌, ◌≤◌, ◌+◌, ◌∙◌, ap, arith, ℕ, List, ◌++◌, ◌∷◌, [], length, length-append}
 use Rattle.std.proofs.lemmas.Bool.Decides.{nat_tests}
 use Rattle.vf_initiator.specs.Gathering.{by_marks}
 use Rattle.vf_initiator.proofs.Kept.{back_at, other_at, same_back, same_other, seen_back, seen_other}
