@@ -16,3 +16,4 @@ pub mod Requests
 pub mod Selections
 pub mod Trials
 pub mod Turning
+pub mod WritingOn

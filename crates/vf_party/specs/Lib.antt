@@ -11,3 +11,4 @@ pub mod Selecting
 pub mod Settings
 pub mod Trials
 pub mod Turns
+pub mod WritingOn

@@ -25,6 +25,7 @@ mod taking_regime;
 mod taking_writing;
 mod tried;
 mod trying;
+mod writing_on;
 
 pub use hearing::Answered;
 pub use party::{Grouping, Outcome, Party};

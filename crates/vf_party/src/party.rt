@@ -24,6 +24,7 @@ use crate::taking_idle::take_idle;
 use crate::taking_quiet::take_quiet;
 use crate::taking_reading::take_reading;
 use crate::taking_writing::take_writing;
+use crate::writing_on::{hear_element, writes_on};
 use crate::{
     Associated, Idle, Message, Open, Quiet, Reading, Recovered, Said, Selected, Setting, Writing,
 };
@@ -95,6 +96,9 @@ impl Party {
     ) -> Result<Answered, NoMemory>
         ensures { IsTurn tables.now locks.old locks.new self.old (setting_of setting) message (turn_in self.new result) }
     {
+        if writes_on(self, setting.serial, &message) {
+            return hear_element(self, alloc, message, setting, tables, locks);
+        }
         if selects(self, &message) {
             return hear_select(self, alloc, message, setting, tables, locks);
         }
