@@ -1,14 +1,12 @@
 -- The task that words tell has its numbers and its password in their ranges.
-use Rattle.std.proofs.Common.{◌≡◌, ◌∙◌, ℕ, Bool, true, false, ◌&&◌, List, [], ◌∷◌, length, nat_le, Option, Some, None, get_or, refl, ap, sym, subst}
+use Rattle.std.proofs.Common.{◌≡◌, ℕ, Bool, true, false, ◌&&◌, List, [], ◌∷◌, length, nat_le, Option, Some, None, refl, subst}
 use Rattle.std.specs.Option.{unwrap_or}
 use Rattle.std.specs.Prelude.{option_and_then, if◌then◌else◌}
-use Rattle.vf_base.specs.Name.{is_name}
 use Rattle.vf_cli.specs.TaskWords.{task_for, task_in, task_with}
 use Rattle.vf_cli_words.proofs.Values.{given_are_values, value_is}
-use Rattle.vf_cli_words.specs.Words.{Asked, Given, all_fit, are_values, asked_by, asked_with, command_named, given_in, is_given, is_in, is_number, is_value, number_at, number_by, number_in, number_of, place_of, range_of, value_of}
+use Rattle.vf_cli_words.specs.Words.{Asked, Given, all_fit, are_values, asked_with, command_named, given_in, is_given, is_in, is_number, number_at, number_by, number_in, number_of, place_of, value_of}
 use Rattle.vf_cli_words.specs.declared.command.Command.{Command}
 use Rattle.vf_cli_words.specs.declared.command.Command.TheVariants.{Dialogue, InitStore, ListFiles, ListDockets, DropKept, Replay, Serve, Put, Get, Generate}
-use Rattle.vf_cli_words.specs.declared.options.Key.{Key}
 use Rattle.vf_cli_words.specs.declared.options.Key.TheVariants.{Password, Kind, Activity, Tries, Every}
 use Rattle.vf_cli_words.specs.declared.options.Range.{Range}
 use Rattle.vf_tables.specs.Fitting.{is_short, is_within}

@@ -453,8 +453,8 @@ fn take_value(
     }
 }
 
-// In line, with `answer` and `make_changes`, since their room and their calls cost each message.
 /// What the party makes of a message that was read.
+// In line, with `answer` and `make_changes`, since their room and their calls cost each message.
 #[inline(always)]
 fn take_message(
     alloc: Global,

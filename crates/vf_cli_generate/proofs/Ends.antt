@@ -1,8 +1,8 @@
 -- How a call of `generate` ends, and by which causes.
-use Rattle.std.proofs.Common.{◌≡◌, ◌∙◌, ◌<◌, ℕ, List, Option, None, Some, Result, Ok, Err, refl, sym, subst}
+use Rattle.std.proofs.Common.{◌≡◌, ◌∙◌, ◌<◌, ℕ, List, None, Ok, Err, sym, subst}
 use Rattle.vf_base.specs.Faults.{HasRisen}
 use Rattle.vf_journal.specs.Answers.{OpenCauses}
-use Rattle.vf_journal.specs.Image.{Refusal, refusal}
+use Rattle.vf_journal.specs.Image.{refusal}
 use Rattle.vf_journal.specs.declared.error.JournalError.{JournalError}
 use Rattle.vf_journal.specs.declared.error.JournalError.TheVariants as errors
 use Rattle.vf_responder.specs.Full.{AtFull}

@@ -1,5 +1,5 @@
 -- A link that arrives, a file that is made on it, and files that are made one after another.
-use Rattle.std.proofs.Common.{◌≡◌, ◌∙◌, ℕ, suc, ◌+◌, ◌≤◌, List, [], ◌∷◌, ◌++◌, Option, Ok, Err, OnOk, inl, inr, ⊎_elim, ap, append-nil, refl, sym, subst, arith, add-one}
+use Rattle.std.proofs.Common.{◌≡◌, ◌∙◌, ℕ, suc, ◌+◌, ◌≤◌, List, [], ◌∷◌, ◌++◌, Option, Ok, Err, OnOk, inl, inr, ⊎_elim, ap, append-nil, refl, sym, subst, arith}
 use Rattle.vf_base.specs.declared.events.ScriptEvent.{ScriptEvent}
 use Rattle.vf_base.specs.declared.events.ScriptEvent.TheVariants.{Arrived}
 use Rattle.vf_disk.proofs.Runs.{weaker}

@@ -1,7 +1,6 @@
 -- Requests that are said one after another, and files that are made so.
 use Rattle.std.proofs.Common.{◌≡◌, ◌∙◌, ℕ, Bool, false, true, List, [], ◌∷◌, ◌++◌, Option, Result, Ok, Err, OnOk, is_err, inl, inr, ⊎_elim, ap, append_assoc, refl, sym, subst}
 use Rattle.vf_base.specs.declared.events.ScriptEvent.{ScriptEvent}
-use Rattle.vf_responder.specs.Serving.{Serving}
 use Rattle.vf_stack.specs.declared.request.Request.{Request}
 use Rattle.vf_base.specs.declared.errors.NoMemory.{NoMemory}
 use Rattle.vf_disk.specs.Disk.{LeavesOnly}
@@ -17,7 +16,7 @@ use Rattle.vf_stack.specs.Sending.{May, octets_sent, with_request}
 use Rattle.vf_stack.specs.Sends.{Sends}
 use Rattle.vf_store.specs.StoreState.{IsRepresented}
 use Rattle.vf_cli_generate.proofs.Going.{map_ok, goes_by, goes_event, goes_nowhere, goes_then}
-use Rattle.vf_cli_generate.specs.Generating.{Answer, Both, Goes, HasSaid, IsCalling, SaysAll, SaysFront, SaysOne, after_event, after_request, coming, good, requested}
+use Rattle.vf_cli_generate.specs.Generating.{Answer, Both, Goes, HasSaid, IsCalling, SaysAll, SaysFront, after_request, good, requested}
 
 -- one request more was said
 pub says_more : (link : ℕ) (requests : List Request) (request : Request) (both between both' : Both) (first later : List ScriptEvent) → SaysAll link requests both first between

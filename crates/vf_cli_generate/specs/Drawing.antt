@@ -1,5 +1,5 @@
 -- Drawn numbers, and the contents of files by them (profile): each number is 75 times the one before it and 74, modulo 65,537.
-use Rattle.std.specs.Prelude.{ℕ, zero, suc, ◌+◌, ◌*◌, ◌/◌, ◌%◌, List, [], ◌∷◌, codes, drop, length, take}
+use Rattle.std.specs.Prelude.{ℕ, zero, suc, ◌+◌, ◌*◌, ◌/◌, ◌%◌, List, [], ◌∷◌, drop, length, take}
 
 abbrev pub next : ℕ → ℕ
 next number = (75 * number + 74) % 65537

@@ -1,5 +1,5 @@
 -- How an input falls into lines, and a line into words.
-use Rattle.std.proofs.Common.{◌≡◌, ◌<◌, ◌≤◌, ℕ, zero, suc, ◌+◌, Bool, true, false, List, [], ◌∷◌, ◌++◌, length, map, take, drop, get_or, Bor, ap, ◌∙◌, refl, sym, arith, append_assoc, length-append, Option, None, Some}
+use Rattle.std.proofs.Common.{◌≡◌, ◌<◌, ◌≤◌, ℕ, zero, suc, ◌+◌, Bool, true, false, List, [], ◌∷◌, ◌++◌, length, map, take, drop, get_or, Bor, ap, ◌∙◌, refl, sym, arith, append_assoc, length-append, None, Some}
 use Rattle.std.specs.List.{onto_first, position, position_or_len, slice_split}
 use Rattle.std.proofs.lemmas.List.Quantifiers.{position-Some}
 use Rattle.std.proofs.lemmas.Grind.{common_steps}

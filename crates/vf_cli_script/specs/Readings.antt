@@ -1,5 +1,5 @@
 -- What a reading of a script stands for.
-use Rattle.std.specs.Prelude.{Bool, ℕ, Option, Some, None, nat_eq, if◌then◌else◌}
+use Rattle.std.specs.Prelude.{Bool, Option, Some, None, nat_eq, if◌then◌else◌}
 use Rattle.indexmap.specs.IndexMap.{get}
 use Rattle.vf_cli_script.specs.declared.reading.Reading.{Reading}
 use Rattle.vf_cli_script.specs.Scripts.{Progress}

@@ -1,7 +1,7 @@
 -- By which causes a task has its status.
-use Rattle.std.proofs.Common.{◌≡◌, ◌∙◌, ◌<◌, inl, inr, ⊎_elim, ◌⊎◌, ℕ, List, Option, Ok, Err, arith, sym, subst}
-use Rattle.vf_base.specs.Faults.{HasRisen, HasRisenBy, last_count}
-use Rattle.vf_cli_transact.specs.Tasks.{FailsIn, FailsOutput, IsBroken, IsBrokenIn}
+use Rattle.std.proofs.Common.{◌≡◌, ◌<◌, inl, inr, ⊎_elim, ◌⊎◌, ℕ, List, Option, Ok, Err, arith, sym, subst}
+use Rattle.vf_base.specs.Faults.{HasRisen, HasRisenBy}
+use Rattle.vf_cli_transact.specs.Tasks.{FailsIn, IsBroken, IsBrokenIn}
 use Rattle.vf_journal.specs.declared.error.JournalError.TheVariants.{DiskFault}
 use Rattle.vf_transact.specs.Connecting.{WritesByCause}
 use Rattle.vf_transact.specs.Starting.{ReadsByCause}

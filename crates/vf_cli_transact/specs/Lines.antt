@@ -1,5 +1,5 @@
 -- The lines of how a task ended, each with its status (profile).
-use Rattle.std.specs.Prelude.{◌≡◌, ℕ, Bool, true, false, List, [], ◌∷◌, ◌++◌, Option, Result, Ok, Err, codes, decimal}
+use Rattle.std.specs.Prelude.{◌≡◌, ℕ, Bool, true, false, List, [], ◌∷◌, ◌++◌, Option, Ok, Err, codes, decimal}
 use Rattle.vf_cli_printing.specs.Printed.{Printed, Prints, Wrote, line_feed}
 use Rattle.vf_initiator.specs.declared.doing.TaskError.{TaskError}
 use Rattle.vf_initiator.specs.declared.doing.TaskError.TheVariants.{Refused, PeerFault, PeerAbort, OutOfPlace, Budget}

@@ -9,15 +9,15 @@ use Rattle.vf_elements.specs.declared.message.Said.{Said}
 use Rattle.vf_elements.specs.declared.message.Said.TheVariants as answers
 use Rattle.vf_pdu.specs.declared.pdu.Pdu.TheVariants.{ReadRequest, RecoverRequest, RestartRequest, WriteRequest}
 use Rattle.vf_transfer.specs.Transfer as transfer
-use Rattle.vf_transfer.specs.Transfer.{Entry, NamesKnownChecks, Standing, joined, last_check, standing}
+use Rattle.vf_transfer.specs.Transfer.{Entry, NamesKnownChecks, Standing, joined, standing}
 use Rattle.vf_filestore.proofs.Retained.{alike_since, secured_alike}
 use Rattle.vf_filestore.proofs.Soundness.{alike_resumed, moving_happens}
 use Rattle.vf_filestore.specs.Dockets.{retained, secured, secures, since_selection}
 use Rattle.vf_filestore.specs.History as history
-use Rattle.vf_filestore.specs.History.{Given, Placed, Resumed, History}
+use Rattle.vf_filestore.specs.History.{Given, Resumed, History}
 use Rattle.vf_filestore.specs.Performed.{Wrote, operation, wrote}
 use Rattle.vf_filestore.specs.Transfers.{Transfer, happened, resumed, survivors, under_way, with_heard, with_said}
-use Rattle.vf_incarnations.specs.Recovery.{GoodEndsPerformIt, IsAsRestart, IsBare, IsBroken, IsResumption, IsUnanswered, Item, OwnListStands, RecoveriesAreRestarts, RecoveriesGoOn, Says, SaysAll, from_check, left_of, restarted, unsecured, values_of}
+use Rattle.vf_incarnations.specs.Recovery.{GoodEndsPerformIt, IsBare, IsBroken, IsResumption, IsUnanswered, Item, OwnListStands, RecoveriesAreRestarts, RecoveriesGoOn, Says, from_check, left_of, restarted, unsecured, values_of}
 use Rattle.vf_incarnations.specs.Recovery as own
 
 -- ---- a recovery

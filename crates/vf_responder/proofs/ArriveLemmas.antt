@@ -11,9 +11,9 @@ use Rattle.vf_store.specs.StoreState.{StoreState}
 use Rattle.vf_party.specs.Turns.{LeavesParty}
 use Rattle.vf_stack.specs.Association.{Association, beginning}
 use Rattle.vf_responder.proofs.MoveLemmas.{IsTakenOut, new-represents, out-represents, put-again, same-associations}
-use Rattle.vf_responder.proofs.StandLemmas.{IsOn, broken-off, on-link}
+use Rattle.vf_responder.proofs.StandLemmas.{broken-off, on-link}
 use Rattle.vf_responder.specs.Answers.{Answer, arrival, ended, speaking}
-use Rattle.vf_responder.specs.Represents.{Answers, IsLink, IsLinkOf, Kept, Represents, link_of, with_link}
+use Rattle.vf_responder.specs.Represents.{Answers, IsLink, IsLinkOf, Kept, Represents, link_of}
 use Rattle.vf_responder.specs.Run.{trail}
 use Rattle.vf_responder.specs.Serving.{Serving, stands, with_association}
 use Rattle.vf_responder.specs.declared.event.Reply.{Reply}

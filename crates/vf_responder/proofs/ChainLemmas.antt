@@ -1,12 +1,12 @@
 -- Answers one after another, what is said in them, and what the disk represents along them.
-use Rattle.std.proofs.Common.{◌≡◌, ℕ, zero, suc, List, [], ◌∷◌, ◌++◌, take, Option, refl, ap, sym, subst, ◌∙◌, append_assoc, append-nil}
+use Rattle.std.proofs.Common.{◌≡◌, ℕ, zero, suc, List, [], ◌∷◌, ◌++◌, take, refl, ap, sym, subst, ◌∙◌, append_assoc, append-nil}
 use Rattle.vf_disk.proofs.Runs.{joined, weaker}
 use Rattle.vf_disk.specs.Disk.{LeavesOnly}
 use Rattle.vf_store.specs.Represented.{Represents as ImageRepresents}
 use Rattle.vf_responder.specs.Along.{RepresentsAlong}
 use Rattle.vf_responder.specs.Answers.{Answer, at_end, spoken_in}
 use Rattle.vf_responder.specs.Represents.{Answers, Kept, Represents}
-use Rattle.vf_responder.specs.Run.{after, tables_in}
+use Rattle.vf_responder.specs.Run.{tables_in}
 use Rattle.vf_responder.specs.Serving.{Serving}
 use Rattle.vf_responder.specs.declared.event.Reply.{Reply}
 

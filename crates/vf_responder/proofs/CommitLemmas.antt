@@ -1,5 +1,5 @@
 -- Commits one after another, and those of answers that come in parts.
-use Rattle.std.proofs.Common.{◌≡◌, ℕ, ◌<◌, Bool, true, false, List, [], ◌∷◌, ◌++◌, length, Option, None, Some, Result, Ok, Err, refl, ap, sym, subst, ◌∙◌, append_assoc, append-nil, arith}
+use Rattle.std.proofs.Common.{◌≡◌, ℕ, ◌<◌, List, [], ◌∷◌, ◌++◌, length, Option, None, Some, Result, Ok, Err, refl, ap, sym, subst, ◌∙◌, append_assoc, append-nil, arith}
 use Rattle.std.specs.Prelude.{OnOk}
 use Rattle.vf_filestore.proofs.Decisions.{broken_same}
 use Rattle.vf_filestore.proofs.Kept.{breaks_keep}
@@ -20,7 +20,6 @@ use Rattle.vf_store.specs.Answers.{CommitAnswers, CommitSteps}
 use Rattle.vf_store.specs.Commit.{after_commit, commit_steps, placed}
 use Rattle.vf_store.specs.StoreState.{StoreState}
 use Rattle.vf_tables.specs.declared.change.Change.{Change}
-use Rattle.vf_tables.specs.declared.tables.Tables.{Tables}
 use Rattle.vf_responder.specs.Answers.{Answer, at_end}
 use Rattle.vf_responder.specs.Commits.{AreMade, AreMadeUpTo, Commit, CommitsSo, DiskTells, IsNext, commit_of, commits, changes_in}
 use Rattle.vf_responder.specs.Represents.{Kept, Represents}

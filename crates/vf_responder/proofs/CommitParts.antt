@@ -1,6 +1,6 @@
 -- The commits of a message, of indications one after another, and of octets cut anywhere.
-use Rattle.std.proofs.Common.{◌≡◌, ℕ, Bool, true, false, cond, List, [], ◌∷◌, ◌++◌, Option, None, Some, Result, Ok, Err, refl, ap, sym, subst, ◌∙◌, append_assoc, append-nil}
-use Rattle.std.specs.Prelude.{is_some, nat_lt, length, if◌then◌else◌}
+use Rattle.std.proofs.Common.{◌≡◌, ℕ, Bool, true, false, cond, List, [], ◌∷◌, ◌++◌, Option, None, Some, Result, refl, ap, sym, subst, ◌∙◌, append_assoc, append-nil}
+use Rattle.std.specs.Prelude.{nat_lt, length, if◌then◌else◌}
 use Rattle.vf_base.specs.declared.events.ScriptEvent.TheVariants as script
 use Rattle.vf_elements.specs.declared.message.Message.{Message}
 use Rattle.vf_filestore.proofs.Parties.{located}
@@ -25,7 +25,7 @@ use Rattle.vf_responder.proofs.StandLemmas.{IsOn, on-link}
 use Rattle.vf_responder.proofs.TakeLemmas.{IsTakenSo, changes-are, given_in, now_of, setting_in, taken-so, way_first}
 use Rattle.vf_responder.proofs.TellLemmas.{AsksSo, heard-gone, meant-so, told-takes}
 use Rattle.vf_responder.specs.Answers.{Answer, after_octet, answering, answering_on, arrival, at_end, breaking, ended, given_to, giving_way, in_the_way, most_links, octet_heard, octets_heard, says, setting_at, told, told_all, with_octet}
-use Rattle.vf_responder.specs.AnswersTo.{any_setting, to_arrival, to_break, to_ending, to_event, to_indication, to_indication_of, to_indications, to_meaning, to_meant, to_octet, to_octets, to_way}
+use Rattle.vf_responder.specs.AnswersTo.{any_setting, to_break, to_ending, to_indication, to_indication_of, to_indications, to_meaning, to_meant, to_octet, to_octets, to_way}
 use Rattle.vf_responder.specs.Commits.{AreMade, Commit, CommitsAlong, CommitsSo, DiskTells, changes_in, commit_of, commits, commits_by, commits_heard, commits_taking, commits_told, commits_told_all, to_taking, to_taking_by}
 use Rattle.vf_responder.specs.Meanings as run
 use Rattle.vf_responder.specs.Meanings.{Meaning, meaning, transfer_check}

@@ -1,7 +1,6 @@
 -- Rounds of a loop: the commits of an indication more, or of a piece more; and those of octets on a link that was taken out.
 use Rattle.std.proofs.Common.{◌≡◌, ℕ, Bool, List, [], ◌∷◌, ◌++◌, length, None, Result, Ok, Err, refl, ap, sym, subst, ◌∙◌}
 use Rattle.std.specs.Prelude.{is_some}
-use Rattle.vf_filestore.specs.State.{StandingParty, party_of}
 use Rattle.vf_journal.specs.declared.error.JournalError.{JournalError}
 use Rattle.vf_stack.specs.declared.indication.Indication.{Indication}
 use Rattle.vf_store.specs.StoreState.{StoreState}

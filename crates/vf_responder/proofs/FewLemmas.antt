@@ -1,17 +1,15 @@
 -- Octets of a packet: what they tell is told by the last of them, or by one that ends receiving.
-use Rattle.std.proofs.Common.{◌≡◌, ℕ, Bool, true, false, nat_eq, List, [], ◌∷◌, ◌++◌, Option, Some, None, refl, ap, sym, subst, ◌∙◌, eqb-true}
+use Rattle.std.proofs.Common.{◌≡◌, ℕ, Bool, true, false, nat_eq, List, [], ◌∷◌, refl, ap, sym, subst, eqb-true}
 use Rattle.std.specs.Prelude.{if◌then◌else◌}
 use Rattle.vf_elements.specs.declared.message.Said.{Said}
 use Rattle.vf_filestore.specs.Conclusion.{Answered}
-use Rattle.vf_session.specs.declared.units.SessionSay.{SessionSay}
 use Rattle.vf_session.specs.declared.units.TokenSide.TheVariants.{Responder}
 use Rattle.vf_stack.specs.Association.{Association, is_ended}
 use Rattle.vf_stack.specs.Receiving.{ending_by}
-use Rattle.vf_stack.specs.Sending.{ending_after, octets_sent, unit_sent, with_request}
+use Rattle.vf_stack.specs.Sending.{octets_sent, unit_sent, with_request}
 use Rattle.vf_stack.specs.declared.ending.Ending.{Ending}
 use Rattle.vf_stack.specs.declared.indication.Indication.{Indication}
 use Rattle.vf_stack.specs.declared.request.Request.{Request}
-use Rattle.vf_responder.proofs.StandLemmas.{with-other}
 use Rattle.vf_responder.specs.Answers.{says}
 use Rattle.vf_responder.specs.Replies.{Outgoing, is_left_out, request_of, sending, sending_all}
 use Rattle.vf_responder.specs.Serving.{Serving}

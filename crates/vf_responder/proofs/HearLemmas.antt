@@ -5,7 +5,6 @@ use Rattle.std.specs.List.{AllByRecursion}
 use Rattle.std.specs.Prelude.{is_some, if◌then◌else◌}
 use Rattle.vf_elements.specs.declared.message.Said.{Said}
 use Rattle.vf_disk.proofs.Runs.{weaker}
-use Rattle.vf_disk.specs.Disk.{LeavesOnly}
 use Rattle.vf_filestore.specs.Dockets.{broken}
 use Rattle.vf_filestore.specs.HoldersAfter.{Keeps}
 use Rattle.vf_filestore.specs.Sound.{IsSound}

@@ -1,25 +1,24 @@
 -- What a party says in answer to something, and the answers to an indication.
-use Rattle.std.proofs.Common.{◌≡◌, ◌≢◌, ℕ, ◌+◌, Bool, true, false, nat_eq, List, [], ◌∷◌, ◌++◌, length, Option, Some, None, refl, ap, sym, subst, ◌∙◌, append-nil}
+use Rattle.std.proofs.Common.{◌≡◌, ℕ, ◌+◌, Bool, true, List, [], ◌∷◌, ◌++◌, Option, Some, None, refl, ap, sym, ◌∙◌, append-nil}
 use Rattle.std.specs.Prelude.{is_some, not}
 use Rattle.vf_elements.specs.declared.message.Said.{Said}
 use Rattle.vf_elements.specs.declared.message.Said.TheVariants as answers
 use Rattle.vf_filestore.specs.Conclusion.{Answered}
 use Rattle.vf_filestore.specs.Dockets.{broken}
 use Rattle.vf_filestore.specs.HoldersAfter.{Keeps}
-use Rattle.vf_filestore.specs.State.{State, StandingParty, party_of}
-use Rattle.vf_filestore.specs.Transition.{aborts, leaves}
+use Rattle.vf_filestore.specs.State.{StandingParty, party_of}
+use Rattle.vf_filestore.specs.Transition.{leaves}
 use Rattle.vf_session.specs.Trace.{next}
 use Rattle.vf_stack.specs.Association.{Association}
-use Rattle.vf_stack.specs.Represents as stack
 use Rattle.vf_stack.specs.declared.indication.Indication.{Indication}
 use Rattle.vf_filestore.proofs.Others.{breaks_leave_none}
-use Rattle.vf_responder.proofs.StandLemmas.{IsOn, broken-off, on-link, stays-on}
-use Rattle.vf_responder.specs.Answers.{Answer, answering, answering_on, at_end, says, speaking, spoken_in, told}
+use Rattle.vf_responder.proofs.StandLemmas.{IsOn, broken-off, stays-on}
+use Rattle.vf_responder.specs.Answers.{answering, answering_on, says, speaking, told}
 use Rattle.vf_responder.specs.Meanings as run
 use Rattle.vf_responder.specs.Meanings.{transfer_check}
 use Rattle.vf_responder.specs.Replies.{Outgoing, sending_all}
 use Rattle.vf_responder.specs.Represents.{Answers, Kept, Represents, with_link}
-use Rattle.vf_responder.specs.Serving.{Serving, stands, with_association}
+use Rattle.vf_responder.specs.Serving.{Serving, stands}
 use Rattle.vf_responder.specs.declared.event.Reply.{Reply}
 use Rattle.vf_responder.specs.declared.link.Link.{Link}
 

@@ -22,8 +22,7 @@ use Rattle.vf_stack.specs.declared.request.Request.TheVariants.{Check}
 use Rattle.vf_tpkt.specs.Sending.{stands}
 use Rattle.vf_tpkt.specs.Stream.{reading}
 use Rattle.vf_responder.specs.Replies.{Outgoing, is_left_out, request_of, sending, sending_all}
-use Rattle.vf_responder.specs.Steps.{IsAsked, IsCalled, Sends}
-use Rattle.vf_responder.specs.declared.meaning.Asked.{Asked}
+use Rattle.vf_responder.specs.Steps.{IsCalled, Sends}
 
 -- Whether a check is permitted isn't of what an end proposes.
 check-by : (offer : Bool) (s : SessionState) (serial : ℕ) (ending : Ending) → permits Responder offer s (say.Check serial) ending ≡ permits Responder false s (say.Check serial) ending

@@ -13,7 +13,6 @@ use Rattle.vf_filestore.specs.HoldersAfter.{Keeps}
 use Rattle.vf_filestore.specs.Ranges.{IsReached}
 use Rattle.vf_filestore.specs.State.{State, StandingParty, party_of}
 use Rattle.vf_filestore.specs.Tables.{tables_of}
-use Rattle.vf_locks.specs.declared.held.Held.{Held}
 use Rattle.vf_stack.specs.Association.{Association}
 use Rattle.vf_filestore.proofs.Counts.{breaks_count}
 use Rattle.vf_filestore.proofs.Others.{breaks_leave_none, breaks_leave_others}

@@ -1,6 +1,6 @@
 -- The responder that serves many associations (profile): the whole filestore, and of each link what was received and sent
 -- on it. A link stands where a party of the filestore stands on it.
-use Rattle.std.specs.Prelude.{◌≡◌, ℕ, Bool, List, [], is_some, nat_eq, if◌then◌else◌}
+use Rattle.std.specs.Prelude.{ℕ, Bool, is_some, nat_eq, if◌then◌else◌}
 use Rattle.vf_filestore.specs.State.{State, party_of}
 use Rattle.vf_filestore.specs.Ranges.{IsReached}
 use Rattle.vf_filestore.specs.Sound.{Begins}

@@ -1,6 +1,6 @@
-use Rattle.std.proofs.Common.{◌≡◌, ◌∙◌, ◌+◌, ◌%◌, ◌++◌, ◌≤◌, ℕ, List, [], ◌∷◌, ap, arith, length, sym}
+use Rattle.std.proofs.Common.{◌≡◌, ◌∙◌, ◌+◌, ◌%◌, ◌++◌, ℕ, List, [], ◌∷◌, ap, arith, length, sym}
 use Rattle.vf_cli_generate.proofs.Drawn.{last_more, octets_length, octets_more}
-use Rattle.vf_cli_generate.specs.Drawing.{last_after, next, octets_after}
+use Rattle.vf_cli_generate.specs.Drawing.{next, octets_after}
 use Rattle.vf_cli_generate.proofs.contents.draw.Goals as goal
 
 pub loop-preserved : goal.loop-preserved

@@ -1,4 +1,4 @@
-use Rattle.std.proofs.Common.{◌≡◌, ◌∙◌, ℕ, List, Err, ap, refl, subst, sym}
+use Rattle.std.proofs.Common.{◌∙◌, ℕ, Err, ap, refl, subst, sym}
 use Rattle.vf_base.specs.Faults.{HasRisen}
 use Rattle.vf_disk.proofs.Runs.{joined, weaker}
 use Rattle.vf_store.specs.Represented.{Represents}

@@ -1,7 +1,6 @@
-use Rattle.std.proofs.Common.{◌≡◌, Ok, Err, subst}
 use Rattle.vf_cli_generate.proofs.Going.{goes_stops}
 use Rattle.vf_cli_generate.proofs.Making.{arrival_is_front, goes_file}
-use Rattle.vf_cli_generate.specs.Generating.{ArrivalFront, FrontOfFile, HasCalled, MakesFile}
+use Rattle.vf_cli_generate.specs.Generating.{ArrivalFront, FrontOfFile, MakesFile}
 use Rattle.vf_cli_generate.proofs.generating.make_file.Goals as goal
 
 pub returns-in-Ok-clause-makes : goal.returns-in-Ok-clause-makes

@@ -1,6 +1,5 @@
-use Rattle.std.proofs.Common.{◌≡◌, ◌∙◌, ◌+◌, ◌≤◌, ℕ, List, Err, ap, arith, refl, subst, sym}
+use Rattle.std.proofs.Common.{◌≡◌, ◌∙◌, ◌+◌, ◌≤◌, ℕ, Err, ap, arith, refl, subst, sym}
 use Rattle.vf_journal.specs.declared.error.JournalError.TheVariants.{NoMemory}
-use Rattle.vf_stack.specs.declared.request.Request.{Request}
 use Rattle.vf_cli_generate.proofs.Making.{after_more, goes_fewer, goes_no_file, goes_one_file}
 use Rattle.vf_cli_generate.specs.Drawing.{after_file, after_files, contents_after, name_of}
 use Rattle.vf_cli_generate.specs.Generating.{Answer, FrontOfFiles, Goes, MakesFiles, good}

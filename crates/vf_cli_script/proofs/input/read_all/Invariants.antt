@@ -1,4 +1,4 @@
-use Rattle.std.proofs.Common.{◌+◌, ◌-◌, ◌<◌, ◌≤◌, length}
+use Rattle.std.proofs.Common.{◌+◌, ◌-◌, ◌<◌, length}
 use Rattle.vf_base.specs.Faults.{NeverFalls}
 use Rattle.vf_base.specs.Streams.{HasRead}
 use Rattle.vf_cli_script.specs.declared.input.TheConstants.{INPUT_LIMIT}

@@ -1,4 +1,4 @@
-use Rattle.std.proofs.Common.{◌≡◌, ◌∙◌, ◌≤◌, ◌⊎◌, List, ℕ, Option, Result, ap, arith, length, subst, ⊎_elim}
+use Rattle.std.proofs.Common.{◌≡◌, ◌∙◌, ◌≤◌, ◌⊎◌, List, ℕ, Option, ap, length, subst, ⊎_elim}
 use Rattle.vf_base.specs.Streams.{IsAtEnd}
 use Rattle.vf_cli_script.specs.Inputs.{IsFront}
 use Rattle.vf_cli_script.specs.Scripts.{IsTold, begun, script_from, statements_in}

@@ -1,7 +1,6 @@
-use Rattle.std.specs.Prelude.{slice_get}
-use Rattle.std.proofs.Common.{◌≡◌, ◌∙◌, ◌+◌, ◌≤◌, Bool, List, Option, Some, None, Ok, ap, arith, drop, length, refl, sym}
+use Rattle.std.proofs.Common.{◌∙◌, ◌≤◌, Bool, Option, Some, None, Ok, ap, arith, length, refl, sym}
 use Rattle.vf_cli_script.specs.Readings.{if_good, progress_of}
-use Rattle.vf_cli_script.specs.Scripts.{Progress, begun, script_from, with_statement}
+use Rattle.vf_cli_script.specs.Scripts.{begun, script_from, with_statement}
 use Rattle.vf_cli_script.specs.declared.line.Statement.{Statement}
 use Rattle.vf_cli_script.specs.declared.script.Script.{Script}
 use Rattle.vf_cli_script.proofs.Tellings.{script_bad, script_more, script_whole}

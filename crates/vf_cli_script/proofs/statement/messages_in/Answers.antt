@@ -1,10 +1,10 @@
 use Rattle.std.specs.Prelude.{IfSome}
-use Rattle.std.proofs.Common.{◌≡◌, ◌∙◌, ◌<◌, ◌≤◌, ℕ, [], Some, Option, ap, length, subst, sym}
+use Rattle.std.proofs.Common.{◌≡◌, ◌∙◌, ◌<◌, ◌≤◌, ℕ, Option, ap, length, subst, sym}
 use Rattle.vf_ber.specs.Reader.{reading}
 use Rattle.vf_ber.specs.Reading.{Read}
 use Rattle.vf_ber.specs.Views.{tree_of}
 use Rattle.vf_ber.specs.declared.value.Value.{Value}
-use Rattle.vf_cli_script.specs.Statements.{IsLess, messages_in as messages_at, value_of}
+use Rattle.vf_cli_script.specs.Statements.{IsLess, value_of}
 use Rattle.vf_cli_script.proofs.Messages.{behind_all, kept_all, kept_more, kept_none, messages_none}
 use Rattle.vf_cli_script.proofs.statement.messages_in.Goals as goal
 

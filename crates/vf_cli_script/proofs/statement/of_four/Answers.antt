@@ -1,5 +1,5 @@
 use Rattle.std.specs.Prelude.{if◌then◌else◌, codes}
-use Rattle.std.proofs.Common.{◌≡◌, ◌∙◌, List, ℕ, Option, ap}
+use Rattle.std.proofs.Common.{◌∙◌, List, ℕ, Option, ap}
 use Rattle.vf_disk.specs.declared.crash_form.CrashForm.{CrashForm}
 use Rattle.vf_cli_script.specs.Statements.{act_of_four as four_act, filled_form as filled, is as is_named, life_of as life, octets_act as octets, on_link as on, said_act as said}
 use Rattle.vf_cli_script.specs.declared.line.Act.{Act}

@@ -1,5 +1,5 @@
 use Rattle.std.specs.Prelude.{if◌then◌else◌}
-use Rattle.std.proofs.Common.{◌≡◌, ◌∙◌, Option, ap}
+use Rattle.std.proofs.Common.{◌∙◌, Option, ap}
 use Rattle.vf_cli_script.specs.Statements.{act_of_three as three_act, form_of as form, life_of as life, on_link as on, user_of as user}
 use Rattle.vf_cli_script.specs.declared.line.Act.{Act}
 use Rattle.vf_cli_script.proofs.statement.of_three.Goals as goal

@@ -1,4 +1,4 @@
-use Rattle.std.proofs.Common.{◌≡◌, ◌∙◌, ◌+◌, ◌≤◌, arith, length, sym}
+use Rattle.std.proofs.Common.{◌∙◌, ◌+◌, ◌≤◌, arith, length, sym}
 use Rattle.vf_cli_script.proofs.Split.{last_word, more_words, too_many}
 use Rattle.vf_cli_script.proofs.words.words_of.Goals as goal
 

@@ -1,4 +1,4 @@
-use Rattle.std.proofs.Common.{refl, ◌≡◌}
+use Rattle.std.proofs.Common.{refl}
 use Rattle.vf_responder.specs.Examples.{RunExamples}
 use Rattle.vf_ber.specs.Reader.{digits_at, parts_at, ended_at, value_at, reading}
 use Rattle.vf_upper_grammar.specs.Faults.{some_in as some_faults}

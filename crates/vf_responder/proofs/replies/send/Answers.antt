@@ -1,4 +1,4 @@
-use Rattle.std.proofs.Common.{◌≡◌, sym, subst}
+use Rattle.std.proofs.Common.{sym, subst}
 use Rattle.std.specs.Prelude.{IsTrue, ◌↔◌}
 use Rattle.vf_stack.specs.Represents.{offer_of, side_of}
 use Rattle.vf_stack.specs.Sending.{May}

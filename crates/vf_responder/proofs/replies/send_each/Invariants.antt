@@ -1,4 +1,3 @@
-use Rattle.std.proofs.Common.{◌≡◌, [], ◌∷◌, List}
 use Rattle.vf_stack.specs.Association.{Association}
 use Rattle.vf_stack.specs.declared.indication.Indication.{Indication}
 use Rattle.vf_responder.specs.Replies.{sending_all}

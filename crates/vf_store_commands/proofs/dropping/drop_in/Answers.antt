@@ -1,4 +1,4 @@
-use Rattle.std.proofs.Common.{◌≡◌, ◌∙◌, Bool, true, false, List, [], ◌∷◌, ap, subst, sym}
+use Rattle.std.proofs.Common.{◌≡◌, ◌∙◌, Bool, true, false, [], ◌∷◌, ap, subst, sym}
 use Rattle.vf_disk.specs.Disk.{LeavesOnly}
 use Rattle.vf_store.specs.Represented.{RepresentsEither}
 use Rattle.vf_store.proofs.Runs.{idle_either}

@@ -1,4 +1,4 @@
-use Rattle.std.proofs.Common.{◌≡◌, ◌∙◌, List, ℕ, Err, OnOk, inl, refl, subst, sym}
+use Rattle.std.proofs.Common.{◌≡◌, ◌∙◌, Err, inl, refl, subst, sym}
 use Rattle.vf_base.specs.declared.events.ScriptEvent.{ScriptEvent}
 use Rattle.vf_base.specs.declared.events.ScriptEvent.TheVariants.{Arrived, Octets}
 use Rattle.vf_disk.specs.Disk.{LeavesOnly}

@@ -1,4 +1,4 @@
-use Rattle.std.proofs.Common.{◌≡◌, ◌∙◌, ◌+◌, ℕ, List, subst, sym, take}
+use Rattle.std.proofs.Common.{ℕ, List, subst, sym, take}
 use Rattle.vf_session.specs.declared.units.TokenSide.TheVariants.{Initiator}
 use Rattle.vf_stack.specs.Association.{Association}
 use Rattle.vf_stack.specs.Receiving.{octets_received}

@@ -1,5 +1,4 @@
 use Rattle.std.proofs.Common.{◌≡◌, ◌∙◌, ℕ, List, [], ◌∷◌, OnOk, false, subst, sym}
-use Rattle.vf_base.specs.declared.events.ScriptEvent.TheVariants.{Octets}
 use Rattle.vf_disk.specs.Disk.{LeavesOnly}
 use Rattle.vf_journal.specs.declared.error.JournalError.TheVariants.{NoMemory}
 use Rattle.vf_responder.specs.Along.{RepresentsAlong}
@@ -12,7 +11,7 @@ use Rattle.vf_stack.specs.Sending.{octets_sent, with_request}
 use Rattle.vf_stack.specs.Sends.{Sends}
 use Rattle.vf_cli_generate.proofs.Going.{goes_no_further, stays}
 use Rattle.vf_cli_generate.proofs.Saying.{calls_after, front_none, goes_left_out, goes_sent, may_ask, may_send, not_true, octets_are, when_ok}
-use Rattle.vf_cli_generate.specs.Generating.{Both, HasSaid, IsCalling, SaysFront, after_event, after_request, coming}
+use Rattle.vf_cli_generate.specs.Generating.{Both, HasSaid, IsCalling, SaysFront, after_event, coming}
 use Rattle.vf_cli_generate.proofs.peer.Peer.say.Goals as goal
 
 pub returns-then-not-may-clause-says : goal.returns-then-not-may-clause-says

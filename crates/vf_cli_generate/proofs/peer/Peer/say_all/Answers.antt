@@ -1,10 +1,9 @@
 use Rattle.std.proofs.Common.{◌≡◌, ◌∙◌, ◌+◌, ◌<◌, ◌++◌, ℕ, List, [], ◌∷◌, Err, drop, get_or, length, take, ap, subst, sym}
 use Rattle.std.proofs.lemmas.List.{take-append-drop, take_all, take_more}
-use Rattle.vf_base.specs.declared.events.ScriptEvent.{ScriptEvent}
 use Rattle.vf_stack.specs.declared.request.Request.{Request}
 use Rattle.vf_cli_generate.proofs.Going.{goes_stops}
 use Rattle.vf_cli_generate.proofs.Saying.{front_first, goes_one_more}
-use Rattle.vf_cli_generate.specs.Generating.{Answer, Both, Goes, HasSaid, SaysFront, good}
+use Rattle.vf_cli_generate.specs.Generating.{Answer, Goes, HasSaid, SaysFront, good}
 use Rattle.vf_cli_generate.proofs.peer.Peer.say_all.Goals as goal
 
 -- one request more, as the loop counts them

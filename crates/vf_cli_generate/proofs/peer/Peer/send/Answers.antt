@@ -7,7 +7,7 @@ use Rattle.vf_responder.specs.Represents.{KeepsAlong, Represents}
 use Rattle.vf_responder.specs.Run.{trail}
 use Rattle.vf_responder.specs.declared.event.Reply.{Reply}
 use Rattle.vf_cli_generate.proofs.Going.{ok_of, where_none_full}
-use Rattle.vf_cli_generate.specs.Generating.{Both, IsCalling, hears}
+use Rattle.vf_cli_generate.specs.Generating.{IsCalling, hears}
 use Rattle.vf_cli_generate.proofs.peer.Peer.send.Goals as goal
 
 pub returns-clause-heard : goal.returns-clause-heard

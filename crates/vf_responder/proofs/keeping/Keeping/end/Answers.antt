@@ -1,16 +1,11 @@
 use Rattle.std.proofs.Common.{◌≡◌, ℕ, ◌+◌, List, Option, None, length, refl, ap, sym, subst, ◌∙◌}
 use Rattle.std.specs.Prelude.{IfNone, is_some, if◌then◌else◌}
 use Rattle.vf_base.specs.declared.events.ScriptEvent.TheVariants as script
-use Rattle.vf_responder.specs.Represents.{Answers, Kept, kept_of, link_of}
+use Rattle.vf_responder.specs.Represents.{Answers, kept_of, link_of}
 use Rattle.vf_responder.specs.Run.{trail}
 use Rattle.vf_responder.specs.declared.link.Link.{Link}
 use Rattle.vf_responder.proofs.ArriveLemmas.{ended-none, ended-one}
 use Rattle.vf_responder.proofs.MoveLemmas.{out-by, out-numbered}
-use Rattle.vf_responder.proofs.FewLemmas.{says-over}
-use Rattle.vf_responder.proofs.GiveLemmas.{found-has, found-some, superseded-is}
-use Rattle.vf_responder.proofs.LoopLemmas.{cut-onward, heard-end, round-next, told-end}
-use Rattle.vf_responder.proofs.TakeLemmas.{take-answers, take-fits, take-run}
-use Rattle.vf_responder.proofs.TellLemmas.{run-takes, tell-takes, told-faults, told-nothing}
 use Rattle.vf_responder.proofs.keeping.Keeping.end.Goals as goal
 
 pub returns-in_default-clause-answers : goal.returns-in_default-clause-answers

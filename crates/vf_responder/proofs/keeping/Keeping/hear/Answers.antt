@@ -11,7 +11,7 @@ use Rattle.vf_responder.proofs.FullLemmas.{back-full}
 use Rattle.vf_responder.proofs.keeping.Keeping.hear.Given.{Over}
 use Rattle.vf_responder.proofs.CommitLemmas.{all-made}
 use Rattle.vf_responder.proofs.CommitRounds.{back-commits, none-heard-commits}
-use Rattle.vf_responder.specs.Commits.{CommitsAlong, commits_heard, telling}
+use Rattle.vf_responder.specs.Commits.{commits_heard, telling}
 use Rattle.vf_responder.proofs.keeping.Keeping.hear.Goals as goal
 use Rattle.vf_responder.proofs.keeping.Keeping.hear.Goals.{After-put_back}
 

@@ -1,4 +1,4 @@
-use Rattle.std.proofs.Common.{◌≡◌, ℕ, List, [], ◌++◌, ◌∙◌, ap}
+use Rattle.std.proofs.Common.{◌≡◌, ℕ, List, ◌++◌, ◌∙◌, ap}
 use Rattle.vf_responder.specs.Answers.{speaking}
 use Rattle.vf_responder.specs.Replies.{sending_all}
 use Rattle.vf_responder.proofs.link.Link.speak.Goals as goal

@@ -7,7 +7,7 @@ use Rattle.vf_responder.specs.Run.{trail}
 use Rattle.vf_responder.specs.declared.event.Event.{Event}
 use Rattle.vf_responder.proofs.CommitLemmas.{none-begun}
 use Rattle.vf_responder.proofs.CommitParts.{arrival-commits, end-commits, made-same}
-use Rattle.vf_responder.specs.Commits.{Commit, commits_by, telling}
+use Rattle.vf_responder.specs.Commits.{commits_by, telling}
 use Rattle.vf_responder.proofs.responder.Responder.deliver.Goals as goal
 
 pub returns-in_err-arrive-in-Arrived-clause-any_moment : goal.returns-in_err-arrive-in-Arrived-clause-any_moment
