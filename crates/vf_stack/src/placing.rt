@@ -1,5 +1,5 @@
 //! The presentation contexts that values are sent in, and the values in them.
-ghost use Rattle.std.specs.Prelude.{◌≡◌, [], ◌∷◌, IfOk};
+ghost use Rattle.std.specs.Prelude.{◌≡◌, [], ◌∷◌, IfOk, false, true};
 ghost use Rattle.vf_base.specs.Oid.{IsOid};
 ghost use Rattle.vf_elements.specs.ElementValue.{IsWritable as IsElement};
 ghost use Rattle.vf_pdu.specs.PduMeaning.{IsInRange};
@@ -9,6 +9,7 @@ ghost use Rattle.vf_stack.specs.Sends.{IsMaybeInRange};
 ghost use Rattle.vf_upper.specs.Carried.{carried_of};
 ghost use Rattle.vf_upper.specs.Primitives.{syntax_of};
 ghost use Rattle.vf_upper.specs.Written.{accepted, acse_id, has_syntax, id_of as first_id, or_zero, suits_in};
+ghost use Rattle.vf_upper_grammar.specs.Forms.{are_arcs};
 ghost use Rattle.vf_upper_grammar.specs.Syntaxes.{pci};
 ghost use Rattle.vf_upper_grammar.specs.declared.labels.NumberLabel.TheVariants.{AcseContext, AnyContext, PciContext};
 
@@ -31,13 +32,31 @@ const TEXT: [u32; 5] = [1, 0, 8571, 2, 3];
 /// Unstructured binary (ISO 8571-2).
 const BINARY: [u32; 5] = [1, 0, 8571, 2, 4];
 
+/// Whether the last arcs differ.
+#[tactic(auto, using(crate::proofs::PlacingLemmas::apart_at_the_last))]
+fn differ_at_the_last(arcs: &[u32], others: &[u32]) -> bool
+    ensures { result ≡ true → are_arcs arcs.now others.now ≡ false }
+{
+    match (arcs.split_last(), others.split_last()) {
+        (Some((arc, _)), Some((other, _))) => arc != other,
+        _ => false,
+    }
+}
+
+/// Whether these are the same arcs. The last ones are looked at first, since those of most syntaxes differ.
+fn are_same(arcs: &[u32], others: &[u32]) -> bool
+    ensures { result ≡ are_arcs arcs.now others.now }
+{
+    !differ_at_the_last(arcs, others) && arcs == others
+}
+
 /// Whether the first of these contexts with this identifier has this abstract syntax.
 fn names(contexts: &[ContextEntry], id: i64, syntax: &[u32]) -> bool
     ensures { result ≡ has_syntax syntax.now (syntax_of id (accepted contexts.now)) }
 {
     for entry in contexts {
         if entry.id == id {
-            return entry.syntax.arcs() == syntax;
+            return are_same(entry.syntax.arcs(), syntax);
         }
     }
     false
@@ -49,7 +68,7 @@ fn id_of(contexts: &[ContextEntry], syntax: &[u32]) -> Option<i64>
     ensures { result ≡ first_id syntax.now contexts.now }
 {
     for entry in contexts {
-        if entry.syntax.arcs() == syntax && names(contexts, entry.id, syntax) {
+        if are_same(entry.syntax.arcs(), syntax) && names(contexts, entry.id, syntax) {
             return Some(entry.id);
         }
     }
