@@ -2,8 +2,8 @@ use std::alloc::Global;
 use std::test::Fail;
 use vf_attr::{AttributeChange, File, Stamp, change};
 use vf_base::{
-    Actions, BaseError, Constraint, Contents, Element, FaduId, Moment, Name, NoMemory, Octets, Oid,
-    Sequence, Term, Terms,
+    Actions, BaseError, Constraint, Contents, Element, Elements, FaduId, Moment, Name, NoMemory,
+    Octets, Oid, Sequence, Term, Terms,
 };
 use vf_tree::Tree;
 
@@ -63,22 +63,42 @@ fn changes_set_their_attributes(rt: HostRuntime) -> Result<(), Fail> {
     Ok(())
 }
 
+/// Whether the two have the same name, terms, version and stamp.
+fn are_alike(file: &File, other: &File) -> bool {
+    file.name == other.name
+        && file.terms.len() == other.terms.len()
+        && file.version == other.version
+        && file.created.moment == other.created.moment
+        && file.created.identity == other.created.identity
+}
+
+/// One string of three octets.
+fn three_octets(alloc: Global) -> Result<Elements, NoMemory> {
+    let mut unit = Sequence::new(alloc);
+    let octets = Octets::of(alloc, b"abc")?;
+    unit.push(Element::Binary { octets })?;
+    Ok(unit)
+}
+
+/// Whether three octets take the place of what an empty tree has.
+fn is_filled(alloc: Global, tree: &mut Tree) -> Result<bool, NoMemory> {
+    let unit = three_octets(alloc)?;
+    if !tree.has_room_to_replace(FaduId::Begin, &unit) {
+        return Ok(false);
+    }
+    let replaced = tree.replace(alloc, FaduId::Begin, unit);
+    Ok(replaced == Ok(0) && tree.size() == 3)
+}
+
 /// A copy is equal, and an action on its tree leaves the file as it was.
 #[test]
 fn copies_share_their_tree(rt: HostRuntime) -> Result<(), Fail> {
     let alloc = rt.alloc();
     let file = file(alloc, &[("ann", 1, "pw"), ("-", 2, "-")])?;
     let mut copy = file.copy(alloc)?;
-    assert!(rt; copy.name == file.name && copy.terms.len() == 2 && copy.version == 1);
-    assert!(rt;
-        copy.created.moment.seconds() == 5 && copy.created.identity == file.created.identity
-    );
-    let mut unit = Sequence::new(alloc);
-    let octets = Octets::of(alloc, b"abc")?;
-    unit.push(Element::Binary { octets })?;
-    assert!(rt; copy.tree.has_room_to_replace(FaduId::Begin, &unit));
-    assert_eq!(rt; copy.tree.replace(alloc, FaduId::Begin, unit), Ok(0));
-    assert!(rt; copy.tree.size() == 3 && file.tree.size() == 0);
+    assert!(rt; are_alike(&file, &copy) && copy.terms.len() == 2 && copy.version == 1);
+    assert!(rt; copy.created.moment.seconds() == 5);
+    assert!(rt; is_filled(alloc, &mut copy.tree)? && file.tree.size() == 0);
     Ok(())
 }
 

@@ -77,6 +77,14 @@ fn releases(locks: &mut Locks, alloc: Global, who: (u8, u32)) -> Result<bool, Ba
 }
 
 /// Whether the first holder stood on the file, and the second did not and now stands in its place.
+fn takes_the_place(locks: &mut Locks, file: &Name, from: &Holder, to: Holder) -> bool {
+    if locks.controls(file, from).is_none() || locks.controls(file, &to).is_some() {
+        return false;
+    }
+    locks.pass(file, from, to);
+    locks.controls(file, from).is_none()
+}
+
 fn passes(
     locks: &mut Locks,
     alloc: Global,
@@ -86,11 +94,7 @@ fn passes(
     let file = Name::of(alloc, b"f")?;
     let from = holder(alloc, from)?;
     let to = holder(alloc, to)?;
-    if locks.controls(&file, &from).is_none() || locks.controls(&file, &to).is_some() {
-        return Ok(false);
-    }
-    locks.pass(&file, &from, to);
-    Ok(locks.controls(&file, &from).is_none())
+    Ok(takes_the_place(locks, &file, &from, to))
 }
 
 /// A copy of the locks, and whether each holder that it lends of the file is that of the locks, with its controls.
