@@ -92,11 +92,20 @@ fn tried<'t>(
     ensures tried { IfOk result (λ attempt. AreTried quiet.now tables.now locks.now attempt.locks (setting_of setting.now) items.now attempt.trial) }
     ensures led { IfOk result (λ attempt. attempt.trial.tables ≡ after_all tables.now attempt.trial.changes) }
 {
-    let quiet = quiet.copy(alloc)?;
+    let (quiet, mut locks) = copies(alloc, quiet, locks)?;
     let tables = Tried::of(tables, lent);
-    let mut locks = locks.copy(alloc)?;
     let trial = try_items(alloc, quiet, items, setting, tables, &mut locks)?;
     Ok(Attempt { trial, locks })
+}
+
+/// A copy of the party and one of the locks.
+fn copies(alloc: Global, quiet: &Quiet, locks: &Locks) -> Result<(Quiet, Locks), NoMemory>
+    ensures quiet { IfOk result (λ both. both.0 ≡ quiet.now) }
+    ensures locks { IfOk result (λ both. both.1 ≡ locks.now) }
+{
+    let locks = locks.copy(alloc)?;
+    let quiet = quiet.copy(alloc)?;
+    Ok((quiet, locks))
 }
 
 /// What a group comes to that is performed, and a second of the tables after it.
@@ -117,20 +126,30 @@ fn performed(
         ..
     } = trial;
     let said = between(alloc, said)?;
-    if lead_on(tables, after.tables(), changes.as_slice()) {
-        let step = Step {
-            state: quiet,
-            said,
-            changes,
-        };
-        return Ok((step, after.into_second()));
-    }
+    let (changes, second) = unless_led_back(alloc, tables, changes, after);
     let step = Step {
         state: quiet,
         said,
-        changes: Changes::new(alloc),
+        changes,
     };
-    Ok((step, None))
+    Ok((step, second))
+}
+
+/// The changes that are kept, and a second of the tables after them: none where they lead to the same tables.
+fn unless_led_back(
+    alloc: Global,
+    tables: &Tables,
+    changes: Changes,
+    after: Tried<'_>,
+) -> (Changes, Option<Tables>)
+    requires { after ≡ after_all tables.now changes }
+    ensures changes { result.0 ≡ unless_same_meant tables.now after.entry changes }
+    ensures ahead { IfSome result.1 (λ second. second ≡ after_all tables.now result.0) }
+{
+    if lead_on(tables, after.tables(), changes.as_slice()) {
+        return (changes, after.into_second());
+    }
+    (Changes::new(alloc), None)
 }
 
 /// What is said to a group that isn't performed, and a second of the tables, where it was lent and no item changed it.
@@ -138,11 +157,24 @@ fn in_vain(alloc: Global, trial: Trial<'_>) -> Result<(Vec<Said>, Option<Tables>
     ensures says { IfOk result (λ done. done.0.items ≡ between_meant trial.entry.vain.items) }
     ensures unchanged { IfOk result (λ done. IfSome done.1 (λ second. (second ≡ trial.entry.tables) × (trial.entry.changes ≡ []))) }
 {
-    let all = between(alloc, trial.vain)?;
-    if trial.changes.as_slice().is_empty() {
-        return Ok((all, trial.tables.into_second()));
+    let Trial {
+        vain,
+        changes,
+        tables,
+        ..
+    } = trial;
+    let all = between(alloc, vain)?;
+    Ok((all, unless_changed(&changes, tables)))
+}
+
+/// The second of the tables, where there are no changes.
+fn unless_changed(changes: &Changes, tables: Tried<'_>) -> Option<Tables>
+    ensures { IfSome result (λ second. (second ≡ tables.entry) × (changes.now ≡ [])) }
+{
+    if changes.as_slice().is_empty() {
+        return tables.into_second();
     }
-    Ok((all, None))
+    None
 }
 
 /// What is said to the items, between the responses of the group's begin and its end.

@@ -1,6 +1,6 @@
 //! What came of a message that a party took in its place, and what came of one that it took by value.
 ghost use Rattle.std.specs.Prelude.{◌≡◌};
-ghost use Rattle.vf_party.specs.Hearing.{turn_in};
+ghost use Rattle.vf_party.specs.Hearing.{outcome_in, turn_in};
 
 use crate::Said;
 use crate::party::{Outcome, Party};
@@ -24,30 +24,44 @@ pub(crate) fn settled(
 ) -> Result<Answered, NoMemory>
     ensures { turn_in party.new result ≡ taken }
 {
+    match taken {
+        Ok(outcome) => Ok(left(party, outcome)),
+        Err((back, error)) => {
+            put(party, back);
+            Err(error)
+        }
+    }
+}
+
+/// Puts the party that an outcome leaves, if it leaves one, in the place of another.
+fn left(party: &mut Party, outcome: Outcome) -> Answered
+    ensures { outcome_in party.new result ≡ outcome }
+{
     let Outcome {
         party: next,
         said,
         changes,
-    } = match taken {
-        Ok(outcome) => outcome,
-        Err((back, error)) => {
-            *party = back;
-            return Err(error);
-        }
-    };
+    } = outcome;
     let Some(next) = next else {
-        return Ok(Answered {
+        return Answered {
             goes: false,
             said,
             changes,
-        });
+        };
     };
-    *party = next;
-    Ok(Answered {
+    put(party, next);
+    Answered {
         goes: true,
         said,
         changes,
-    })
+    }
+}
+
+/// Puts a party in the place of another.
+fn put(party: &mut Party, next: Party)
+    ensures { party.new ≡ next }
+{
+    *party = next;
 }
 
 /// What came of a message that this party took in its place.

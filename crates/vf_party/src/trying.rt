@@ -1,6 +1,7 @@
 //! The items of a group, tried in their order (ISO 8571-3, grouping; profile).
 ghost use Rattle.std.specs.Prelude.{◌≡◌, ◌≤◌, ◌<◌, ◌+◌, ◌^◌, [], ◌∷◌, ◌++◌, IfOk, length};
 ghost use Rattle.vf_party.specs.Quiets.{stage_of};
+ghost use Rattle.vf_party.specs.Refusals.{refusal_numbered};
 ghost use Rattle.vf_party.specs.Settings.{setting_of};
 ghost use Rattle.vf_party.specs.Trials.{AreTried, ComesOf, IsBadItem, IsGoodItem, IsJoined, IsUntried, pdu_of, taken_in};
 ghost use Rattle.vf_tables.specs.Changes.{after_all};
@@ -81,17 +82,39 @@ fn joined<'t>(
     requires { good + later.good < 2 ^ 64 }
     ensures { IfOk result (IsJoined said.items vain.items good changes later.entry) }
 {
-    let said = said_before(said, later.said)?;
-    let vain = said_before(vain, later.vain)?;
-    let changes = followed_by(changes, later.changes)?;
+    let Trial {
+        quiet,
+        said: said_later,
+        vain: vain_later,
+        good: good_later,
+        changes: changes_later,
+        tables,
+    } = later;
+    let (said, vain) = both_before(said, said_later, vain, vain_later)?;
+    let changes = followed_by(changes, changes_later)?;
     Ok(Trial {
-        quiet: later.quiet,
+        quiet,
         said,
         vain,
-        good: good + later.good,
+        good: good + good_later,
         changes,
-        tables: later.tables,
+        tables,
     })
+}
+
+/// What was said of one kind and of another, each with what was said later.
+fn both_before(
+    said: Vec<Said>,
+    said_later: Vec<Said>,
+    vain: Vec<Said>,
+    vain_later: Vec<Said>,
+) -> Result<(Vec<Said>, Vec<Said>), NoMemory>
+    ensures said { IfOk result (λ both. both.0.items ≡ said.items ++ said_later.items) }
+    ensures vain { IfOk result (λ both. both.1.items ≡ vain.items ++ vain_later.items) }
+{
+    let said = said_before(said, said_later)?;
+    let vain = said_before(vain, vain_later)?;
+    Ok((said, vain))
 }
 
 /// What was said, and then what was said later.
@@ -173,17 +196,11 @@ fn answered<'t>(
     ensures { IfOk result (ComesOf number answer tables.entry) }
 {
     match answer {
-        Ok(step) => {
-            let trial = granted(alloc, number, step, tables)?;
-            return Ok(trial);
-        }
-        Err((quiet, error)) => {
-            let StepError::Refused(diagnostic) = error else {
-                return Err(NoMemory);
-            };
-            let trial = refused(alloc, quiet, number, diagnostic, tables)?;
-            return Ok(trial);
-        }
+        Ok(step) => granted(alloc, number, step, tables),
+        Err((quiet, error)) => match error {
+            StepError::Refused(diagnostic) => refused(alloc, quiet, number, diagnostic, tables),
+            StepError::NoMemory => Err(NoMemory),
+        },
     }
 }
 
@@ -196,13 +213,13 @@ fn granted<'t>(
 ) -> Result<Trial<'t>, NoMemory>
     ensures { IfOk result (IsGoodItem number step tables.entry) }
 {
+    let vain = refusal(alloc, number, plain(BELOW_THRESHOLD))?;
+    let tables = tables.after(alloc, step.changes.as_slice())?;
     let Step {
         state,
         said,
         changes,
     } = step;
-    let vain = refusal(alloc, number, plain(BELOW_THRESHOLD))?;
-    let tables = tables.after(alloc, changes.as_slice())?;
     Ok(Trial {
         quiet: state,
         said,
@@ -223,8 +240,7 @@ fn refused<'t>(
 ) -> Result<Trial<'t>, NoMemory>
     ensures { IfOk result (IsBadItem quiet number diagnostic tables.entry) }
 {
-    let said = refusal(alloc, number, diagnostic)?;
-    let vain = refusal(alloc, number, diagnostic)?;
+    let (said, vain) = refused_twice(alloc, number, diagnostic)?;
     Ok(Trial {
         quiet,
         said,
@@ -233,4 +249,18 @@ fn refused<'t>(
         changes: Changes::new(alloc),
         tables,
     })
+}
+
+/// A refusal, and the same once more.
+fn refused_twice(
+    alloc: Global,
+    number: u16,
+    diagnostic: Diagnostic,
+) -> Result<(Vec<Said>, Vec<Said>), NoMemory>
+    ensures first { IfOk result (λ both. both.0.items ≡ refusal_numbered number diagnostic) }
+    ensures second { IfOk result (λ both. both.1.items ≡ refusal_numbered number diagnostic) }
+{
+    let said = refusal(alloc, number, diagnostic)?;
+    let vain = refusal(alloc, number, diagnostic)?;
+    Ok((said, vain))
 }
