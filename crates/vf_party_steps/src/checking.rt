@@ -1,12 +1,12 @@
 //! Checks and restarts of a write, by which its docket has what stands of its values.
-ghost use Rattle.std.specs.Prelude.{◌≡◌, ◌+◌, ◌≤◌, ◌++◌, IfErr, IfOk};
+ghost use Rattle.std.specs.Prelude.{◌≡◌, ◌+◌, ◌≤◌, ◌++◌, IfErr, IfOk, Some};
 ghost use Rattle.vf_elements.specs.declared.message.Message.TheVariants as messages;
 ghost use Rattle.vf_party_steps.specs.Steps.{IsStep};
 ghost use Rattle.vf_party_steps.specs.Writes.{IsRestart, IsWriting, cut_docket as cut_meant, fields_at, restarted_docket, staged_docket};
 ghost use Rattle.vf_pdu.specs.PduNumbers.{number_of};
 ghost use Rattle.vf_transfer.specs.Checks.{offered};
 
-use crate::step::{one_change, one_said};
+use crate::step::{followed_by, one_change, one_said};
 use crate::{Said, Step, StepError, Writing};
 use std::alloc::Global;
 use vf_base::{Element, Elements, Moment, NoMemory};
@@ -154,17 +154,31 @@ fn stage_docket(
     let Some(regime) = fields else {
         return Ok(Changes::new(alloc));
     };
+    let stage = stage_of(alloc, &regime, stood, piece)?;
+    let mut changes = one_change(alloc, Change::PutDocket { regime })?;
+    changes.push(stage)?;
+    Ok(changes)
+}
+
+/// A docket has a piece more; octets are shared.
+fn stage_of(
+    alloc: Global,
+    regime: &Regime,
+    stood: u32,
+    piece: &[Element],
+) -> Result<Change, NoMemory>
+    requires { stood + 1 ≤ 4294967295 }
+    ensures { IfOk result (λ change. change ≡ Change.Stage regime.now.identity regime.now.activity stood (stood + 1) piece.now) }
+{
     let elements = copied(alloc, piece)?;
-    let stage = Change::Stage {
-        identity: regime.identity.copy(alloc)?,
+    let identity = regime.identity.copy(alloc)?;
+    Ok(Change::Stage {
+        identity,
         activity: regime.activity,
         first: stood,
         last: stood + 1,
         elements,
-    };
-    let mut changes = one_change(alloc, Change::PutDocket { regime })?;
-    changes.push(stage)?;
-    Ok(changes)
+    })
 }
 
 fn copied(alloc: Global, elements: &[Element]) -> Result<Elements, NoMemory>
@@ -181,7 +195,7 @@ fn copied(alloc: Global, elements: &[Element]) -> Result<Elements, NoMemory>
 /// These changes, and then: a docket has these fields and the pieces up to a check, where there is one.
 pub(crate) fn cut_docket(
     alloc: Global,
-    mut changes: Changes,
+    changes: Changes,
     fields: Option<Regime>,
     stood: u32,
     check: u32,
@@ -191,14 +205,30 @@ pub(crate) fn cut_docket(
     let Some(regime) = fields else {
         return Ok(changes);
     };
-    let cut = Change::CutStage {
-        identity: regime.identity.copy(alloc)?,
-        activity: regime.activity,
-        point: check,
-    };
-    changes.push(Change::PutDocket { regime })?;
+    let cut = docket_cut(alloc, regime, stood, check)?;
+    followed_by(changes, cut)
+}
+
+/// A docket has these fields and the pieces up to a check.
+fn docket_cut(alloc: Global, regime: Regime, stood: u32, check: u32) -> Result<Changes, NoMemory>
+    ensures { IfOk result (λ made. made ≡ cut_meant (Some regime) stood check) }
+{
+    let cut = cut_of(alloc, &regime, check)?;
+    let mut changes = one_change(alloc, Change::PutDocket { regime })?;
     if check < stood {
         changes.push(cut)?;
     }
     Ok(changes)
+}
+
+/// A docket has the pieces up to a check.
+fn cut_of(alloc: Global, regime: &Regime, check: u32) -> Result<Change, NoMemory>
+    ensures { IfOk result (λ change. change ≡ Change.CutStage regime.now.identity regime.now.activity check) }
+{
+    let identity = regime.identity.copy(alloc)?;
+    Ok(Change::CutStage {
+        identity,
+        activity: regime.activity,
+        point: check,
+    })
 }
