@@ -201,11 +201,12 @@ fn told_of(unit: &SessionSay) -> Told<'_> {
             data,
         } => naming("e", *serial, *token, data.as_slice()),
         SessionSay::Abort { data } => nameless("x", None, data.as_slice()),
-        SessionSay::Token { to } => nameless(
-            chosen(*to == TokenSide::Initiator, "tI", "tO"),
-            None,
-            &[],
-        ),
+        SessionSay::Token { to } => Told {
+            letter: "t",
+            serial: None,
+            side: side_text(*to),
+            data: &[],
+        },
     }
 }
 
