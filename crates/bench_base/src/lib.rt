@@ -2,10 +2,12 @@
 //! its own.
 #![tactic(auto)]
 
+mod digests;
 mod fault;
-mod output;
 mod reading;
+mod text;
 
+pub use crate::digests::{NO_OCTETS, digest, next_random};
 pub use crate::fault::Fault;
-pub use crate::output::{end, put, put_count, put_digits, put_number};
-pub use crate::reading::{first_word, input, number, octets_in, text_of};
+pub use crate::reading::{first_word, input, octets_in, text_of};
+pub use crate::text::{Text, end};

@@ -40,8 +40,3 @@ pub fn octets_in(alloc: Global, digits: &[u8]) -> Result<Vec<u8>, Fault> {
         Err(_) => Err(Fault::Line),
     }
 }
-
-/// A word as a number of 32 bits.
-pub fn number(word: Option<&str>) -> Option<u32> {
-    word?.parse::<u32>().ok()
-}

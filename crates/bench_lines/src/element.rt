@@ -6,36 +6,39 @@
 ghost use Rattle.vf_elements.specs.ElementValue.{IsWritable};
 
 use crate::pdu::put_error;
-use crate::spelling::put_spelling;
-use bench_base::{Fault, octets_in, put, put_number};
+use crate::spelling::{put_spelling, value_in};
+use bench_base::{Fault, Text};
 use std::alloc::Global;
 use vf_base::Element;
-use vf_ber::{BerError, Value, read};
+use vf_ber::Value;
 use vf_elements::{of_value, spelled_length, to_value};
 
 /// Appends what the octets of a line are.
-pub fn put_line(alloc: Global, line: &[u8], out: &mut Vec<u8>) -> Result<(), Fault> {
-    let octets = octets_in(alloc, line)?;
-    match read(alloc, octets.as_slice()) {
-        Ok((value, _)) => put_meaning(alloc, &value, out),
-        Err(BerError::NoMemory) => Err(Fault::NoMemory),
-        Err(_) => put(out, "none\n"),
+pub fn put_line(alloc: Global, line: &[u8], out: &mut Text) -> Result<(), Fault> {
+    match value_in(alloc, line)? {
+        Some(value) => put_meaning(alloc, &value, out),
+        None => out.put("none\n"),
     }
+    Ok(())
 }
 
 /// Appends what a value is.
-fn put_meaning(alloc: Global, value: &Value, out: &mut Vec<u8>) -> Result<(), Fault> {
+fn put_meaning(alloc: Global, value: &Value, out: &mut Text) {
     match of_value(alloc, value) {
         Ok(element) => put_element(alloc, &element, out),
-        Err(error) => put_error(alloc, error, out),
+        Err(error) => put_error(error, out),
     }
 }
 
-fn put_element(alloc: Global, element: &Element, out: &mut Vec<u8>) -> Result<(), Fault>
+fn put_element(alloc: Global, element: &Element, out: &mut Text)
     requires { IsWritable element.now }
 {
-    let value = to_value(alloc, element)?;
-    put(out, "element ")?;
-    put_spelling(alloc, &value, out)?;
-    put_number(alloc, " ", spelled_length(element), "\n", out)
+    match to_value(alloc, element) {
+        Ok(value) => {
+            out.put("element ");
+            put_spelling(alloc, &value, out);
+            out.put_number(" ", spelled_length(element), "\n");
+        }
+        Err(_) => out.fail(Fault::NoMemory),
+    }
 }

@@ -14,7 +14,7 @@
 //! A unit is a letter, its number and, after a colon, its user data, so many `x` where these are `*` and a number. Of
 //! what is taken the units are told, and the fault that ends it. After the steps stands a colon, with the next serial
 //! number of each end that the first word names, and `*` where the end has the token.
-use bench_base::{Fault, put, put_digits, put_number, text_of};
+use bench_base::{Fault, Text, text_of};
 use std::alloc::Global;
 use vf_base::Octets;
 use vf_session::{
@@ -49,18 +49,16 @@ impl End {
     }
 }
 
-fn put_fault(alloc: Global, fault: SessionError, out: &mut Vec<u8>) -> Result<(), Fault> {
+fn put_fault(fault: SessionError, out: &mut Text) {
     match fault {
-        SessionError::State { spdu } => put_number(alloc, "State ", u64::from(spdu), " ", out),
-        SessionError::Serial { expected, found } => put_serial(alloc, expected, found, out),
-        SessionError::Token => put(out, "Token "),
-        SessionError::NoMemory => Err(Fault::NoMemory),
+        SessionError::State { spdu } => out.put_number("State ", u64::from(spdu), " "),
+        SessionError::Serial { expected, found } => {
+            out.put_number("Serial ", u64::from(expected), " ");
+            out.put_number("", u64::from(found), " ");
+        }
+        SessionError::Token => out.put("Token "),
+        SessionError::NoMemory => out.fail(Fault::NoMemory),
     }
-}
-
-fn put_serial(alloc: Global, expected: u32, found: u32, out: &mut Vec<u8>) -> Result<(), Fault> {
-    put_number(alloc, "Serial ", u64::from(expected), " ", out)?;
-    put_number(alloc, "", u64::from(found), " ", out)
 }
 
 /// The TSDU in which an end sends a unit; none where it may not.
@@ -109,21 +107,17 @@ fn take_all(
     Ok(None)
 }
 
-fn put_units(alloc: Global, told: &[SessionOut], out: &mut Vec<u8>) -> Result<(), Fault> {
-    for unit in told {
-        put_unit(alloc, unit, out)?;
-    }
-    Ok(())
-}
-
 /// An end takes a TSDU, and what that told is appended.
-fn take(alloc: Global, to: &mut Session, tsdu: &[u8], out: &mut Vec<u8>) -> Result<(), Fault> {
+fn take(alloc: Global, to: &mut Session, tsdu: &[u8], out: &mut Text) {
     let mut told = Vec::new(alloc);
-    let fault = take_all(alloc, to, tsdu, &mut told)?;
-    put_units(alloc, &told, out)?;
-    match fault {
-        None => Ok(()),
-        Some(fault) => put_fault(alloc, fault, out),
+    let taken = take_all(alloc, to, tsdu, &mut told);
+    for unit in &told {
+        put_unit(unit, out);
+    }
+    match taken {
+        Ok(None) => {}
+        Ok(Some(fault)) => put_fault(fault, out),
+        Err(fault) => out.fail(fault),
     }
 }
 
@@ -136,31 +130,32 @@ fn side_of(session: &Session) -> &'static str {
 }
 
 /// An end takes the next TSDU.
-fn take_next(alloc: Global, end: &mut End, out: &mut Vec<u8>) -> Result<(), Fault> {
-    put(out, side_of(&end.session))?;
-    let tsdu = end.inbox.get(end.taken).ok_or(Fault::Line)?;
+fn take_next(alloc: Global, end: &mut End, out: &mut Text) {
+    out.put(side_of(&end.session));
+    match end.inbox.get(end.taken) {
+        Some(tsdu) => take(alloc, &mut end.session, tsdu.as_slice(), out),
+        None => out.fail(Fault::Line),
+    }
     end.taken = end.taken.saturating_add(1);
-    take(alloc, &mut end.session, tsdu.as_slice(), out)
 }
 
 /// An end takes the SPDU of a letter and a number.
-fn take_made(alloc: Global, to: &mut Session, word: &str, out: &mut Vec<u8>) -> Result<(), Fault> {
+fn take_made(alloc: Global, to: &mut Session, word: &str, out: &mut Text) -> Result<(), Fault> {
     let (letter, number) = letter_and_number(word).ok_or(Fault::Line)?;
     let tsdu = made_of(alloc, letter, number)?;
-    take(alloc, to, tsdu.as_slice(), out)
+    take(alloc, to, tsdu.as_slice(), out);
+    Ok(())
 }
 
 /// The SPDU of a letter and a number.
 fn made_of(alloc: Global, letter: u8, number: u32) -> Result<Vec<u8>, Fault> {
-    let mut tsdu = Vec::from_slice(alloc, prefix(letter))?;
-    if letter == b'U' || letter == b'V' {
-        let [_, _, high, low] = number.to_be_bytes();
-        tsdu.extend_from_slice(&[high, low])?;
-        return Ok(tsdu);
+    let mut tsdu = Text::new(alloc);
+    tsdu.put_octets(prefix(letter));
+    match letter {
+        b'U' | b'V' => tsdu.put_octets(&number.to_be_bytes()[2..]),
+        _ => tsdu.put_made(format!(in alloc; "{number:06}")),
     }
-    let digits = format!(in alloc; "{number:06}")?;
-    tsdu.extend_from_slice(digits.as_bytes())?;
-    Ok(tsdu)
+    tsdu.end()
 }
 
 /// An end sends a unit, which the other one is to take.
@@ -169,49 +164,32 @@ fn send(
     from: &mut Session,
     to: &mut End,
     word: &str,
-    out: &mut Vec<u8>,
+    out: &mut Text,
 ) -> Result<(), Fault> {
     match tsdu_of(alloc, from, word)? {
-        None => put(out, "no "),
-        Some(tsdu) => {
-            to.inbox.push(tsdu)?;
-            Ok(())
-        }
+        None => out.put("no "),
+        Some(tsdu) => to.inbox.push(tsdu)?,
     }
+    Ok(())
 }
 
-fn put_tsdu(alloc: Global, tsdu: &[u8], out: &mut Vec<u8>) -> Result<(), Fault> {
-    if tsdu.len() <= SHOWN {
-        put_digits(alloc, tsdu, out)?;
-        return put(out, " ");
-    }
-    put_digits(alloc, tsdu.get(..12).unwrap_or(&[]), out)?;
-    put_number(alloc, "..", tsdu.len() as u64, " ", out)
-}
-
-/// An end sends a unit, and the other one takes it at once.
+/// An end sends a unit, which the other one takes at once, and which is shown after what it told.
 fn pass(
     alloc: Global,
     from: &mut Session,
     to: &mut Session,
     word: &str,
-    out: &mut Vec<u8>,
+    out: &mut Text,
 ) -> Result<(), Fault> {
     match tsdu_of(alloc, from, word)? {
-        None => put(out, "no "),
-        Some(tsdu) => take_shown(alloc, to, tsdu.as_slice(), out),
+        None => out.put("no "),
+        Some(tsdu) => {
+            take(alloc, to, tsdu.as_slice(), out);
+            out.put_front(tsdu.as_slice(), SHOWN, 12);
+            out.put(" ");
+        }
     }
-}
-
-/// An end takes a TSDU, which is shown after what it told.
-fn take_shown(
-    alloc: Global,
-    to: &mut Session,
-    tsdu: &[u8],
-    out: &mut Vec<u8>,
-) -> Result<(), Fault> {
-    take(alloc, to, tsdu, out)?;
-    put_tsdu(alloc, tsdu, out)
+    Ok(())
 }
 
 /// A step of one end.
@@ -220,7 +198,7 @@ fn step(
     end: &mut End,
     peer: &mut End,
     word: &str,
-    out: &mut Vec<u8>,
+    out: &mut Text,
 ) -> Result<(), Fault> {
     if let Some(unit) = word.strip_prefix('>') {
         return send(alloc, &mut end.session, peer, unit, out);
@@ -229,44 +207,39 @@ fn step(
         return pass(alloc, &mut end.session, &mut peer.session, unit, out);
     }
     match word.strip_prefix('<') {
-        Some("") => take_next(alloc, end, out),
+        Some("") => {
+            take_next(alloc, end, out);
+            Ok(())
+        }
         Some(made) => take_made(alloc, &mut end.session, made, out),
         None => Err(Fault::Line),
     }
 }
 
-/// An end takes the SPDU of a letter and a number, whatever that tells.
-fn take_numbered(alloc: Global, to: &mut Session, letter: u8, number: u32) -> Result<(), Fault> {
-    let tsdu = made_of(alloc, letter, number)?;
-    let mut out = Vec::new(alloc);
-    take(alloc, to, tsdu.as_slice(), &mut out)
+/// A calling end takes an AC with this number, so that a connection with sync stands from it on.
+fn open_calling(alloc: Global, number: u32, session: &mut Session) -> Result<(), Fault> {
+    tsdu_of(alloc, session, "C1")?;
+    let tsdu = made_of(alloc, b'A', number)?;
+    take(alloc, session, tsdu.as_slice(), &mut Text::new(alloc));
+    Ok(())
 }
 
-/// A calling end at which a connection with sync stands, from this number on.
-fn open_calling(alloc: Global, number: u32) -> Result<Session, Fault> {
-    let mut session = Session::calling(true);
-    tsdu_of(alloc, &mut session, "C1")?;
-    take_numbered(alloc, &mut session, b'A', number)?;
-    Ok(session)
-}
-
-/// A called end at which a connection with sync stands, from this number on.
-fn open_called(alloc: Global, number: u32) -> Result<Session, Fault> {
-    let mut session = Session::called();
-    take_numbered(alloc, &mut session, b'C', number)?;
-    let data = Octets::of(alloc, &[])?;
+/// A called end takes a CN with this number and accepts it, so that such a connection stands there.
+fn open_called(alloc: Global, number: u32, session: &mut Session) -> Result<(), Fault> {
+    let tsdu = made_of(alloc, b'C', number)?;
+    take(alloc, session, tsdu.as_slice(), &mut Text::new(alloc));
     let unit = SessionSay::Accept {
         sync: true,
         serial: number,
-        data,
+        data: Octets::of(alloc, &[])?,
     };
-    sent(alloc, &mut session, &unit)?;
-    Ok(session)
+    sent(alloc, session, &unit)?;
+    Ok(())
 }
 
-fn put_left(alloc: Global, session: &Session, out: &mut Vec<u8>) -> Result<(), Fault> {
+fn put_left(session: &Session, out: &mut Text) {
     let token = if session.has_token() { "*" } else { "" };
-    put_number(alloc, " ", u64::from(session.next_serial()), token, out)
+    out.put_number(" ", u64::from(session.next_serial()), token);
 }
 
 /// The ends that the first word of a row names.
@@ -282,6 +255,17 @@ fn named_by(word: &str) -> Named {
         b"calling" | b"plain" | [b'I', ..] => Named::Calling,
         b"called" | [b'O', ..] => Named::Called,
         _ => Named::Both,
+    }
+}
+
+/// The end of a step, by its letter or as the one that is named, and the step without the letter.
+fn end_of(named: Named, word: &str) -> (Named, &str) {
+    if let Some(word) = word.strip_prefix('I') {
+        return (Named::Calling, word);
+    }
+    match word.strip_prefix('O') {
+        Some(word) => (Named::Called, word),
+        None => (named, word),
     }
 }
 
@@ -303,29 +287,22 @@ impl Ends {
 
     /// Those with which a row begins.
     fn begin(&mut self, alloc: Global, word: &str) -> Result<(), Fault> {
+        if word == "on" {
+            return Ok(());
+        }
+        *self = Ends::new(alloc, word != "plain");
         match word {
-            "on" => Ok(()),
-            "sync" | "calling" | "called" => self.restart(alloc, true),
-            "plain" => self.restart(alloc, false),
+            "sync" | "calling" | "called" | "plain" => Ok(()),
             _ => self.open(alloc, word),
         }
     }
 
-    /// Those at which nothing came yet.
-    fn restart(&mut self, alloc: Global, sync: bool) -> Result<(), Fault> {
-        *self = Ends::new(alloc, sync);
-        Ok(())
-    }
-
-    /// Those at which a connection with sync stands, from the number of a word on.
+    /// A connection with sync stands at them, from the number of a word on.
     fn open(&mut self, alloc: Global, word: &str) -> Result<(), Fault> {
         let number = word.trim_start_matches(['I', 'O']).parse::<u32>();
         let number = number.ok().ok_or(Fault::Line)?;
-        let calling = open_calling(alloc, number)?;
-        self.calling = End::new(alloc, calling);
-        let called = open_called(alloc, number)?;
-        self.called = End::new(alloc, called);
-        Ok(())
+        open_calling(alloc, number, &mut self.calling.session)?;
+        open_called(alloc, number, &mut self.called.session)
     }
 
     /// A step, of an end by its letter or of the one that is named.
@@ -334,35 +311,29 @@ impl Ends {
         alloc: Global,
         named: Named,
         word: &str,
-        out: &mut Vec<u8>,
+        out: &mut Text,
     ) -> Result<(), Fault> {
-        if let Some(word) = word.strip_prefix('I') {
-            return step(alloc, &mut self.calling, &mut self.called, word, out);
-        }
-        if let Some(word) = word.strip_prefix('O') {
-            return step(alloc, &mut self.called, &mut self.calling, word, out);
-        }
-        match named {
-            Named::Calling => step(alloc, &mut self.calling, &mut self.called, word, out),
-            Named::Called => step(alloc, &mut self.called, &mut self.calling, word, out),
-            Named::Both => Err(Fault::Line),
+        match end_of(named, word) {
+            (Named::Calling, word) => step(alloc, &mut self.calling, &mut self.called, word, out),
+            (Named::Called, word) => step(alloc, &mut self.called, &mut self.calling, word, out),
+            (Named::Both, _) => Err(Fault::Line),
         }
     }
 
     /// What the ends that are named have after a row.
-    fn put_left(&self, alloc: Global, named: Named, out: &mut Vec<u8>) -> Result<(), Fault> {
-        put(out, ":")?;
+    fn put_left(&self, named: Named, out: &mut Text) {
+        out.put(":");
         if named != Named::Called {
-            put_left(alloc, &self.calling.session, out)?;
+            put_left(&self.calling.session, out);
         }
         if named != Named::Calling {
-            put_left(alloc, &self.called.session, out)?;
+            put_left(&self.called.session, out);
         }
-        put(out, "\n")
+        out.put("\n");
     }
 
     /// Does the steps of a row, and appends what they tell.
-    pub fn put_line(&mut self, alloc: Global, line: &[u8], out: &mut Vec<u8>) -> Result<(), Fault> {
+    pub fn put_line(&mut self, alloc: Global, line: &[u8], out: &mut Text) -> Result<(), Fault> {
         let mut words = text_of(line)?.split(' ');
         let first = words.next().ok_or(Fault::Line)?;
         self.begin(alloc, first)?;
@@ -370,6 +341,7 @@ impl Ends {
         for word in words {
             self.step(alloc, named, word, out)?;
         }
-        self.put_left(alloc, named, out)
+        self.put_left(named, out);
+        Ok(())
     }
 }

@@ -1,14 +1,24 @@
-//! The canonical spelling of a value, as digits.
-use bench_base::{Fault, put, put_digits};
+//! Values in digits, as they are read and written.
+use bench_base::{Fault, Text, octets_in};
 use std::alloc::Global;
-use vf_ber::{Value, WriteError, write};
+use vf_ber::{BerError, Value, WriteError, read, write};
 
-/// Appends the digits of a value's spelling, `-` where it passes a limit.
-pub fn put_spelling(alloc: Global, value: &Value, out: &mut Vec<u8>) -> Result<(), Fault> {
+/// The value that the octets of digits begin with, where they begin with one.
+pub fn value_in(alloc: Global, digits: &[u8]) -> Result<Option<Value>, Fault> {
+    let octets = octets_in(alloc, digits)?;
+    match read(alloc, octets.as_slice()) {
+        Ok((value, _)) => Ok(Some(value)),
+        Err(BerError::NoMemory) => Err(Fault::NoMemory),
+        Err(_) => Ok(None),
+    }
+}
+
+/// Appends the digits of a value's canonical spelling, `-` where it passes a limit.
+pub fn put_spelling(alloc: Global, value: &Value, out: &mut Text) {
     let mut spelled = Vec::new(alloc);
     match write(alloc, value, &mut spelled) {
-        Ok(()) => put_digits(alloc, spelled.as_slice(), out),
-        Err(WriteError::TooLarge) => put(out, "-"),
-        Err(WriteError::NoMemory) => Err(Fault::NoMemory),
+        Ok(()) => out.put_digits(spelled.as_slice()),
+        Err(WriteError::TooLarge) => out.put("-"),
+        Err(WriteError::NoMemory) => out.fail(Fault::NoMemory),
     }
 }

@@ -6,10 +6,13 @@
 //! colon, the octets that answer and that are sent, a colon, the fault, a colon, and how many octets are held and wanted.
 //! Of more than 32 octets the first 12 are shown and how many there are.
 //!
+//! `sends` in the place of an end answers with all octets that the called end sends at the steps.
+//!
 //! `pieces OCTETS` answers what the stream tells the called end, which must be the same in pieces of 200 cuts. `changes
 //! PLACE OCTETS` answers a digest (FNV-1a of 32 bits) of what it tells with each octet at this place.
-use bench_base::{Fault, octets_in, put, put_number, text_of};
+use bench_base::{Fault, NO_OCTETS, Text, digest, next_random, octets_in, text_of};
 use std::alloc::Global;
+use vf_base::NoMemory;
 use vf_tpkt::{Side, Tpkt, TpktError, Unit};
 
 /// The most octets of a TSDU.
@@ -25,59 +28,59 @@ struct Told {
 }
 
 /// Appends all octets, or the first 12 of more than 32, and how many there are.
-pub fn show(alloc: Global, octets: &[u8], out: &mut Vec<u8>) -> Result<(), Fault> {
+pub fn show(octets: &[u8], out: &mut Text) {
     if octets.len() <= 32 {
-        let digits = hex::encode_upper(alloc, octets)?;
-        return put(out, digits.as_str());
+        out.put_capitals(octets);
+        return;
     }
-    let digits = hex::encode_upper(alloc, octets.get(..12).unwrap_or(&[]))?;
-    put(out, digits.as_str())?;
-    put_number(alloc, "..", octets.len() as u64, "", out)
+    out.put_capitals(octets.get(..12).unwrap_or(&[]));
+    out.put_number("..", octets.len() as u64, "");
 }
 
-fn put_unit(alloc: Global, unit: &Unit, out: &mut Vec<u8>) -> Result<(), Fault> {
+fn put_unit(unit: &Unit, out: &mut Text) {
     match unit {
-        Unit::Connected => put(out, "C "),
-        Unit::Ended => put(out, "E "),
-        Unit::Data(octets) => put_data(alloc, octets.as_slice(), out),
+        Unit::Connected => out.put("C "),
+        Unit::Ended => out.put("E "),
+        Unit::Data(octets) => {
+            out.put("D");
+            show(octets.as_slice(), out);
+            out.put(" ");
+        }
     }
 }
 
-fn put_data(alloc: Global, octets: &[u8], out: &mut Vec<u8>) -> Result<(), Fault> {
-    put(out, "D")?;
-    show(alloc, octets, out)?;
-    put(out, " ")
-}
-
-fn put_fault(alloc: Global, fault: TpktError, out: &mut Vec<u8>) -> Result<(), Fault> {
+fn put_fault(fault: TpktError, out: &mut Text) {
     match fault {
-        TpktError::Version { at } => put_number(alloc, "Version ", at, "", out),
-        TpktError::Length { at } => put_number(alloc, "Length ", at, "", out),
-        TpktError::Code { at, code } => put_code(alloc, "Code ", at, code, out),
-        TpktError::State { at, code } => put_code(alloc, "State ", at, code, out),
-        TpktError::Size { at } => put_number(alloc, "Size ", at, "", out),
-        TpktError::NoMemory => Err(Fault::NoMemory),
+        TpktError::Version { at } => out.put_number("Version ", at, ""),
+        TpktError::Length { at } => out.put_number("Length ", at, ""),
+        TpktError::Code { at, code } => put_code("Code ", at, code, out),
+        TpktError::State { at, code } => put_code("State ", at, code, out),
+        TpktError::Size { at } => out.put_number("Size ", at, ""),
+        TpktError::NoMemory => out.fail(Fault::NoMemory),
     }
 }
 
-fn put_code(alloc: Global, name: &str, at: u64, code: u8, out: &mut Vec<u8>) -> Result<(), Fault> {
-    put_number(alloc, name, at, " ", out)?;
-    show(alloc, &[code], out)
+fn put_code(name: &str, at: u64, code: u8, out: &mut Text) {
+    out.put_number(name, at, " ");
+    show(&[code], out);
+}
+
+/// An end of this side.
+fn end_of(alloc: Global, side: Side) -> Result<Tpkt, NoMemory> {
+    match side {
+        Side::Calling => Tpkt::calling(alloc, &mut Vec::new(alloc)),
+        Side::Called => Tpkt::called(alloc),
+    }
 }
 
 impl Told {
-    fn new(alloc: Global, side: Side) -> Result<Told, Fault> {
-        let mut request = Vec::new(alloc);
-        let tpkt = match side {
-            Side::Calling => Tpkt::calling(alloc, &mut request)?,
-            Side::Called => Tpkt::called(alloc)?,
-        };
-        Ok(Told {
+    fn new(alloc: Global, tpkt: Tpkt) -> Told {
+        Told {
             tpkt,
             units: Vec::new(alloc),
             answers: Vec::new(alloc),
             fault: None,
-        })
+        }
     }
 
     fn feed(&mut self, octets: &[u8]) {
@@ -98,166 +101,173 @@ impl Told {
             let octets = octets_of(alloc, word)?;
             return self.send(alloc, octets.as_slice());
         }
-        if let Some(word) = step.strip_prefix('<') {
-            let octets = octets_of(alloc, word)?;
-            self.feed(octets.as_slice());
-            return Ok(());
-        }
-        Err(Fault::Line)
-    }
-
-    fn put_units(&self, alloc: Global, out: &mut Vec<u8>) -> Result<(), Fault> {
-        for unit in &self.units {
-            let copied = unit.copy(alloc)?;
-            put_unit(alloc, &copied, out)?;
-        }
+        let word = step.strip_prefix('<').ok_or(Fault::Line)?;
+        let octets = octets_of(alloc, word)?;
+        self.feed(octets.as_slice());
         Ok(())
     }
 
-    fn put_answers(&self, alloc: Global, out: &mut Vec<u8>) -> Result<(), Fault> {
-        put(out, ": ")?;
-        show(alloc, self.answers.as_slice(), out)?;
-        put(out, " : ")
-    }
-
-    fn put_rest(&self, alloc: Global, out: &mut Vec<u8>) -> Result<(), Fault> {
-        put_number(alloc, " : ", self.tpkt.held(), " ", out)?;
-        put_number(alloc, "", self.tpkt.wanted() as u64, "\n", out)
-    }
-
-    fn put(&self, alloc: Global, out: &mut Vec<u8>) -> Result<(), Fault> {
-        self.put_units(alloc, out)?;
-        self.put_answers(alloc, out)?;
-        if let Some(fault) = self.fault {
-            put_fault(alloc, fault, out)?;
+    fn put_units(&self, alloc: Global, out: &mut Text) {
+        for unit in &self.units {
+            match unit.copy(alloc) {
+                Ok(copied) => put_unit(&copied, out),
+                Err(_) => out.fail(Fault::NoMemory),
+            }
         }
-        self.put_rest(alloc, out)
+    }
+
+    fn put(&self, alloc: Global, out: &mut Text) {
+        self.put_units(alloc, out);
+        out.put(": ");
+        show(self.answers.as_slice(), out);
+        out.put(" : ");
+        if let Some(fault) = self.fault {
+            put_fault(fault, out);
+        }
+        out.put_number(" : ", self.tpkt.held(), " ");
+        out.put_number("", self.tpkt.wanted() as u64, "\n");
     }
 }
 
 /// The octets of digits, and as many `x` as a number after `*` says.
 fn octets_of(alloc: Global, word: &str) -> Result<Vec<u8>, Fault> {
     let (digits, count) = word.split_once('*').unwrap_or((word, "0"));
-    let mut octets = octets_in(alloc, digits.as_bytes())?;
     let count = count.parse::<u16>().ok().ok_or(Fault::Line)?;
+    let mut octets = octets_in(alloc, digits.as_bytes())?;
     let len = octets.len().saturating_add(usize::from(count));
     octets.resize(len, b'x')?;
     Ok(octets)
 }
 
-/// The next number of a short generator (Marsaglia's xorshift).
-pub fn next(seed: u64) -> u64 {
-    let seed = seed ^ (seed << 13);
-    let seed = seed ^ (seed >> 7);
-    seed ^ (seed << 17)
+/// How many octets the next piece has: one (seed 0), all that are left (1), as many as are wanted (2), or less than 40 by the
+/// seed, which goes on.
+fn count_of(seed: &mut u64, left: usize, wanted: usize) -> usize {
+    match *seed {
+        0 => 1,
+        1 => left,
+        2 => wanted,
+        _ => {
+            *seed = next_random(*seed);
+            (*seed % 40) as usize
+        }
+    }
 }
 
-/// What a stream tells the called end: in pieces of one octet (seed 0), whole (1), in as many as are wanted (2), or in
-/// random pieces of at most 39.
-fn fed(alloc: Global, stream: &[u8], mut seed: u64) -> Result<Told, Fault> {
-    let mut told = Told::new(alloc, Side::Called)?;
+/// A stream comes in pieces by a seed.
+fn feed_all(told: &mut Told, stream: &[u8], seed: u64) {
+    let mut seed = seed;
     let mut rest = stream;
     for _ in 0..stream.len() {
-        let count = match seed {
-            0 => 1,
-            1 => rest.len(),
-            2 => told.tpkt.wanted(),
-            _ => {
-                seed = next(seed);
-                (seed % 40) as usize
-            }
-        };
+        let count = count_of(&mut seed, rest.len(), told.tpkt.wanted());
         let (piece, others) = rest.split_at(count.min(rest.len()));
         rest = others;
         told.feed(piece);
     }
-    Ok(told)
 }
 
-/// Appends what a stream tells in every piece.
-fn put_pieces(alloc: Global, stream: &[u8], out: &mut Vec<u8>) -> Result<(), Fault> {
-    let mut first = Vec::new(alloc);
-    fed(alloc, stream, 0)?.put(alloc, &mut first)?;
+/// What a stream tells the called end in pieces by a seed.
+fn fed(alloc: Global, stream: &[u8], seed: u64) -> Result<Vec<u8>, Fault> {
+    let mut out = Text::new(alloc);
+    match Tpkt::called(alloc) {
+        Ok(tpkt) => {
+            let mut told = Told::new(alloc, tpkt);
+            feed_all(&mut told, stream, seed);
+            told.put(alloc, &mut out);
+        }
+        Err(_) => out.fail(Fault::NoMemory),
+    }
+    out.end()
+}
+
+/// Appends what a stream tells in every piece, where that is so.
+fn put_same(alloc: Global, stream: &[u8], first: &[u8], out: &mut Text) -> Result<(), Fault> {
     for seed in 1..200 {
-        let mut next = Vec::new(alloc);
-        fed(alloc, stream, seed)?.put(alloc, &mut next)?;
-        if next.as_slice() != first.as_slice() {
-            put_number(alloc, "seed ", seed, ": ", out)?;
-            out.extend_from_slice(next.as_slice())?;
+        let next = fed(alloc, stream, seed)?;
+        if next.as_slice() != first {
+            out.put_number("seed ", seed, ": ");
+            out.put_octets(next.as_slice());
             return Ok(());
         }
     }
-    out.extend_from_slice(first.as_slice())?;
+    out.put_octets(first);
     Ok(())
 }
 
-fn digest(start: u32, octets: &[u8]) -> u32 {
-    let mut found = start;
-    for octet in octets {
-        found = (found ^ u32::from(*octet)).wrapping_mul(16_777_619);
-    }
-    found
+fn put_pieces(alloc: Global, digits: &str, out: &mut Text) -> Result<(), Fault> {
+    let stream = octets_in(alloc, digits.as_bytes())?;
+    let first = fed(alloc, stream.as_slice(), 0)?;
+    put_same(alloc, stream.as_slice(), first.as_slice(), out)
 }
 
 /// The digest that goes on with what a stream tells.
 fn digest_of(alloc: Global, start: u32, stream: &[u8]) -> Result<u32, Fault> {
-    let mut told = Vec::new(alloc);
-    fed(alloc, stream, 1)?.put(alloc, &mut told)?;
+    let told = fed(alloc, stream, 1)?;
     let text = told.as_slice().strip_suffix(b"\n").unwrap_or(&[]);
     Ok(digest(start, text))
 }
 
-/// Appends the digest of what a stream tells with each octet at a place.
-fn put_changes(
-    alloc: Global,
-    place: usize,
-    mut stream: Vec<u8>,
-    out: &mut Vec<u8>,
-) -> Result<(), Fault> {
-    let mut found: u32 = 2_166_136_261;
+/// The digest of what a stream tells with each octet at a place.
+fn digest_of_all(alloc: Global, place: usize, stream: &mut [u8]) -> Result<u32, Fault> {
+    let mut found = NO_OCTETS;
     for octet in 0..=255 {
         let Some(changed) = stream.get_mut(place) else {
             return Err(Fault::Line);
         };
         *changed = octet;
-        found = digest_of(alloc, found, stream.as_slice())?;
+        found = digest_of(alloc, found, stream)?;
     }
-    let text = format!(in alloc; "{found:08x}\n")?;
-    put(out, text.as_str())
+    Ok(found)
 }
 
-fn put_all_pieces(alloc: Global, digits: &str, out: &mut Vec<u8>) -> Result<(), Fault> {
-    let stream = octets_in(alloc, digits.as_bytes())?;
-    put_pieces(alloc, stream.as_slice(), out)
-}
-
-fn put_all_changes(alloc: Global, words: &str, out: &mut Vec<u8>) -> Result<(), Fault> {
+fn put_changes(alloc: Global, words: &str, out: &mut Text) -> Result<(), Fault> {
     let (place, digits) = words.split_once(' ').ok_or(Fault::Line)?;
     let place = place.parse::<u16>().ok().ok_or(Fault::Line)?;
-    let stream = octets_in(alloc, digits.as_bytes())?;
-    put_changes(alloc, usize::from(place), stream, out)
+    let mut stream = octets_in(alloc, digits.as_bytes())?;
+    let found = digest_of_all(alloc, usize::from(place), stream.as_mut_slice())?;
+    out.put_digest(found);
+    out.put("\n");
+    Ok(())
 }
 
-/// Does the steps of a line, and appends what they tell.
-fn put_steps(alloc: Global, side: Side, steps: &str, out: &mut Vec<u8>) -> Result<(), Fault> {
-    let mut told = Told::new(alloc, side)?;
+/// Does the steps of a line.
+fn take_steps(alloc: Global, steps: &str, told: &mut Told) -> Result<(), Fault> {
     for step in steps.split(' ') {
         if !step.is_empty() {
             told.step(alloc, step)?;
         }
     }
-    told.put(alloc, out)
+    Ok(())
+}
+
+/// Does the steps of a line, and appends what they tell.
+fn put_steps(alloc: Global, side: Side, steps: &str, out: &mut Text) -> Result<(), Fault> {
+    let tpkt = end_of(alloc, side)?;
+    let mut told = Told::new(alloc, tpkt);
+    let taken = take_steps(alloc, steps, &mut told);
+    told.put(alloc, out);
+    taken
+}
+
+/// Does the steps of a line at a called end, and appends all that it sends.
+fn put_sent(alloc: Global, steps: &str, out: &mut Text) -> Result<(), Fault> {
+    let tpkt = Tpkt::called(alloc)?;
+    let mut told = Told::new(alloc, tpkt);
+    let taken = take_steps(alloc, steps, &mut told);
+    out.put_digits(told.answers.as_slice());
+    out.put("\n");
+    taken
 }
 
 /// Appends what a line tells.
-pub fn put_line(alloc: Global, line: &[u8], out: &mut Vec<u8>) -> Result<(), Fault> {
+pub fn put_line(alloc: Global, line: &[u8], out: &mut Text) -> Result<(), Fault> {
     let line = text_of(line)?;
     let (first, rest) = line.split_once(' ').unwrap_or((line, ""));
     match first {
         "calling" => put_steps(alloc, Side::Calling, rest, out),
         "called" => put_steps(alloc, Side::Called, rest, out),
-        "pieces" => put_all_pieces(alloc, rest, out),
-        "changes" => put_all_changes(alloc, rest, out),
+        "sends" => put_sent(alloc, rest, out),
+        "pieces" => put_pieces(alloc, rest, out),
+        "changes" => put_changes(alloc, rest, out),
         _ => Err(Fault::Line),
     }
 }

@@ -5,9 +5,9 @@
 //! The answer is `grammar AT`, `context ID`, `application`, or `ok` with the offers or the results, the values, each with
 //! its context before it, and the user data that are written for what was read, `-` where none can be.
 use crate::spelling::put_spelling;
-use bench_base::{Fault, octets_in, put, put_count, put_digits, put_number, text_of};
+use bench_base::{Fault, Text, octets_in, text_of};
 use std::alloc::Global;
-use vf_base::{NoMemory, Oid, SpduKind};
+use vf_base::{Oid, SpduKind};
 use vf_upper::{
     CarriedValues, ContextEntry, Contexts, Offers, Primitive, Results, UpperError, is_writable,
     read, write,
@@ -79,84 +79,83 @@ fn contexts_of(alloc: Global, words: &str) -> Result<Contexts, Fault> {
 }
 
 /// Appends the identifier of a context between two texts.
-fn put_id(
-    alloc: Global,
-    before: &str,
-    id: i64,
-    after: &str,
-    out: &mut Vec<u8>,
-) -> Result<(), Fault> {
-    let text = format!(in alloc; "{before}{id}{after}")?;
-    put(out, text.as_str())
+fn put_id(alloc: Global, before: &str, id: i64, after: &str, out: &mut Text) {
+    out.put_made(format!(in alloc; "{before}{id}{after}"));
 }
 
-fn put_offers(alloc: Global, offers: &Offers, out: &mut Vec<u8>) -> Result<(), Fault> {
+fn put_offers(alloc: Global, offers: &Offers, out: &mut Text) {
     for offer in offers.as_slice() {
-        put_id(alloc, " ", offer.id, letter_of(&offer.syntax), out)?;
-        put(out, if offer.ber { "+" } else { "-" })?;
+        put_id(alloc, " ", offer.id, letter_of(&offer.syntax), out);
+        out.put(if offer.ber { "+" } else { "-" });
     }
-    Ok(())
 }
 
-fn put_results(results: &Results, out: &mut Vec<u8>) -> Result<(), Fault> {
+fn put_results(results: &Results, out: &mut Text) {
     for accepted in results.as_slice() {
-        put(out, if *accepted { " +" } else { " -" })?;
+        out.put(if *accepted { " +" } else { " -" });
     }
-    Ok(())
 }
 
-fn put_values(alloc: Global, values: &CarriedValues, out: &mut Vec<u8>) -> Result<(), Fault> {
+fn put_values(alloc: Global, values: &CarriedValues, out: &mut Text) {
     for value in values.as_slice() {
-        put_id(alloc, " ", value.context, ":", out)?;
-        put_spelling(alloc, &value.value, out)?;
+        put_id(alloc, " ", value.context, ":", out);
+        put_spelling(alloc, &value.value, out);
     }
-    Ok(())
 }
 
-fn put_offered(
-    alloc: Global,
-    offers: &Offers,
-    values: &CarriedValues,
-    out: &mut Vec<u8>,
-) -> Result<(), Fault> {
-    put_offers(alloc, offers, out)?;
-    put_values(alloc, values, out)
-}
-
-fn put_answered(
-    alloc: Global,
-    results: &Results,
-    values: &CarriedValues,
-    out: &mut Vec<u8>,
-) -> Result<(), Fault> {
-    put_results(results, out)?;
-    put_values(alloc, values, out)
-}
-
-fn put_primitive(alloc: Global, primitive: &Primitive, out: &mut Vec<u8>) -> Result<(), Fault> {
+/// Appends the offers or the results of a primitive.
+fn put_contexts(alloc: Global, primitive: &Primitive, out: &mut Text) {
     match primitive {
-        Primitive::Associate { offers, values } => put_offered(alloc, offers, values, out),
-        Primitive::Accepted { results, values } => put_answered(alloc, results, values, out),
-        Primitive::Refused { results, values } => put_answered(alloc, results, values, out),
-        Primitive::Release { values } => put_values(alloc, values, out),
-        Primitive::Released { values } => put_values(alloc, values, out),
-        Primitive::Data { values } => put_values(alloc, values, out),
-        Primitive::Abort { values } => put_values(alloc, values, out),
+        Primitive::Associate { offers, .. } => put_offers(alloc, offers, out),
+        Primitive::Accepted { results, .. } => put_results(results, out),
+        Primitive::Refused { results, .. } => put_results(results, out),
+        _ => {}
     }
 }
 
-/// The user data that are written for a primitive, where they can be.
-fn written(
-    alloc: Global,
-    primitive: &Primitive,
-    contexts: &Contexts,
-) -> Result<Option<Vec<u8>>, NoMemory> {
-    if !is_writable(primitive, contexts) {
-        return Ok(None);
+fn values_of(primitive: &Primitive) -> &CarriedValues {
+    match primitive {
+        Primitive::Associate { values, .. }
+        | Primitive::Accepted { values, .. }
+        | Primitive::Refused { values, .. }
+        | Primitive::Release { values }
+        | Primitive::Released { values }
+        | Primitive::Data { values }
+        | Primitive::Abort { values } => values,
     }
-    let mut out = Vec::new(alloc);
-    write(alloc, primitive, contexts, &mut out)?;
-    Ok(Some(out))
+}
+
+/// Appends the user data that are written for a primitive, where they can be.
+fn put_written(alloc: Global, primitive: &Primitive, contexts: &Contexts, out: &mut Text) {
+    if !is_writable(primitive, contexts) {
+        out.put(" -\n");
+        return;
+    }
+    let mut written = Vec::new(alloc);
+    match write(alloc, primitive, contexts, &mut written) {
+        Ok(()) => {
+            out.put(" ");
+            out.put_digits(written.as_slice());
+            out.put("\n");
+        }
+        Err(_) => out.fail(Fault::NoMemory),
+    }
+}
+
+fn put_read(alloc: Global, primitive: &Primitive, contexts: &Contexts, out: &mut Text) {
+    out.put("ok");
+    put_contexts(alloc, primitive, out);
+    put_values(alloc, values_of(primitive), out);
+    put_written(alloc, primitive, contexts, out);
+}
+
+fn put_error(alloc: Global, error: UpperError, out: &mut Text) {
+    match error {
+        UpperError::Grammar { at } => out.put_number("grammar ", u64::from(at), "\n"),
+        UpperError::Context { id } => put_id(alloc, "context ", id, "\n", out),
+        UpperError::Application => out.put("application\n"),
+        UpperError::NoMemory => out.fail(Fault::NoMemory),
+    }
 }
 
 fn put_answer(
@@ -164,75 +163,22 @@ fn put_answer(
     carrier: SpduKind,
     contexts: &Contexts,
     octets: &[u8],
-    out: &mut Vec<u8>,
-) -> Result<(), Fault> {
+    out: &mut Text,
+) {
     match read(alloc, carrier, contexts, octets) {
         Ok(primitive) => put_read(alloc, &primitive, contexts, out),
         Err(error) => put_error(alloc, error, out),
     }
 }
 
-fn put_error(alloc: Global, error: UpperError, out: &mut Vec<u8>) -> Result<(), Fault> {
-    match error {
-        UpperError::Grammar { at } => put_number(alloc, "grammar ", u64::from(at), "\n", out),
-        UpperError::Context { id } => put_context(alloc, id, out),
-        UpperError::Application => put(out, "application\n"),
-        UpperError::NoMemory => Err(Fault::NoMemory),
-    }
-}
-
-fn put_context(alloc: Global, id: i64, out: &mut Vec<u8>) -> Result<(), Fault> {
-    put_id(alloc, "context ", id, "\n", out)
-}
-
-fn put_read(
-    alloc: Global,
-    primitive: &Primitive,
-    contexts: &Contexts,
-    out: &mut Vec<u8>,
-) -> Result<(), Fault> {
-    put(out, "ok")?;
-    put_primitive(alloc, primitive, out)?;
-    match written(alloc, primitive, contexts)? {
-        Some(octets) => put_written(alloc, octets.as_slice(), out),
-        None => put(out, " -\n"),
-    }
-}
-
-fn put_written(alloc: Global, octets: &[u8], out: &mut Vec<u8>) -> Result<(), Fault> {
-    put(out, " ")?;
-    put_digits(alloc, octets, out)?;
-    put(out, "\n")
-}
-
 /// Appends what is read of a line.
-pub fn put_line(alloc: Global, line: &[u8], out: &mut Vec<u8>) -> Result<(), Fault> {
+pub fn put_line(alloc: Global, line: &[u8], out: &mut Text) -> Result<(), Fault> {
     let mut words = text_of(line)?.split(' ');
     let carrier = words.next().and_then(carrier_of).ok_or(Fault::Line)?;
-    let contexts = contexts_of(alloc, words.next().ok_or(Fault::Line)?)?;
+    let contexts = words.next().ok_or(Fault::Line)?;
     let digits = words.next().ok_or(Fault::Line)?;
     let octets = octets_in(alloc, digits.as_bytes())?;
-    put_answer(alloc, carrier, &contexts, octets.as_slice(), out)
-}
-
-/// The values of a P-DATA: the user data that are written for them where that is asked for, else how many there are.
-pub fn whole(alloc: Global, octets: &[u8], again: bool) -> Result<Vec<u8>, Fault> {
-    let contexts = contexts_of(alloc, "1a,3p")?;
-    let Ok(primitive) = read(alloc, SpduKind::DT, &contexts, octets) else {
-        return Err(Fault::Line);
-    };
-    if again {
-        return written(alloc, &primitive, &contexts)?.ok_or(Fault::Line);
-    }
-    counted(alloc, &primitive)
-}
-
-/// How many values a P-DATA has.
-fn counted(alloc: Global, primitive: &Primitive) -> Result<Vec<u8>, Fault> {
-    let Primitive::Data { values } = primitive else {
-        return Err(Fault::Line);
-    };
-    let mut out = Vec::new(alloc);
-    put_count(alloc, values.len(), &mut out)?;
-    Ok(out)
+    let contexts = contexts_of(alloc, contexts)?;
+    put_answer(alloc, carrier, &contexts, octets.as_slice(), out);
+    Ok(())
 }

@@ -1,37 +1,44 @@
-//! A life through the responder itself: what is said goes into words, `1:` and the octets, with `!` where the link is shut after
+//! A life through the responder itself: what is sent goes into words, `1:` and the octets, with `!` where the link is shut after
 //! them.
-use crate::digest::{next, put_octets};
-use bench_base::{Fault, put, put_number};
+use bench_base::{Fault, NO_OCTETS, Text, digest, next_random};
 use std::alloc::Global;
 use vf_base::{Moment, ScriptEvent};
 use vf_disk::Disk;
 use vf_responder::{Event, Reply, RespondError, Responder};
 
+/// Appends octets as hexadecimal digits; of more than 256 the first 8, how many there are and the digest of all.
+pub fn put_octets(octets: &[u8], out: &mut Text) {
+    out.put_front(octets, 256, 8);
+    if octets.len() > 256 {
+        out.put("#");
+        out.put_digest(digest(NO_OCTETS, octets));
+    }
+}
+
 /// Appends why a responder doesn't go on.
-pub fn put_error(alloc: Global, error: RespondError, out: &mut Vec<u8>) -> Result<(), Fault> {
+pub fn put_error(error: RespondError, out: &mut Text) {
     match error {
-        RespondError::NotAStore { at, .. } => put_number(alloc, "NotAStore:", at, " ", out),
+        RespondError::NotAStore { at, .. } => out.put_number("NotAStore:", at, " "),
         RespondError::Full { length, limit } => {
-            put_number(alloc, "Full:", length, "", out)?;
-            put_number(alloc, ":", limit, " ", out)
+            out.put_number("Full:", length, ":");
+            out.put_number("", limit, " ");
         }
-        RespondError::DiskFault => put(out, "DiskFault "),
-        RespondError::NoMemory => Err(Fault::NoMemory),
+        RespondError::DiskFault => out.put("DiskFault "),
+        RespondError::NoMemory => out.fail(Fault::NoMemory),
     }
 }
 
 /// Appends octets that are sent on a link.
-pub fn put_sent(alloc: Global, link: u32, octets: &[u8], out: &mut Vec<u8>) -> Result<(), Fault> {
-    put_number(alloc, "", u64::from(link), ":", out)?;
-    put_octets(alloc, octets, out)
+pub fn put_sent(link: u32, octets: &[u8], out: &mut Text) {
+    out.put_number("", u64::from(link), ":");
+    put_octets(octets, out);
 }
 
-fn put_replies(alloc: Global, replies: &[Reply], out: &mut Vec<u8>) -> Result<(), Fault> {
+fn put_replies(replies: &[Reply], out: &mut Text) {
     for reply in replies {
-        put_sent(alloc, reply.link, reply.octets.as_slice(), out)?;
-        put(out, if reply.shut { "! " } else { " " })?;
+        put_sent(reply.link, reply.octets.as_slice(), out);
+        out.put(if reply.shut { "! " } else { " " });
     }
-    Ok(())
 }
 
 /// How many octets the next piece of a cut has: the whole of them (seed 0), one (1), or at most 39 by the seed, which goes on.
@@ -40,59 +47,45 @@ fn count_of(seed: &mut u64, len: usize) -> usize {
         0 => len,
         1 => 1,
         _ => {
-            *seed = next(*seed);
+            *seed = next_random(*seed);
             ((*seed % 39) as usize).saturating_add(1)
         }
     }
 }
 
 /// Appends what an event is answered. False where the responder doesn't go on.
-fn put_told(
-    alloc: Global,
-    answer: Result<(), RespondError>,
-    replies: &[Reply],
-    out: &mut Vec<u8>,
-) -> Result<bool, Fault> {
-    put_replies(alloc, replies, out)?;
+fn put_answer(answer: Result<(), RespondError>, replies: &[Reply], out: &mut Text) -> bool {
+    put_replies(replies, out);
     match answer {
-        Ok(()) => Ok(true),
+        Ok(()) => true,
         Err(error) => {
-            put_error(alloc, error, out)?;
-            Ok(false)
+            put_error(error, out);
+            false
         }
     }
 }
 
-fn arrive<D: Disk>(
-    alloc: Global,
-    responder: &mut Responder<D>,
-    link: u32,
-    out: &mut Vec<u8>,
-) -> Result<bool, Fault> {
+fn arrive<D: Disk>(alloc: Global, responder: &mut Responder<D>, link: u32, out: &mut Text) -> bool {
     let mut replies = Vec::new(alloc);
     let answer = responder.deliver(alloc, Event::Arrived { link }, &mut replies);
-    put_told(alloc, answer, replies.as_slice(), out)
+    put_answer(answer, replies.as_slice(), out)
 }
 
-fn end<D: Disk>(
-    alloc: Global,
-    responder: &mut Responder<D>,
-    link: u32,
-    out: &mut Vec<u8>,
-) -> Result<bool, Fault> {
+fn end<D: Disk>(alloc: Global, responder: &mut Responder<D>, link: u32, out: &mut Text) -> bool {
     let mut replies = Vec::new(alloc);
     let answer = responder.deliver(alloc, Event::Ended { link }, &mut replies);
-    put_told(alloc, answer, replies.as_slice(), out)
+    put_answer(answer, replies.as_slice(), out)
 }
 
+/// A piece of octets comes on a link.
 fn hear<D: Disk>(
     alloc: Global,
     responder: &mut Responder<D>,
     link: u32,
     moment: Moment,
     octets: &[u8],
-    out: &mut Vec<u8>,
-) -> Result<bool, Fault> {
+    out: &mut Text,
+) -> bool {
     let mut replies = Vec::new(alloc);
     let answer = responder.deliver(
         alloc,
@@ -103,19 +96,19 @@ fn hear<D: Disk>(
         },
         &mut replies,
     );
-    put_told(alloc, answer, replies.as_slice(), out)
+    put_answer(answer, replies.as_slice(), out)
 }
 
 /// Octets come on a link, cut by a seed.
-fn deliver_octets<D: Disk>(
+fn hear_all<D: Disk>(
     alloc: Global,
     responder: &mut Responder<D>,
     link: u32,
     moment: Moment,
     octets: &[u8],
     seed: &mut u64,
-    out: &mut Vec<u8>,
-) -> Result<bool, Fault> {
+    out: &mut Text,
+) -> bool {
     let mut rest = octets;
     for _ in 0..octets.len() {
         if rest.is_empty() {
@@ -123,28 +116,28 @@ fn deliver_octets<D: Disk>(
         }
         let count = count_of(seed, rest.len());
         let (piece, after) = rest.split_at(count.min(rest.len()));
-        if !hear(alloc, responder, link, moment, piece, out)? {
-            return Ok(false);
+        if !hear(alloc, responder, link, moment, piece, out) {
+            return false;
         }
         rest = after;
     }
-    Ok(true)
+    true
 }
 
-fn deliver_event<D: Disk>(
+fn deliver<D: Disk>(
     alloc: Global,
     responder: &mut Responder<D>,
     event: &ScriptEvent,
     seed: &mut u64,
-    out: &mut Vec<u8>,
-) -> Result<bool, Fault> {
+    out: &mut Text,
+) -> bool {
     match event {
         ScriptEvent::Arrived { link } => arrive(alloc, responder, *link, out),
         ScriptEvent::Octets {
             link,
             moment,
             octets,
-        } => deliver_octets(
+        } => hear_all(
             alloc,
             responder,
             *link,
@@ -163,13 +156,13 @@ pub fn deliver_all<D: Disk>(
     responder: &mut Responder<D>,
     events: &[ScriptEvent],
     seed: u64,
-    out: &mut Vec<u8>,
-) -> Result<bool, Fault> {
+    out: &mut Text,
+) -> bool {
     let mut seed = seed;
     for event in events {
-        if !deliver_event(alloc, responder, event, &mut seed, out)? {
-            return Ok(false);
+        if !deliver(alloc, responder, event, &mut seed, out) {
+            return false;
         }
     }
-    Ok(true)
+    true
 }

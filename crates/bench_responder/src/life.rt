@@ -23,8 +23,6 @@ pub struct Plan {
 pub struct Life {
     pub plan: Plan,
     pub events: Vec<ScriptEvent>,
-    /// What the users are made by.
-    pub users: Changes,
 }
 
 impl Plan {
@@ -68,18 +66,11 @@ fn number_of(word: &str) -> Result<u64, Fault> {
     word.parse::<u64>().ok().ok_or(Fault::Line)
 }
 
-fn moment_of(seconds: u64) -> Result<Moment, Fault> {
-    match Moment::of(seconds) {
-        Ok(moment) => Ok(moment),
-        Err(_) => Err(Fault::Line),
-    }
-}
-
 /// The octets of digits, as often as a number after `*` says.
 fn octets_of(alloc: Global, word: &str) -> Result<Octets, Fault> {
     let (digits, count) = word.split_once('*').unwrap_or((word, "1"));
-    let once = octets_in(alloc, digits.as_bytes())?;
     let count = number_of(count)?;
+    let once = octets_in(alloc, digits.as_bytes())?;
     let mut all = Vec::new(alloc);
     for _ in 0..count {
         all.extend_from_slice(once.as_slice())?;
@@ -91,7 +82,7 @@ fn octets_of(alloc: Global, word: &str) -> Result<Octets, Fault> {
 fn octets_event(alloc: Global, place: &str, word: &str) -> Result<ScriptEvent, Fault> {
     let (link, seconds) = place.split_once('@').unwrap_or((place, "0"));
     let link = link_of(link)?;
-    let moment = moment_of(number_of(seconds)?)?;
+    let moment = Moment::of(number_of(seconds)?).ok().ok_or(Fault::Line)?;
     let octets = octets_of(alloc, word)?;
     Ok(ScriptEvent::Octets {
         link,
@@ -113,13 +104,6 @@ fn event_of(alloc: Global, word: &str) -> Result<ScriptEvent, Fault> {
     octets_event(alloc, place, word)
 }
 
-fn name_of(alloc: Global, word: &str) -> Result<Name, Fault> {
-    match Name::of(alloc, word.as_bytes()) {
-        Ok(name) => Ok(name),
-        Err(_) => Err(Fault::Line),
-    }
-}
-
 fn password_of(alloc: Global, digits: Option<&str>) -> Result<Option<Octets>, Fault> {
     match digits {
         Some(digits) => Ok(Some(octets_of(alloc, digits)?)),
@@ -129,21 +113,30 @@ fn password_of(alloc: Global, digits: Option<&str>) -> Result<Option<Octets>, Fa
 
 fn user_of(alloc: Global, word: &str) -> Result<User, Fault> {
     let mut parts = word.split(':');
-    let identity = name_of(alloc, parts.next().unwrap_or(""))?;
+    let name = parts.next().unwrap_or("");
     let password = password_of(alloc, parts.next())?;
-    Ok(User { identity, password })
+    match Name::of(alloc, name.as_bytes()) {
+        Ok(identity) => Ok(User { identity, password }),
+        Err(_) => Err(Fault::Line),
+    }
+}
+
+/// What the users are made by that words have.
+pub fn users_in(alloc: Global, words: &str) -> Result<Changes, Fault> {
+    let mut users = Changes::new(alloc);
+    for word in words.split(' ') {
+        if let Some(word) = word.strip_prefix("user=") {
+            let user = user_of(alloc, word)?;
+            users.push(Change::PutUser { user })?;
+        }
+    }
+    Ok(users)
 }
 
 impl Life {
-    fn user(&mut self, alloc: Global, word: &str) -> Result<(), Fault> {
-        let user = user_of(alloc, word)?;
-        self.users.push(Change::PutUser { user })?;
-        Ok(())
-    }
-
     fn word(&mut self, alloc: Global, word: &str) -> Result<(), Fault> {
-        if let Some(word) = word.strip_prefix("user=") {
-            return self.user(alloc, word);
+        if word.is_empty() || word.starts_with("user=") {
+            return Ok(());
         }
         if let Some((name, number)) = word.split_once('=') {
             let number = number_of(number)?;
@@ -154,39 +147,39 @@ impl Life {
         Ok(())
     }
 
-    /// The life of these words.
+    /// The life of these words, without its users.
     pub fn of(alloc: Global, words: &str) -> Result<Life, Fault> {
         let mut life = Life {
             plan: Plan::new(),
             events: Vec::new(alloc),
-            users: Changes::new(alloc),
         };
         for word in words.split(' ') {
-            if !word.is_empty() {
-                life.word(alloc, word)?;
-            }
+            life.word(alloc, word)?;
         }
         Ok(life)
     }
 }
 
-/// The event that octets come, as far as so many are left, of which these are taken.
-fn front_of(
-    alloc: Global,
-    link: u32,
-    moment: Moment,
-    octets: &[u8],
-    left: &mut usize,
-) -> Result<ScriptEvent, Fault> {
-    let count = octets.len().min(*left);
-    let (front, _) = octets.split_at(count);
-    *left = left.saturating_sub(count);
-    let octets = Octets::of(alloc, front)?;
-    Ok(ScriptEvent::Octets {
-        link,
-        moment,
-        octets,
-    })
+/// An event; octets as far as so many are left, of which these are taken.
+fn front_of(alloc: Global, event: &ScriptEvent, left: &mut usize) -> Result<ScriptEvent, Fault> {
+    match event {
+        ScriptEvent::Arrived { link } => Ok(ScriptEvent::Arrived { link: *link }),
+        ScriptEvent::Ended { link } => Ok(ScriptEvent::Ended { link: *link }),
+        ScriptEvent::Octets {
+            link,
+            moment,
+            octets,
+        } => {
+            let count = octets.len().min(*left);
+            *left = left.saturating_sub(count);
+            let (front, _) = octets.as_slice().split_at(count);
+            Ok(ScriptEvent::Octets {
+                link: *link,
+                moment: *moment,
+                octets: Octets::of(alloc, front)?,
+            })
+        }
+    }
 }
 
 /// How many octets come in all.
@@ -200,37 +193,46 @@ pub fn octets_in_all(events: &[ScriptEvent]) -> usize {
     count
 }
 
+/// Appends the events up to so many octets.
+fn put_front(
+    alloc: Global,
+    events: &[ScriptEvent],
+    count: usize,
+    front: &mut Vec<ScriptEvent>,
+) -> Result<(), Fault> {
+    let mut left = count;
+    for event in events {
+        let event = front_of(alloc, event, &mut left)?;
+        front.push(event)?;
+        if left == 0 {
+            break;
+        }
+    }
+    Ok(())
+}
+
+/// The links that arrive.
+fn arriving(alloc: Global, events: &[ScriptEvent]) -> Result<Vec<u32>, Fault> {
+    let mut links = Vec::new(alloc);
+    for event in events {
+        if let ScriptEvent::Arrived { link } = event {
+            links.push(*link)?;
+        }
+    }
+    Ok(links)
+}
+
 /// The events up to so many octets, and then the end of each link that arrived.
 pub fn broken_after(
     alloc: Global,
     events: &[ScriptEvent],
     count: usize,
 ) -> Result<Vec<ScriptEvent>, Fault> {
-    let mut left = count;
     let mut front = Vec::new(alloc);
-    let mut ends = Vec::new(alloc);
-    for event in events {
-        match event {
-            ScriptEvent::Arrived { link } => {
-                front.push(ScriptEvent::Arrived { link: *link })?;
-                ends.push(ScriptEvent::Ended { link: *link })?;
-            }
-            ScriptEvent::Octets {
-                link,
-                moment,
-                octets,
-            } => {
-                let event = front_of(alloc, *link, *moment, octets.as_slice(), &mut left)?;
-                front.push(event)?;
-            }
-            ScriptEvent::Ended { link } => front.push(ScriptEvent::Ended { link: *link })?,
-        }
-        if left == 0 {
-            break;
-        }
-    }
-    for event in ends {
-        front.push(event)?;
+    put_front(alloc, events, count, &mut front)?;
+    let links = arriving(alloc, front.as_slice())?;
+    for link in links {
+        front.push(ScriptEvent::Ended { link })?;
     }
     Ok(front)
 }

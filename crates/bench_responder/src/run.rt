@@ -4,14 +4,14 @@
 //! after the one before, `keep`, `lose` or `fill`, goes by `deliver`, and first tells the tables of the store as it is opened.
 //! A life through `deliver` that has events ends with `=` and the tables, where the responder goes on to its end.
 use crate::deliver::{deliver_all, put_error};
-use crate::life::{Life, Plan, broken_after, listed};
-use crate::served::serve_life;
+use crate::life::{Life, Plan, broken_after, listed, octets_in_all, users_in};
+use crate::served::{links_of, put_served};
 use crate::tables::put_tables;
-use bench_base::{Fault, put};
+use bench_base::{Fault, Text};
 use std::alloc::Global;
-use std::mem::replace;
+use vf_base::ScriptLinks;
 use vf_disk::{CrashForm, Disk, GREATEST_LENGTH, MemoryDisk};
-use vf_responder::Responder;
+use vf_responder::{Responder, serve};
 use vf_store::Store;
 use vf_tables::Changes;
 
@@ -23,15 +23,6 @@ pub enum Change<'a> {
     Fails(&'a str, u64),
     /// The first life is broken after so many octets.
     Breaks(usize),
-}
-
-/// The disk of a store that is just made.
-fn created(alloc: Global) -> Result<MemoryDisk, Fault> {
-    let mut disk = MemoryDisk::of(alloc, &[], Vec::new(alloc))?;
-    match Store::create(&mut disk) {
-        Ok(()) => Ok(disk),
-        Err(_) => Err(Fault::NoMemory),
-    }
 }
 
 /// The same disk, on whose store these changes are made.
@@ -46,23 +37,40 @@ fn with_changes<D: Disk + Drop>(alloc: Global, disk: D, changes: Changes) -> Res
     }
 }
 
-/// The disk of a store with these users.
-fn created_with(alloc: Global, users: Changes) -> Result<MemoryDisk, Fault> {
-    let disk = created(alloc)?;
-    if users.len() == 0 {
-        return Ok(disk);
+/// The disk of a store that is just made.
+fn created(alloc: Global) -> Result<MemoryDisk, Fault> {
+    let mut disk = MemoryDisk::of(alloc, &[], Vec::new(alloc))?;
+    match Store::create(&mut disk) {
+        Ok(()) => Ok(disk),
+        Err(_) => Err(Fault::NoMemory),
     }
-    with_changes(alloc, disk, users)
 }
 
-/// A disk of the same octets, of which calls fail by a plan.
-fn planned(alloc: Global, disk: &MemoryDisk, plan: Plan) -> Result<MemoryDisk, Fault> {
+/// The octets of a new store with the users of these words.
+fn store_with(alloc: Global, words: &str) -> Result<Vec<u8>, Fault> {
+    let users = users_in(alloc, words)?;
+    let disk = created(alloc)?;
+    if users.len() == 0 {
+        return Ok(Vec::from_slice(alloc, disk.octets())?);
+    }
+    let disk = with_changes(alloc, disk, users)?;
+    Ok(Vec::from_slice(alloc, disk.octets())?)
+}
+
+/// A disk of these octets, of which calls fail by a plan.
+fn planned(alloc: Global, octets: &[u8], plan: Plan) -> Result<MemoryDisk, Fault> {
     let failing = listed(alloc, plan.disk)?;
-    let mut disk = MemoryDisk::of(alloc, disk.octets(), failing)?;
+    let mut disk = MemoryDisk::of(alloc, octets, failing)?;
     if plan.stop > 0 {
         disk.stop(plan.stop);
     }
     Ok(disk)
+}
+
+/// The octets that a crash leaves of a disk.
+fn left_of(alloc: Global, disk: MemoryDisk, form: CrashForm) -> Result<Vec<u8>, Fault> {
+    let left = disk.crash(form)?;
+    Ok(Vec::from_slice(alloc, left.octets())?)
 }
 
 fn form_of(word: &str) -> Result<CrashForm, Fault> {
@@ -74,150 +82,193 @@ fn form_of(word: &str) -> Result<CrashForm, Fault> {
     }
 }
 
-/// The events of a life come to a responder. Appends what comes of them.
+/// The events of a life come to a responder, whose tables are told first where the life is later than another, and last where
+/// it goes on to its end.
 fn play<D: Disk>(
-    alloc: Global,
-    responder: &mut Responder<D>,
-    life: &Life,
-    seed: u64,
-    out: &mut Vec<u8>,
-) -> Result<(), Fault> {
-    if life.events.is_empty()
-        || !deliver_all(alloc, responder, life.events.as_slice(), seed, out)?
-    {
-        return Ok(());
-    }
-    put(out, "= ")?;
-    put_tables(alloc, responder.tables(), out)
-}
-
-/// The disk, where all was told.
-pub fn given_back<D: Drop>(told: Result<(), Fault>, disk: D) -> Result<D, Fault> {
-    match told {
-        Ok(()) => Ok(disk),
-        Err(fault) => Err(fault),
-    }
-}
-
-/// Appends the tables where they are told first, and what comes of the life.
-fn put_life<D: Disk>(
     alloc: Global,
     responder: &mut Responder<D>,
     life: &Life,
     later: bool,
     seed: u64,
-    out: &mut Vec<u8>,
-) -> Result<(), Fault> {
+    out: &mut Text,
+) {
     if later {
-        put_tables(alloc, responder.tables(), out)?;
+        put_tables(alloc, responder.tables(), out);
     }
-    play(alloc, responder, life, seed, out)
+    if life.events.is_empty() {
+        return;
+    }
+    if deliver_all(alloc, responder, life.events.as_slice(), seed, out) {
+        out.put("= ");
+        put_tables(alloc, responder.tables(), out);
+    }
 }
 
-/// A life through the responder, which gives the disk back. One that is later than another first tells the tables.
-fn deliver_life<D: Disk + Drop>(
+/// A life through the responder, which gives the disk back.
+fn delivered<D: Disk + Drop>(
     alloc: Global,
     disk: D,
     life: &Life,
     later: bool,
     seed: u64,
-    out: &mut Vec<u8>,
-) -> Result<D, Fault> {
+    out: &mut Text,
+) -> D {
     match Responder::open(alloc, disk, life.plan.limit) {
         Ok(responder) => {
             let mut responder = responder;
-            let told = put_life(alloc, &mut responder, life, later, seed, out);
-            given_back(told, responder.close())
+            play(alloc, &mut responder, life, later, seed, out);
+            responder.close()
         }
-        Err((disk, error)) => given_back(put_error(alloc, error, out), disk),
+        Err((disk, error)) => {
+            put_error(error, out);
+            disk
+        }
     }
 }
 
-fn change_life(alloc: Global, life: &mut Life, change: Change<'_>) -> Result<(), Fault> {
+/// A life through `serve`, which gives the disk back.
+fn served<D: Disk + Drop>(
+    alloc: Global,
+    disk: D,
+    links: &mut ScriptLinks,
+    limit: u64,
+    out: &mut Text,
+) -> D {
+    let (disk, answer) = serve(alloc, links, disk, limit);
+    put_served(links, answer, out);
+    disk
+}
+
+/// A life of the store of these octets, and those that the crash after it leaves.
+fn deliver_life(
+    alloc: Global,
+    octets: &[u8],
+    life: &Life,
+    later: bool,
+    seed: u64,
+    form: CrashForm,
+    out: &mut Text,
+) -> Result<Vec<u8>, Fault> {
+    let disk = planned(alloc, octets, life.plan)?;
+    let disk = delivered(alloc, disk, life, later, seed, out);
+    left_of(alloc, disk, form)
+}
+
+fn serve_life(
+    alloc: Global,
+    octets: &[u8],
+    links: &mut ScriptLinks,
+    plan: Plan,
+    form: CrashForm,
+    out: &mut Text,
+) -> Result<Vec<u8>, Fault> {
+    let disk = planned(alloc, octets, plan)?;
+    let disk = served(alloc, disk, links, plan.limit, out);
+    left_of(alloc, disk, form)
+}
+
+/// The first life of these words, with a change.
+fn changed_life(alloc: Global, words: &str, change: Change<'_>) -> Result<Life, Fault> {
+    let mut life = Life::of(alloc, words)?;
     match change {
         Change::Nothing => {}
         Change::Fails(name, number) => life.plan.set(name, number)?,
         Change::Breaks(count) => life.events = broken_after(alloc, life.events.as_slice(), count)?,
     }
-    Ok(())
+    Ok(life)
 }
 
-/// The disk on which a first life begins.
-fn first_disk(alloc: Global, life: &mut Life) -> Result<MemoryDisk, Fault> {
-    let users = replace(&mut life.users, Changes::new(alloc));
-    let disk = created_with(alloc, users)?;
-    planned(alloc, &disk, life.plan)
-}
-
-/// Whether a first life goes through `serve`.
-fn is_served(way: &str) -> Result<bool, Fault> {
-    match way {
-        "deliver" => Ok(false),
-        "serve" => Ok(true),
-        _ => Err(Fault::Line),
-    }
-}
-
+/// A first life, and the octets that the crash after it leaves.
 fn first_life(
     alloc: Global,
     words: &str,
     seed: u64,
     change: Change<'_>,
-    out: &mut Vec<u8>,
-) -> Result<MemoryDisk, Fault> {
-    let (way, words) = words.split_once(' ').unwrap_or((words, ""));
-    let served = is_served(way)?;
-    let mut life = Life::of(alloc, words)?;
-    change_life(alloc, &mut life, change)?;
-    let disk = first_disk(alloc, &mut life)?;
-    if served {
-        return serve_life(alloc, disk, life, out);
-    }
-    deliver_life(alloc, disk, &life, false, seed, out)
-}
-
-/// The disk that a crash leaves, of which calls fail by a plan.
-fn crashed(
-    alloc: Global,
-    disk: MemoryDisk,
     form: CrashForm,
-    plan: Plan,
-) -> Result<MemoryDisk, Fault> {
-    let left = disk.crash(form)?;
-    planned(alloc, &left, plan)
+    out: &mut Text,
+) -> Result<Vec<u8>, Fault> {
+    let (way, words) = words.split_once(' ').unwrap_or((words, ""));
+    let octets = store_with(alloc, words)?;
+    let life = changed_life(alloc, words, change)?;
+    match way {
+        "deliver" => deliver_life(alloc, octets.as_slice(), &life, false, seed, form, out),
+        "serve" => {
+            let plan = life.plan;
+            let mut links = links_of(alloc, life)?;
+            serve_life(alloc, octets.as_slice(), &mut links, plan, form, out)
+        }
+        _ => Err(Fault::Line),
+    }
 }
 
 fn later_life(
     alloc: Global,
-    disk: MemoryDisk,
+    octets: &[u8],
     words: &str,
     seed: u64,
-    out: &mut Vec<u8>,
-) -> Result<MemoryDisk, Fault> {
-    let (form, words) = words.split_once(' ').unwrap_or((words, ""));
-    let form = form_of(form)?;
+    form: CrashForm,
+    out: &mut Text,
+) -> Result<Vec<u8>, Fault> {
+    let (_, words) = words.split_once(' ').unwrap_or((words, ""));
     let life = Life::of(alloc, words)?;
-    put(out, "/ ")?;
-    let disk = crashed(alloc, disk, form, life.plan)?;
-    deliver_life(alloc, disk, &life, true, seed, out)
+    out.put("/ ");
+    deliver_life(alloc, octets, &life, true, seed, form, out)
+}
+
+/// What the crash before the life of these words leaves.
+fn form_before(words: &str) -> Result<CrashForm, Fault> {
+    let (form, _) = words.split_once(' ').unwrap_or((words, ""));
+    form_of(form)
+}
+
+/// The lives after the first one, which left these octets. The crash after a life is told by the next one.
+fn put_later(
+    alloc: Global,
+    octets: Vec<u8>,
+    lives: &str,
+    seed: u64,
+    out: &mut Text,
+) -> Result<(), Fault> {
+    let mut octets = octets;
+    let mut after = lives.split(" / ").skip(1);
+    for words in lives.split(" / ") {
+        let form = match after.next() {
+            Some(next) => form_before(next)?,
+            None => CrashForm::Keep,
+        };
+        octets = later_life(alloc, octets.as_slice(), words, seed, form, out)?;
+    }
+    Ok(())
 }
 
 /// Appends what comes of a run, whose octets are cut by a seed.
-pub fn put_run(
+fn put_run(
     alloc: Global,
     line: &str,
     seed: u64,
     change: Change<'_>,
-    out: &mut Vec<u8>,
+    out: &mut Text,
 ) -> Result<(), Fault> {
-    let (first, later) = line.split_once(" / ").unwrap_or((line, ""));
-    let mut disk = first_life(alloc, first, seed, change, out)?;
-    for words in later.split(" / ") {
-        if !words.is_empty() {
-            disk = later_life(alloc, disk, words, seed, out)?;
+    match line.split_once(" / ") {
+        None => {
+            first_life(alloc, line, seed, change, CrashForm::Keep, out)?;
+            Ok(())
+        }
+        Some((first, later)) => {
+            let form = form_before(later)?;
+            let octets = first_life(alloc, first, seed, change, form, out)?;
+            put_later(alloc, octets, later, seed, out)
         }
     }
-    Ok(())
+}
+
+/// What comes of a run.
+pub fn told_by(alloc: Global, line: &str, seed: u64, change: Change<'_>) -> Result<Vec<u8>, Fault> {
+    let mut out = Text::new(alloc);
+    if let Err(fault) = put_run(alloc, line, seed, change, &mut out) {
+        out.fail(fault);
+    }
+    out.end()
 }
 
 /// How many octets come in the first life of a line.
@@ -225,5 +276,5 @@ pub fn octets_of_first(alloc: Global, line: &str) -> Result<usize, Fault> {
     let (first, _) = line.split_once(" / ").unwrap_or((line, ""));
     let (_, words) = first.split_once(' ').unwrap_or((first, ""));
     let life = Life::of(alloc, words)?;
-    Ok(crate::life::octets_in_all(life.events.as_slice()))
+    Ok(octets_in_all(life.events.as_slice()))
 }

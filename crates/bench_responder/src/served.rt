@@ -7,12 +7,10 @@ ghost use Rattle.vf_base.specs.declared.events.ScriptEvent.{ScriptEvent as Scrip
 
 use crate::deliver::{put_error, put_sent};
 use crate::life::{Life, listed};
-use crate::run::given_back;
-use bench_base::{Fault, put, put_number};
+use bench_base::{Fault, Text};
 use std::alloc::Global;
 use vf_base::{ScriptEvent, ScriptLinks};
-use vf_disk::Disk;
-use vf_responder::{ServeError, Served, serve};
+use vf_responder::{ServeError, Served};
 
 /// The last link that arrived, after this event behind such a one; none where links may not hand it out then.
 fn last_after(last: u32, event: &ScriptEvent) -> Option<u32>
@@ -51,7 +49,8 @@ fn may_come(events: &[ScriptEvent]) -> bool
     true
 }
 
-fn links_of(alloc: Global, life: Life) -> Result<ScriptLinks, Fault> {
+/// The links on which the events of a life happen.
+pub fn links_of(alloc: Global, life: Life) -> Result<ScriptLinks, Fault> {
     let next = listed(alloc, life.plan.next)?;
     let send = listed(alloc, life.plan.send)?;
     let events = life.events;
@@ -61,63 +60,32 @@ fn links_of(alloc: Global, life: Life) -> Result<ScriptLinks, Fault> {
     Ok(ScriptLinks::new(alloc, events, next, send)?)
 }
 
-fn put_notes(
-    alloc: Global,
-    name: &str,
-    notes: &[(u32, u64)],
-    out: &mut Vec<u8>,
-) -> Result<(), Fault> {
+fn put_notes(name: &str, notes: &[(u32, u64)], out: &mut Text) {
     for (link, events) in notes {
-        put_number(alloc, name, u64::from(*link), "@", out)?;
-        put_number(alloc, "", *events, " ", out)?;
+        out.put_number(name, u64::from(*link), "@");
+        out.put_number("", *events, " ");
     }
-    Ok(())
 }
 
-fn put_traffic(alloc: Global, links: &ScriptLinks, out: &mut Vec<u8>) -> Result<(), Fault> {
+fn put_traffic(links: &ScriptLinks, out: &mut Text) {
     for piece in links.pieces() {
-        put_sent(alloc, piece.link, piece.octets.as_slice(), out)?;
-        put(out, " ")?;
+        put_sent(piece.link, piece.octets.as_slice(), out);
+        out.put(" ");
     }
-    put_notes(alloc, "shut ", links.shut_links(), out)?;
-    put_notes(alloc, "failed ", links.failed_sends(), out)
 }
 
-fn put_answer(
-    alloc: Global,
-    answer: Result<Served, ServeError>,
-    out: &mut Vec<u8>,
-) -> Result<(), Fault> {
+/// Appends what came of serving.
+pub fn put_served(links: &ScriptLinks, answer: Result<Served, ServeError>, out: &mut Text) {
+    put_traffic(links, out);
+    put_notes("shut ", links.shut_links(), out);
+    put_notes("failed ", links.failed_sends(), out);
     match answer {
         Ok(served) => {
-            put_number(alloc, "served ", served.links, " ", out)?;
-            put_number(alloc, "", served.events, " ", out)
+            out.put_number("served ", served.links, " ");
+            out.put_number("", served.events, " ");
         }
-        Err(ServeError::Respond(error)) => put_error(alloc, error, out),
-        Err(ServeError::LinksFault) => put(out, "LinksFault "),
-        Err(ServeError::NoMemory) => Err(Fault::NoMemory),
+        Err(ServeError::Respond(error)) => put_error(error, out),
+        Err(ServeError::LinksFault) => out.put("LinksFault "),
+        Err(ServeError::NoMemory) => out.fail(Fault::NoMemory),
     }
-}
-
-fn put_served(
-    alloc: Global,
-    links: &ScriptLinks,
-    answer: Result<Served, ServeError>,
-    out: &mut Vec<u8>,
-) -> Result<(), Fault> {
-    put_traffic(alloc, links, out)?;
-    put_answer(alloc, answer, out)
-}
-
-/// Serves the links of a life, appends what came of it, and gives the disk back.
-pub fn serve_life<D: Disk + Drop>(
-    alloc: Global,
-    disk: D,
-    life: Life,
-    out: &mut Vec<u8>,
-) -> Result<D, Fault> {
-    let limit = life.plan.limit;
-    let mut links = links_of(alloc, life)?;
-    let (disk, answer) = serve(alloc, &mut links, disk, limit);
-    given_back(put_served(alloc, &links, answer, out), disk)
 }

@@ -4,71 +4,78 @@
 //! first that doesn't stands before what it tells. `fronts` breaks the first life after each number of its octets, and `each
 //! send` lets each send fail in turn, so also `next`, `disk` and `stop`, until a run is as without; both answer how many runs
 //! there were and a digest of what they tell.
-use crate::digest::{FIRST, digest, put_digest};
-use crate::run::{Change, octets_of_first, put_run};
-use bench_base::{Fault, put_number};
+use crate::run::{Change, octets_of_first, told_by};
+use bench_base::{Fault, NO_OCTETS, Text, digest};
 use std::alloc::Global;
 
 /// At most so many calls fail in turn.
 const MOST_CALLS: u64 = 100_000;
 
-fn put_cuts(alloc: Global, line: &str, out: &mut Vec<u8>) -> Result<(), Fault> {
-    let mut first = Vec::new(alloc);
-    put_run(alloc, line, 0, Change::Nothing, &mut first)?;
+/// What a run at a cut tells that isn't told by the whole octets; none where there is no such.
+fn other(alloc: Global, line: &str, first: &[u8]) -> Result<Option<Vec<u8>>, Fault> {
     for seed in 1..9 {
-        let mut again = Vec::new(alloc);
-        put_run(alloc, line, seed, Change::Nothing, &mut again)?;
-        if again.as_slice() != first.as_slice() {
-            put_number(alloc, "seed ", seed, ": ", out)?;
-            out.extend_from_slice(again.as_slice())?;
-            return Ok(());
+        let again = told_by(alloc, line, seed, Change::Nothing)?;
+        if again.as_slice() != first {
+            let mut out = Text::new(alloc);
+            out.put_number("seed ", seed, ": ");
+            out.put_octets(again.as_slice());
+            return Ok(Some(out.end()?));
         }
     }
-    out.extend_from_slice(first.as_slice())?;
-    Ok(())
+    Ok(None)
 }
 
-fn put_found(alloc: Global, count: u64, found: u32, out: &mut Vec<u8>) -> Result<(), Fault> {
-    put_number(alloc, "", count, " ", out)?;
-    put_digest(alloc, found, out)
+fn cuts(alloc: Global, line: &str) -> Result<Vec<u8>, Fault> {
+    let first = told_by(alloc, line, 0, Change::Nothing)?;
+    let other = other(alloc, line, first.as_slice())?;
+    Ok(other.unwrap_or(first))
 }
 
-fn put_fronts(alloc: Global, line: &str, out: &mut Vec<u8>) -> Result<(), Fault> {
+/// How many runs there were, and a digest.
+fn found(alloc: Global, count: u64, digest: u32) -> Result<Vec<u8>, Fault> {
+    let mut out = Text::new(alloc);
+    out.put_number("", count, " #");
+    out.put_digest(digest);
+    out.end()
+}
+
+fn fronts(alloc: Global, line: &str) -> Result<Vec<u8>, Fault> {
     let count = octets_of_first(alloc, line)?;
-    let mut found = FIRST;
+    let mut so_far = NO_OCTETS;
     for octets in 0..=count {
-        let mut told = Vec::new(alloc);
-        put_run(alloc, line, 0, Change::Breaks(octets), &mut told)?;
-        found = digest(found, told.as_slice());
+        let told = told_by(alloc, line, 0, Change::Breaks(octets))?;
+        so_far = digest(so_far, told.as_slice());
     }
-    put_found(alloc, count as u64, found, out)
+    found(alloc, count as u64, so_far)
 }
 
-fn put_each(alloc: Global, name: &str, line: &str, out: &mut Vec<u8>) -> Result<(), Fault> {
-    let mut without = Vec::new(alloc);
-    put_run(alloc, line, 0, Change::Nothing, &mut without)?;
-    let mut found = FIRST;
+/// How many runs there are in which a call of this name fails, and the digest of what they tell.
+fn failing(alloc: Global, name: &str, line: &str, without: &[u8]) -> Result<(u64, u32), Fault> {
+    let mut so_far = NO_OCTETS;
     for call in 1..MOST_CALLS {
-        let mut told = Vec::new(alloc);
-        put_run(alloc, line, 0, Change::Fails(name, call), &mut told)?;
-        if told.as_slice() == without.as_slice() {
-            return put_found(alloc, call, found, out);
+        let told = told_by(alloc, line, 0, Change::Fails(name, call))?;
+        if told.as_slice() == without {
+            return Ok((call, so_far));
         }
-        found = digest(found, told.as_slice());
+        so_far = digest(so_far, told.as_slice());
     }
     Err(Fault::Line)
 }
 
-/// Appends what a line tells.
-pub fn put_line(alloc: Global, line: &str, out: &mut Vec<u8>) -> Result<(), Fault> {
+fn each(alloc: Global, words: &str) -> Result<Vec<u8>, Fault> {
+    let (name, line) = words.split_once(' ').ok_or(Fault::Line)?;
+    let without = told_by(alloc, line, 0, Change::Nothing)?;
+    let (count, digest) = failing(alloc, name, line, without.as_slice())?;
+    found(alloc, count, digest)
+}
+
+/// What a line tells.
+pub fn answer(alloc: Global, line: &str) -> Result<Vec<u8>, Fault> {
     let (way, rest) = line.split_once(' ').unwrap_or((line, ""));
     match way {
-        "cut" => put_cuts(alloc, rest, out),
-        "fronts" => put_fronts(alloc, rest, out),
-        "each" => {
-            let (name, line) = rest.split_once(' ').ok_or(Fault::Line)?;
-            put_each(alloc, name, line, out)
-        }
-        _ => put_run(alloc, line, 0, Change::Nothing, out),
+        "cut" => cuts(alloc, rest),
+        "fronts" => fronts(alloc, rest),
+        "each" => each(alloc, rest),
+        _ => told_by(alloc, line, 0, Change::Nothing),
     }
 }

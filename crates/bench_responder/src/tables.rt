@@ -6,134 +6,105 @@
 //! `(guest 7 a q5 k10100000 o5 z0 n1 l0 write:Replace:Begin:0:1 [4:6869])`, identity, activity, file, requested actions,
 //! controls, mode, position, next number, last outcome, and the transfer with its FADU, its diagnostic and its point, of a
 //! read with its version; a password stands after `s`.
-use crate::digest::put_octets;
-use bench_base::{Fault, put, put_number};
+use crate::deliver::put_octets;
+use bench_base::Text;
 use std::alloc::Global;
 use vf_attr::{File, Stamp};
-use vf_base::{Contents, Context, Control, Controls, Element, FaduId, Name, Octets, Term};
-use vf_tables::{Direction, Docket, Operation, Regime, Tables, User};
+use vf_base::{Contents, Control, Controls, Element, FaduId, Name, Octets, Term};
+use vf_tables::{Direction, Docket, Regime, Tables, User};
 
-/// Appends octets after a text.
-fn put_after(alloc: Global, text: &str, octets: &[u8], out: &mut Vec<u8>) -> Result<(), Fault> {
-    put(out, text)?;
-    put_octets(alloc, octets, out)
+fn put_name(before: &str, name: &Name, out: &mut Text) {
+    out.put(before);
+    out.put_octets(name.as_slice());
 }
 
-fn put_name(text: &str, name: &Name, out: &mut Vec<u8>) -> Result<(), Fault> {
-    put(out, text)?;
-    out.extend_from_slice(name.as_slice())?;
-    Ok(())
-}
-
-fn put_password(
-    alloc: Global,
-    text: &str,
-    password: &Option<Octets>,
-    out: &mut Vec<u8>,
-) -> Result<(), Fault> {
-    match password {
-        Some(octets) => put_after(alloc, text, octets.as_slice(), out),
-        None => Ok(()),
+fn put_password(before: &str, password: &Option<Octets>, out: &mut Text) {
+    if let Some(octets) = password {
+        out.put(before);
+        put_octets(octets.as_slice(), out);
     }
 }
 
-fn put_text(alloc: Global, class: u8, octets: &[u8], out: &mut Vec<u8>) -> Result<(), Fault> {
-    put_number(alloc, "", u64::from(class), ":", out)?;
-    put_octets(alloc, octets, out)
+fn put_string(class: u8, octets: &[u8], out: &mut Text) {
+    out.put_number("", u64::from(class), ":");
+    put_octets(octets, out);
 }
 
-fn put_element(alloc: Global, element: &Element, out: &mut Vec<u8>) -> Result<(), Fault> {
+fn put_element(element: &Element, out: &mut Text) {
     match element {
-        Element::Text { class, octets } => put_text(alloc, *class, octets.as_slice(), out),
-        Element::Binary { octets } => put_text(alloc, 4, octets.as_slice(), out),
+        Element::Text { class, octets } => put_string(*class, octets.as_slice(), out),
+        Element::Binary { octets } => put_string(4, octets.as_slice(), out),
         Element::Descriptor { name, filled } => put_descriptor(name, *filled, out),
-        Element::Enter => put(out, "Enter"),
-        Element::Exit => put(out, "Exit"),
+        Element::Enter => out.put("Enter"),
+        Element::Exit => out.put("Exit"),
     }
 }
 
-fn put_descriptor(name: &Option<Name>, filled: bool, out: &mut Vec<u8>) -> Result<(), Fault> {
-    put(out, if filled { "D+" } else { "D-" })?;
-    match name {
-        Some(name) => put_name("", name, out),
-        None => Ok(()),
+fn put_descriptor(name: &Option<Name>, filled: bool, out: &mut Text) {
+    out.put(if filled { "D+" } else { "D-" });
+    if let Some(name) = name {
+        put_name("", name, out);
     }
 }
 
 /// Appends elements in brackets.
-fn put_elements(alloc: Global, elements: &[Element], out: &mut Vec<u8>) -> Result<(), Fault> {
-    put(out, " [")?;
+fn put_elements(elements: &[Element], out: &mut Text) {
+    out.put(" [");
     for element in elements {
-        put(out, " ")?;
-        put_element(alloc, element, out)?;
+        out.put(" ");
+        put_element(element, out);
     }
-    put(out, "]")
+    out.put("]");
 }
 
-fn put_stamp(alloc: Global, text: &str, stamp: &Stamp, out: &mut Vec<u8>) -> Result<(), Fault> {
-    put_number(alloc, text, stamp.moment.seconds(), "", out)?;
-    put_name(":", &stamp.identity, out)
+fn put_stamp(before: &str, stamp: &Stamp, out: &mut Text) {
+    out.put_number(before, stamp.moment.seconds(), "");
+    put_name(":", &stamp.identity, out);
 }
 
-fn put_maybe(
-    alloc: Global,
-    text: &str,
-    stamp: &Option<Stamp>,
-    out: &mut Vec<u8>,
-) -> Result<(), Fault> {
-    match stamp {
-        Some(stamp) => put_stamp(alloc, text, stamp, out),
-        None => Ok(()),
+fn put_maybe(before: &str, stamp: &Option<Stamp>, out: &mut Text) {
+    if let Some(stamp) = stamp {
+        put_stamp(before, stamp, out);
     }
 }
 
-fn put_contents(alloc: Global, contents: &Contents, out: &mut Vec<u8>) -> Result<(), Fault> {
+fn put_contents(contents: &Contents, out: &mut Text) {
     let number = contents.kind.arcs().last().copied().unwrap_or(0);
-    put_number(alloc, " ", u64::from(number), "", out)?;
-    put_number(alloc, ":", u64::from(contents.class), "", out)?;
-    put_number(alloc, ":", u64::from(contents.longest), "", out)?;
-    put_number(alloc, ":", u64::from(contents.significance), "", out)
+    out.put_number(" ", u64::from(number), "");
+    out.put_number(":", u64::from(contents.class), "");
+    out.put_number(":", u64::from(contents.longest), "");
+    out.put_number(":", u64::from(contents.significance), "");
 }
 
-fn put_term(alloc: Global, term: &Term, out: &mut Vec<u8>) -> Result<(), Fault> {
-    put(out, " t")?;
-    if let Some(identity) = &term.identity {
-        put_name("", identity, out)?;
-    }
-    put_number(alloc, ":", u64::from(term.actions.value), "", out)?;
-    put_password(alloc, ":", &term.password, out)
-}
-
-fn put_terms(alloc: Global, terms: &[Term], out: &mut Vec<u8>) -> Result<(), Fault> {
+fn put_terms(terms: &[Term], out: &mut Text) {
     for term in terms {
-        put_term(alloc, term, out)?;
+        out.put(" t");
+        if let Some(identity) = &term.identity {
+            put_name("", identity, out);
+        }
+        out.put_number(":", u64::from(term.actions.value), "");
+        put_password(":", &term.password, out);
     }
-    Ok(())
 }
 
-fn put_stamps(alloc: Global, file: &File, out: &mut Vec<u8>) -> Result<(), Fault> {
-    put_stamp(alloc, " c", &file.created, out)?;
-    put_maybe(alloc, " m", &file.modified, out)?;
-    put_maybe(alloc, " r", &file.read, out)?;
-    put_maybe(alloc, " h", &file.changed, out)
-}
-
-fn put_units(alloc: Global, file: &File, out: &mut Vec<u8>) -> Result<(), Fault> {
+fn put_units(file: &File, out: &mut Text) {
     for unit in file.tree.units() {
-        put_elements(alloc, unit.as_slice(), out)?;
+        put_elements(unit.as_slice(), out);
     }
-    Ok(())
 }
 
-fn put_file(alloc: Global, file: &File, out: &mut Vec<u8>) -> Result<(), Fault> {
-    put_name("{", &file.name, out)?;
-    put_contents(alloc, &file.contents, out)?;
-    put_number(alloc, " p", u64::from(file.permitted.value), "", out)?;
-    put_terms(alloc, file.terms.as_slice(), out)?;
-    put_number(alloc, " v", u64::from(file.version), "", out)?;
-    put_stamps(alloc, file, out)?;
-    put_units(alloc, file, out)?;
-    put(out, "} ")
+fn put_file(file: &File, out: &mut Text) {
+    put_name("{", &file.name, out);
+    put_contents(&file.contents, out);
+    out.put_number(" p", u64::from(file.permitted.value), "");
+    put_terms(file.terms.as_slice(), out);
+    out.put_number(" v", u64::from(file.version), "");
+    put_stamp(" c", &file.created, out);
+    put_maybe(" m", &file.modified, out);
+    put_maybe(" r", &file.read, out);
+    put_maybe(" h", &file.changed, out);
+    put_units(file, out);
+    out.put("} ");
 }
 
 fn digit_of(control: Control) -> &'static str {
@@ -145,135 +116,86 @@ fn digit_of(control: Control) -> &'static str {
     }
 }
 
-fn put_controls(controls: Controls, out: &mut Vec<u8>) -> Result<(), Fault> {
-    put(out, " k")?;
+fn put_controls(controls: Controls, out: &mut Text) {
+    out.put(" k");
     for control in controls.each {
-        put(out, digit_of(control))?;
+        out.put(digit_of(control));
     }
-    Ok(())
 }
 
-fn put_fadu(alloc: Global, fadu: FaduId, out: &mut Vec<u8>) -> Result<(), Fault> {
+fn put_fadu(alloc: Global, fadu: FaduId, out: &mut Text) {
     match fadu {
-        FaduId::Begin => put(out, "Begin"),
-        FaduId::End => put(out, "End"),
-        FaduId::First => put(out, "First"),
-        FaduId::Last => put(out, "Last"),
-        FaduId::Current => put(out, "Current"),
-        FaduId::Next => put(out, "Next"),
-        FaduId::Previous => put(out, "Previous"),
-        FaduId::Number(number) => put_number(alloc, "", u64::from(number), "", out),
+        FaduId::Number(number) => out.put_number("", u64::from(number), ""),
+        named => out.put_made(format!(in alloc; "{named:?}")),
     }
 }
 
-fn context_word(context: Context) -> &'static str {
-    match context {
-        Context::HA => "HA",
-        Context::FA => "FA",
-        Context::UA => "UA",
-        Context::US => "US",
+/// Appends the way of a transfer under way.
+fn put_direction(alloc: Global, direction: Direction, out: &mut Text) {
+    match direction {
+        Direction::Idle => out.put(" idle"),
+        Direction::Read { context } => out.put_made(format!(in alloc; " read:{context:?}:")),
+        Direction::Write { operation } => out.put_made(format!(in alloc; " write:{operation:?}:")),
     }
 }
 
-fn operation_word(operation: Operation) -> &'static str {
-    match operation {
-        Operation::Insert => "Insert",
-        Operation::Replace => "Replace",
-        Operation::Extend => "Extend",
+/// Appends the transfer: its way, its FADU, its diagnostic and its point, and of a read the version.
+fn put_transfer(alloc: Global, regime: &Regime, out: &mut Text) {
+    put_direction(alloc, regime.direction, out);
+    if regime.direction == Direction::Idle {
+        return;
     }
-}
-
-/// Appends the FADU, the diagnostic and the point of a transfer.
-fn put_moving(
-    alloc: Global,
-    way: &str,
-    word: &str,
-    regime: &Regime,
-    out: &mut Vec<u8>,
-) -> Result<(), Fault> {
-    put(out, way)?;
-    put(out, word)?;
-    put(out, ":")?;
-    put_fadu(alloc, regime.fadu, out)?;
-    put_number(alloc, ":", u64::from(regime.refused), "", out)?;
-    put_number(alloc, ":", u64::from(regime.point), "", out)
-}
-
-fn put_transfer(alloc: Global, regime: &Regime, out: &mut Vec<u8>) -> Result<(), Fault> {
-    match regime.direction {
-        Direction::Idle => put(out, " idle"),
-        Direction::Read { context } => {
-            put_moving(alloc, " read:", context_word(context), regime, out)?;
-            put_number(alloc, ":", u64::from(regime.version), "", out)
-        }
-        Direction::Write { operation } => {
-            put_moving(alloc, " write:", operation_word(operation), regime, out)
-        }
+    put_fadu(alloc, regime.fadu, out);
+    out.put_number(":", u64::from(regime.refused), "");
+    out.put_number(":", u64::from(regime.point), "");
+    if let Direction::Read { .. } = regime.direction {
+        out.put_number(":", u64::from(regime.version), "");
     }
 }
 
 /// Appends who opened the file, how, and by what.
-fn put_opened(alloc: Global, regime: &Regime, out: &mut Vec<u8>) -> Result<(), Fault> {
-    put_name("(", &regime.identity, out)?;
-    put_number(alloc, " ", u64::from(regime.activity), "", out)?;
-    put_name(" ", &regime.file, out)?;
-    put_number(alloc, " q", u64::from(regime.requested.value), "", out)?;
-    put_controls(regime.controls, out)?;
-    put_number(alloc, " o", u64::from(regime.mode.value), "", out)?;
-    put_password(alloc, " s", &regime.password, out)
-}
-
-fn put_regime(alloc: Global, regime: &Regime, out: &mut Vec<u8>) -> Result<(), Fault> {
-    put_opened(alloc, regime, out)?;
-    put_number(alloc, " z", u64::from(regime.position), "", out)?;
-    put_number(alloc, " n", u64::from(regime.number), "", out)?;
-    put_number(alloc, " l", u64::from(regime.last), "", out)?;
-    put_transfer(alloc, regime, out)
+fn put_opened(regime: &Regime, out: &mut Text) {
+    put_name("(", &regime.identity, out);
+    out.put_number(" ", u64::from(regime.activity), "");
+    put_name(" ", &regime.file, out);
+    out.put_number(" q", u64::from(regime.requested.value), "");
+    put_controls(regime.controls, out);
+    out.put_number(" o", u64::from(regime.mode.value), "");
+    put_password(" s", &regime.password, out);
 }
 
 /// Appends a docket. What is 0 in every row is told where it isn't.
-fn put_docket(alloc: Global, docket: &Docket, out: &mut Vec<u8>) -> Result<(), Fault> {
+fn put_docket(alloc: Global, docket: &Docket, out: &mut Text) {
     let regime = &docket.regime;
-    put_regime(alloc, regime, out)?;
+    put_opened(regime, out);
+    out.put_number(" z", u64::from(regime.position), "");
+    out.put_number(" n", u64::from(regime.number), "");
+    out.put_number(" l", u64::from(regime.last), "");
+    put_transfer(alloc, regime, out);
     for piece in docket.staged.as_slice() {
-        put_elements(alloc, piece.as_slice(), out)?;
+        put_elements(piece.as_slice(), out);
     }
     if regime.window != 0 || regime.ended {
-        put(out, " window or end")?;
+        out.put(" window or end");
     }
-    put(out, ") ")
+    out.put(") ");
 }
 
-fn put_user(alloc: Global, user: &User, out: &mut Vec<u8>) -> Result<(), Fault> {
-    put_name("<", &user.identity, out)?;
-    put_password(alloc, " ", &user.password, out)?;
-    put(out, "> ")
-}
-
-fn put_users(alloc: Global, users: &[User], out: &mut Vec<u8>) -> Result<(), Fault> {
+fn put_users(users: &[User], out: &mut Text) {
     for user in users {
-        put_user(alloc, user, out)?;
+        put_name("<", &user.identity, out);
+        put_password(" ", &user.password, out);
+        out.put("> ");
     }
-    Ok(())
-}
-
-fn put_files(alloc: Global, files: &[File], out: &mut Vec<u8>) -> Result<(), Fault> {
-    for file in files {
-        put_file(alloc, file, out)?;
-    }
-    Ok(())
-}
-
-fn put_dockets(alloc: Global, dockets: &[Docket], out: &mut Vec<u8>) -> Result<(), Fault> {
-    for docket in dockets {
-        put_docket(alloc, docket, out)?;
-    }
-    Ok(())
 }
 
 /// Appends the users, the files and the dockets.
-pub fn put_tables(alloc: Global, tables: &Tables, out: &mut Vec<u8>) -> Result<(), Fault> {
-    put_users(alloc, tables.users.as_slice(), out)?;
-    put_files(alloc, tables.files.as_slice(), out)?;
-    put_dockets(alloc, tables.dockets.as_slice(), out)
+pub fn put_tables(alloc: Global, tables: &Tables, out: &mut Text) {
+    put_users(tables.users.as_slice(), out);
+    for file in tables.files.as_slice() {
+        put_file(file, out);
+    }
+    for docket in tables.dockets.as_slice() {
+        put_docket(alloc, docket, out);
+    }
 }

@@ -1,5 +1,5 @@
 //! Units of sessions, and SPDUs that are taken, by letters.
-use bench_base::{Fault, put, put_number};
+use bench_base::{Fault, Text};
 use std::alloc::Global;
 use vf_base::Octets;
 use vf_session::{ResyncKind, SessionSay, TokenSide};
@@ -126,38 +126,37 @@ pub(super) fn prefix(letter: u8) -> &'static [u8] {
     }
 }
 
-/// The letter of a unit: one capital where it asks for sync or passes the token.
-fn letter_of(unit: &SessionSay) -> &'static str {
-    match unit {
-        SessionSay::Connect { sync, .. } => chosen(*sync, "C", "c"),
-        SessionSay::Accept { sync, .. } => chosen(*sync, "A", "a"),
-        SessionSay::Refuse { .. } => "n",
-        SessionSay::Finish { .. } => "f",
-        SessionSay::Finished { .. } => "g",
-        SessionSay::Data { pass, .. } => chosen(*pass, "D", "d"),
-        SessionSay::Check { .. } => "k",
-        SessionSay::Acknowledge { .. } => "l",
-        SessionSay::Resync { kind, .. } => chosen(*kind == ResyncKind::Restart, "r", "s"),
-        SessionSay::Resynced { .. } => "e",
-        SessionSay::Abort { .. } => "x",
-        SessionSay::Token { .. } => "t",
+/// What is told of a unit: its letter, its number, the end that it names, and its user data.
+#[derive(Clone, Copy)]
+struct Told<'a> {
+    letter: &'static str,
+    serial: Option<u32>,
+    side: &'static str,
+    data: &'a [u8],
+}
+
+/// What is told of a unit that names no end.
+fn nameless<'a>(letter: &'static str, serial: Option<u32>, data: &'a [u8]) -> Told<'a> {
+    Told {
+        letter,
+        serial,
+        side: "",
+        data,
     }
 }
 
-fn chosen(first: bool, yes: &'static str, no: &'static str) -> &'static str {
-    if first { yes } else { no }
-}
-
-/// The number of a unit that has one.
-fn serial_of(unit: &SessionSay) -> Option<u32> {
-    match unit {
-        SessionSay::Connect { serial, .. }
-        | SessionSay::Accept { serial, .. }
-        | SessionSay::Check { serial }
-        | SessionSay::Acknowledge { serial }
-        | SessionSay::Resync { serial, .. }
-        | SessionSay::Resynced { serial, .. } => Some(*serial),
-        _ => None,
+/// The same of one that names this end, or none.
+fn naming<'a>(
+    letter: &'static str,
+    serial: u32,
+    token: Option<TokenSide>,
+    data: &'a [u8],
+) -> Told<'a> {
+    Told {
+        letter,
+        serial: Some(serial),
+        side: token.map_or("-", side_text),
+        data,
     }
 }
 
@@ -168,52 +167,70 @@ fn side_text(side: TokenSide) -> &'static str {
     }
 }
 
-/// The end that a unit names, `-` where it could name one and doesn't.
-fn side_of(unit: &SessionSay) -> &'static str {
-    match unit {
-        SessionSay::Resync { token, .. } | SessionSay::Resynced { token, .. } => {
-            token.map_or("-", side_text)
-        }
-        SessionSay::Token { to } => side_text(*to),
-        _ => "",
-    }
+fn chosen(first: bool, yes: &'static str, no: &'static str) -> &'static str {
+    if first { yes } else { no }
 }
 
-fn data_in(unit: &SessionSay) -> &[u8] {
+/// What is told of a unit. Its letter is a capital where it asks for sync or passes the token.
+fn told_of(unit: &SessionSay) -> Told<'_> {
     match unit {
-        SessionSay::Connect { data, .. }
-        | SessionSay::Accept { data, .. }
-        | SessionSay::Refuse { data }
-        | SessionSay::Finish { data }
-        | SessionSay::Finished { data }
-        | SessionSay::Data { data, .. }
-        | SessionSay::Resync { data, .. }
-        | SessionSay::Resynced { data, .. }
-        | SessionSay::Abort { data } => data.as_slice(),
-        _ => &[],
+        SessionSay::Connect { sync, serial, data } => {
+            nameless(chosen(*sync, "C", "c"), Some(*serial), data.as_slice())
+        }
+        SessionSay::Accept { sync, serial, data } => {
+            nameless(chosen(*sync, "A", "a"), Some(*serial), data.as_slice())
+        }
+        SessionSay::Refuse { data } => nameless("n", None, data.as_slice()),
+        SessionSay::Finish { data } => nameless("f", None, data.as_slice()),
+        SessionSay::Finished { data } => nameless("g", None, data.as_slice()),
+        SessionSay::Data { pass, data } => nameless(chosen(*pass, "D", "d"), None, data.as_slice()),
+        SessionSay::Check { serial } => nameless("k", Some(*serial), &[]),
+        SessionSay::Acknowledge { serial } => nameless("l", Some(*serial), &[]),
+        SessionSay::Resync {
+            kind,
+            serial,
+            token,
+            data,
+        } => {
+            let letter = chosen(*kind == ResyncKind::Restart, "r", "s");
+            naming(letter, *serial, *token, data.as_slice())
+        }
+        SessionSay::Resynced {
+            serial,
+            token,
+            data,
+        } => naming("e", *serial, *token, data.as_slice()),
+        SessionSay::Abort { data } => nameless("x", None, data.as_slice()),
+        SessionSay::Token { to } => Told {
+            letter: "t",
+            serial: None,
+            side: side_text(*to),
+            data: &[],
+        },
     }
 }
 
 /// Appends user data after a colon: more than 32 `x` by their number.
-fn put_data(alloc: Global, data: &[u8], out: &mut Vec<u8>) -> Result<(), Fault> {
+fn put_data(data: &[u8], out: &mut Text) {
     if data.is_empty() {
-        return Ok(());
+        return;
     }
     if data.len() > 32 && data.iter().all(|octet| *octet == b'x') {
-        return put_number(alloc, ":*", data.len() as u64, "", out);
+        out.put_number(":*", data.len() as u64, "");
+        return;
     }
-    put(out, ":")?;
-    out.extend_from_slice(data)?;
-    Ok(())
+    out.put(":");
+    out.put_octets(data);
 }
 
 /// Appends a unit: its letter, its number, the end that it names, and its user data.
-pub(super) fn put_unit(alloc: Global, unit: &SessionSay, out: &mut Vec<u8>) -> Result<(), Fault> {
-    put(out, letter_of(unit))?;
-    if let Some(serial) = serial_of(unit) {
-        put_number(alloc, "", u64::from(serial), "", out)?;
+pub(super) fn put_unit(unit: &SessionSay, out: &mut Text) {
+    let told = told_of(unit);
+    out.put(told.letter);
+    if let Some(serial) = told.serial {
+        out.put_number("", u64::from(serial), "");
     }
-    put(out, side_of(unit))?;
-    put_data(alloc, data_in(unit), out)?;
-    put(out, " ")
+    out.put(told.side);
+    put_data(told.data, out);
+    out.put(" ");
 }

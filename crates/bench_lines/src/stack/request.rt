@@ -1,33 +1,17 @@
 //! Requests by words: a name with `+` or `-` for sync, a serial number, and after a colon the digits of a PDU or of a data
 //! element, as `Accept+:A10381010F`, `Check2` and `Restart2:BF2703800101`.
-use bench_base::{Fault, octets_in};
+use crate::spelling::value_in;
+use bench_base::Fault;
 use std::alloc::Global;
-use vf_ber::{Value, read};
+use vf_ber::Value;
 use vf_pdu::{Boxed, Pdu};
 use vf_stack::{Item, Request};
-
-fn value_of(alloc: Global, digits: &str) -> Result<Value, Fault> {
-    let octets = octets_in(alloc, digits.as_bytes())?;
-    match read(alloc, octets.as_slice()) {
-        Ok((value, _)) => Ok(value),
-        Err(_) => Err(Fault::Line),
-    }
-}
 
 fn pdu_in(alloc: Global, value: &Value) -> Result<Boxed<Pdu>, Fault> {
     match vf_pdu::of_value(alloc, value) {
         Ok(pdu) => Ok(Boxed::new(alloc, pdu)?),
         Err(_) => Err(Fault::Line),
     }
-}
-
-fn maybe_of(alloc: Global, digits: &str) -> Result<Option<Boxed<Pdu>>, Fault> {
-    if digits.is_empty() {
-        return Ok(None);
-    }
-    let value = value_of(alloc, digits)?;
-    let pdu = pdu_in(alloc, &value)?;
-    Ok(Some(pdu))
 }
 
 /// A value of context class is a PDU, and any other one a data element.
@@ -57,50 +41,40 @@ fn carrying(name: &str, serial: u32, pdu: Boxed<Pdu>) -> Result<Request, Fault> 
         "Associate-" => Ok(Request::Associate { sync: false, pdu }),
         "Accept+" => Ok(Request::Accept { sync: true, pdu }),
         "Accept-" => Ok(Request::Accept { sync: false, pdu }),
+        "Refuse" => Ok(Request::Refuse { pdu: Some(pdu) }),
         "Release" => Ok(Request::Release { pdu }),
         "Released" => Ok(Request::Released { pdu }),
         "Restart" => Ok(Request::Restart { serial, pdu }),
         "Restarted" => Ok(Request::Restarted { serial, pdu }),
         "Cancel" => Ok(Request::Cancel { pdu }),
         "Cancelled" => Ok(Request::Cancelled { pdu }),
+        "Abort" => Ok(Request::Abort { pdu: Some(pdu) }),
         _ => Err(Fault::Line),
     }
 }
 
-fn refuse(alloc: Global, digits: &str) -> Result<Request, Fault> {
-    let pdu = maybe_of(alloc, digits)?;
-    Ok(Request::Refuse { pdu })
-}
-
-fn abort(alloc: Global, digits: &str) -> Result<Request, Fault> {
-    let pdu = maybe_of(alloc, digits)?;
-    Ok(Request::Abort { pdu })
+/// The request without digits that a name stands for.
+fn bare(name: &str, serial: u32) -> Result<Request, Fault> {
+    match name {
+        "Pass" => Ok(Request::Pass),
+        "Check" => Ok(Request::Check { serial }),
+        "Acknowledge" => Ok(Request::Acknowledge { serial }),
+        "Refuse" => Ok(Request::Refuse { pdu: None }),
+        "Abort" => Ok(Request::Abort { pdu: None }),
+        _ => Err(Fault::Line),
+    }
 }
 
 /// The request of a word.
 pub(super) fn request_of(alloc: Global, word: &str) -> Result<Request, Fault> {
     let (name, digits) = word.split_once(':').unwrap_or((word, ""));
     let (name, serial) = name_and_number(name)?;
-    match name {
-        "Pass" => Ok(Request::Pass),
-        "Check" => Ok(Request::Check { serial }),
-        "Acknowledge" => Ok(Request::Acknowledge { serial }),
-        "Refuse" => refuse(alloc, digits),
-        "Abort" => abort(alloc, digits),
-        "Item" => item_request(alloc, digits),
-        _ => carrying_of(alloc, name, serial, digits),
+    if digits.is_empty() {
+        return bare(name, serial);
     }
-}
-
-fn item_request(alloc: Global, digits: &str) -> Result<Request, Fault> {
-    let value = value_of(alloc, digits)?;
-    let item = item_of(alloc, &value)?;
-    Ok(Request::Item(item))
-}
-
-/// The request of a name with the PDU of these digits.
-fn carrying_of(alloc: Global, name: &str, serial: u32, digits: &str) -> Result<Request, Fault> {
-    let value = value_of(alloc, digits)?;
-    let pdu = pdu_in(alloc, &value)?;
-    carrying(name, serial, pdu)
+    let value = value_in(alloc, digits.as_bytes())?.ok_or(Fault::Line)?;
+    match name {
+        "Item" => Ok(Request::Item(item_of(alloc, &value)?)),
+        _ => carrying(name, serial, pdu_in(alloc, &value)?),
+    }
 }
