@@ -124,16 +124,32 @@ fn ends_at_depth_32(rt: HostRuntime) -> Result<(), Fail> {
     Ok(())
 }
 
+/// Pieces, and where a value ends in each: after the end of one in a piece, and after a fault.
+const FED: [(&[u8], Option<usize>); 5] = [
+    (&[0x04, 0x01, 0x07, 0x04], Some(3)),
+    (&[0x04, 0x01], None),
+    (&[0x07, 0x00], Some(1)),
+    (&[0x00], Some(1)),
+    (&[0x30, 0x80, 0x04], None),
+];
+
+/// Pieces after the octets were forgotten.
+const FED_ANEW: [(&[u8], Option<usize>); 2] = [(&[], None), (&[0x04, 0x00], Some(2))];
+
+/// Whether values end there in the pieces.
+fn end_there(scan: &mut Scan, pieces: &[(&[u8], Option<usize>)]) -> bool {
+    for (piece, end) in pieces {
+        if scan.feed(piece) != *end {
+            return false;
+        }
+    }
+    true
+}
+
 #[test]
 fn begins_anew(rt: HostRuntime) {
-    // after the end of a value in a piece, after a fault, and where the octets are forgotten
     let mut scan = Scan::new();
-    assert_eq!(rt; scan.feed(&[0x04, 0x01, 0x07, 0x04]), Some(3));
-    assert_eq!(rt; scan.feed(&[0x04, 0x01]), None);
-    assert_eq!(rt; scan.feed(&[0x07, 0x00]), Some(1));
-    assert_eq!(rt; scan.feed(&[0x00]), Some(1));
-    assert_eq!(rt; scan.feed(&[0x30, 0x80, 0x04]), None);
+    assert!(rt; end_there(&mut scan, &FED));
     scan.clear();
-    assert_eq!(rt; scan.feed(&[]), None);
-    assert_eq!(rt; scan.feed(&[0x04, 0x00]), Some(2));
+    assert!(rt; end_there(&mut scan, &FED_ANEW));
 }

@@ -1,4 +1,4 @@
-//! Tests of public calls of the codecs that no line of `bench_lines` shows, and of the plain values that they speak of.
+//! Tests of public calls of `vf_ber` and `vf_ber_scan` that no line of `bench_lines` shows, and of plain values.
 #![tactic(auto)]
 
 #[cfg(test)]
@@ -12,14 +12,10 @@ mod ber_scan;
 #[cfg(test)]
 mod ber_writing;
 #[cfg(test)]
-mod elements;
-#[cfg(test)]
 mod nested;
 #[cfg(test)]
 mod octets;
 #[cfg(test)]
 mod outside;
-#[cfg(test)]
-mod pdus;
 #[cfg(test)]
 mod plain_values;

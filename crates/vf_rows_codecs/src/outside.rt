@@ -60,18 +60,19 @@ fn wrote<S: Sink>(sink: &mut S, octets: &[u8]) -> bool {
 fn script(alloc: Global) -> Result<Vec<ScriptEvent>, NoMemory>
     ensures { IfOk result (λ events. IsTrue (is_script 0 events.items)) }
 {
-    let octets = Octets::of(alloc, b"abcd")?;
     let Ok(moment) = Moment::of(0) else {
         return Err(NoMemory);
     };
-    let mut events = Vec::new(alloc);
-    events.push(ScriptEvent::Arrived { link: 1 })?;
-    events.push(ScriptEvent::Octets {
-        link: 1,
-        moment,
-        octets,
-    })?;
-    events.push(ScriptEvent::Ended { link: 1 })?;
+    let octets = Octets::of(alloc, b"abcd")?;
+    let events = vec![in alloc;
+        ScriptEvent::Arrived { link: 1 },
+        ScriptEvent::Octets {
+            link: 1,
+            moment,
+            octets
+        },
+        ScriptEvent::Ended { link: 1 },
+    ]?;
     Ok(events)
 }
 
@@ -115,17 +116,16 @@ fn has_echoed(links: &ScriptLinks) -> bool {
 
 /// The links of the script, whose second call and second send fail.
 fn scripted(alloc: Global) -> Result<ScriptLinks, NoMemory> {
-    let events = script(alloc)?;
     let failing = [2].to_vec(alloc)?;
     let failing_sends = [2].to_vec(alloc)?;
-    let links = ScriptLinks::new(alloc, events, failing, failing_sends)?;
-    Ok(links)
+    let events = script(alloc)?;
+    ScriptLinks::new(alloc, events, failing, failing_sends)
 }
 
 #[test]
 fn links_tell_what_was_done(rt: HostRuntime) -> Result<(), Fail> {
     let mut links = scripted(rt.alloc())?;
-    assert!(rt; echo(rt.alloc(), &mut links)? == 1);
+    assert!(rt; matches!(echo(rt.alloc(), &mut links), Ok(1)));
     assert!(rt; has_echoed(&links));
     Ok(())
 }
@@ -148,12 +148,10 @@ fn exchange<D: Dial>(dial: &mut D, octets: &[u8], into: &mut [u8]) -> Result<usi
 fn dialled(alloc: Global) -> Result<ScriptDial, NoMemory>
     ensures { IfOk result (λ dial. dial.stands ≡ false) }
 {
-    let octets = Octets::of(alloc, b"xy")?;
-    let mut coming = Vec::new(alloc);
-    coming.push(octets)?;
     let failing = [6].to_vec(alloc)?;
-    let dial = ScriptDial::new(alloc, coming, failing)?;
-    Ok(dial)
+    let octets = Octets::of(alloc, b"xy")?;
+    let coming = vec![in alloc; octets]?;
+    ScriptDial::new(alloc, coming, failing)
 }
 
 /// Whether so many connections were lost, after so many faults.

@@ -8,19 +8,25 @@ use vf_base::{
     ScriptEvent, Sequence, Term,
 };
 
+/// Seconds, and the text of the moment.
+const MOMENTS: [(u64, &[u8]); 4] = [
+    (0, b"19700101000000Z"),
+    (951_782_400, b"20000229000000Z"),
+    (1_709_251_199, b"20240229235959Z"),
+    (253_402_300_799, b"99991231235959Z"),
+];
+
+/// Whether the moment has these seconds and this text.
+fn has_text(alloc: Global, seconds: u64, text: &[u8]) -> Result<bool, BaseError> {
+    let moment = Moment::of(seconds)?;
+    let found = moment.text(alloc)?;
+    Ok(moment.seconds() == seconds && found.as_slice() == text)
+}
+
 #[test]
 fn moments_have_their_texts(rt: HostRuntime) -> Result<(), Fail> {
-    let alloc = rt.alloc();
-    let texts = [
-        (0, b"19700101000000Z"),
-        (951_782_400, b"20000229000000Z"),
-        (1_709_251_199, b"20240229235959Z"),
-        (253_402_300_799, b"99991231235959Z"),
-    ];
-    for (seconds, text) in texts {
-        let moment = Moment::of(seconds)?;
-        assert!(rt; moment.seconds() == seconds);
-        assert!(rt; moment.text(alloc)?.as_slice() == text.as_slice());
+    for (seconds, text) in MOMENTS {
+        assert!(rt; has_text(rt.alloc(), seconds, text)?, "{seconds}");
     }
     assert!(rt; Moment::of(253_402_300_800) == Err(BaseError::BadMoment));
     Ok(())
@@ -91,22 +97,29 @@ fn arcs_end_at_their_limits(rt: HostRuntime) -> Result<(), Fail> {
     Ok(())
 }
 
-#[test]
-fn lists_are_copied(rt: HostRuntime) -> Result<(), Fail> {
-    let alloc = rt.alloc();
+/// An entry into children, and a string of two octets.
+fn elements(alloc: Global) -> Result<Elements, NoMemory> {
+    let octets = Octets::of(alloc, b"ab")?;
     let mut elements = Elements::new(alloc);
     elements.push(Element::Enter)?;
-    elements.push(Element::Binary {
-        octets: Octets::of(alloc, b"ab")?,
-    })?;
-    let copied = elements.copy(alloc)?;
-    assert!(rt; copied.len() == 2);
-    let shared = match copied.get(1) {
+    elements.push(Element::Binary { octets })?;
+    Ok(elements)
+}
+
+/// Whether these are the elements above.
+fn are_the_elements(list: &Elements) -> bool {
+    let shared = match list.get(1) {
         Some(Element::Binary { octets }) => octets.len() == 2 && !octets.is_empty(),
         _ => false,
     };
-    assert!(rt; shared);
-    assert!(rt; copied.get(2).is_none());
+    shared && list.len() == 2 && list.get(2).is_none()
+}
+
+#[test]
+fn lists_are_copied(rt: HostRuntime) -> Result<(), Fail> {
+    let elements = elements(rt.alloc())?;
+    let copied = elements.copy(rt.alloc())?;
+    assert!(rt; are_the_elements(&copied));
     Ok(())
 }
 

@@ -1,14 +1,52 @@
+//! Changes and copies of files.
+
 use std::alloc::Global;
 use std::test::Fail;
 use vf_attr::{AttributeChange, File, Stamp, change};
 use vf_base::{
-    Actions, BaseError, Constraint, Contents, Element, Elements, FaduId, Moment, Name, NoMemory,
+    Actions, BaseError, Constraint, Contents, DataUnit, Element, FaduId, Moment, Name, NoMemory,
     Octets, Oid, Sequence, Term, Terms,
 };
 use vf_tree::Tree;
 
-/// A term: whom it speaks of, what it grants, and the password that it needs; a dash where it has none.
-type Row = (&'static str, u8, &'static str);
+/// A change of each attribute or of none, and what the file has then: its name, what is permitted, how many terms, and
+/// whether it has the stamp of the change.
+struct Change {
+    all: bool,
+    others: u16,
+    name: &'static [u8],
+    permitted: u8,
+    terms: usize,
+    stamped: bool,
+}
+
+/// Without attributes the stamp alone is set, after a refusal nothing, else the attributes and the stamp.
+const CHANGES: [Change; 3] = [
+    Change {
+        all: false,
+        others: 0,
+        name: b"a",
+        permitted: 127,
+        terms: 2,
+        stamped: true,
+    },
+    Change {
+        all: true,
+        others: 1,
+        name: b"a",
+        permitted: 127,
+        terms: 2,
+        stamped: false,
+    },
+    Change {
+        all: true,
+        others: 0,
+        name: b"b",
+        permitted: 1,
+        terms: 0,
+        stamped: true,
+    },
+];
 
 /// No attribute, or each of them; `others` is its own.
 fn wanted(alloc: Global, all: bool, others: u16) -> Result<AttributeChange, BaseError> {
@@ -29,37 +67,39 @@ fn wanted(alloc: Global, all: bool, others: u16) -> Result<AttributeChange, Base
     })
 }
 
-/// Whether bob's change at moment 7 is made, and the file then has this name, these permitted actions, so many terms,
-/// and his stamp where that is said.
-fn leaves(
-    alloc: Global,
-    change_wanted: &AttributeChange,
-    name: &[u8],
-    permitted: u8,
-    terms: usize,
-    stamped: bool,
-) -> Result<bool, BaseError> {
-    let mut file = file(alloc, &[("ann", 1, "pw")])?;
-    let bob = Name::of(alloc, b"bob")?;
-    let moment = Moment::of(7)?;
-    let made = change(alloc, &mut file, &bob, moment, change_wanted).is_ok();
-    let same = file.name.as_slice() == name
-        && file.permitted.value == permitted
-        && file.terms.len() == terms;
-    Ok(made == stamped && same && is_stamp(&file.changed, 7, b"bob") == stamped)
+fn is_stamp(stamp: &Option<Stamp>, seconds: u64, identity: &[u8]) -> bool {
+    match stamp {
+        Some(stamp) => {
+            stamp.moment.seconds() == seconds && stamp.identity.as_slice() == identity
+        }
+        None => false,
+    }
 }
 
-/// A change sets its own attributes and the stamp; without attributes the stamp alone; after a refusal nothing.
+/// Whether the file has what it is to have after bob's change at moment 7.
+fn is_changed(file: &File, row: &Change) -> bool {
+    file.name.as_slice() == row.name
+        && file.permitted.value == row.permitted
+        && file.terms.len() == row.terms
+        && is_stamp(&file.changed, 7, b"bob") == row.stamped
+}
+
+/// Whether a copy of the change does to a file what its row says.
+fn is_made(alloc: Global, row: &Change) -> Result<bool, BaseError> {
+    let bob = Name::of(alloc, b"bob")?;
+    let moment = Moment::of(7)?;
+    let wanted = wanted(alloc, row.all, row.others)?;
+    let copy = wanted.copy(alloc)?;
+    let mut file = file(alloc)?;
+    let made = change(alloc, &mut file, &bob, moment, &copy).is_ok();
+    Ok(made == row.stamped && is_changed(&file, row))
+}
+
 #[test]
 fn changes_set_their_attributes(rt: HostRuntime) -> Result<(), Fail> {
-    let alloc = rt.alloc();
-    let nothing = wanted(alloc, false, 0)?;
-    assert!(rt; leaves(alloc, &nothing, b"a", 127, 1, true)?);
-    let refused = wanted(alloc, true, 1)?;
-    assert!(rt; leaves(alloc, &refused, b"a", 127, 1, false)?);
-    let whole = wanted(alloc, true, 0)?;
-    let copied = whole.copy(alloc)?;
-    assert!(rt; leaves(alloc, &copied, b"b", 1, 0, true)?);
+    for row in &CHANGES {
+        assert!(rt; is_made(rt.alloc(), row)?, "{} {}", row.all, row.others);
+    }
     Ok(())
 }
 
@@ -73,7 +113,7 @@ fn are_alike(file: &File, other: &File) -> bool {
 }
 
 /// One string of three octets.
-fn three_octets(alloc: Global) -> Result<Elements, NoMemory> {
+fn three_octets(alloc: Global) -> Result<DataUnit, NoMemory> {
     let mut unit = Sequence::new(alloc);
     let octets = Octets::of(alloc, b"abc")?;
     unit.push(Element::Binary { octets })?;
@@ -81,82 +121,66 @@ fn three_octets(alloc: Global) -> Result<Elements, NoMemory> {
 }
 
 /// Whether three octets take the place of what an empty tree has.
-fn is_filled(alloc: Global, tree: &mut Tree) -> Result<bool, NoMemory> {
-    let unit = three_octets(alloc)?;
+fn is_filled(alloc: Global, tree: &mut Tree, unit: DataUnit) -> bool {
     if !tree.has_room_to_replace(FaduId::Begin, &unit) {
-        return Ok(false);
+        return false;
     }
-    let replaced = tree.replace(alloc, FaduId::Begin, unit);
-    Ok(replaced == Ok(0) && tree.size() == 3)
+    matches!(tree.replace(alloc, FaduId::Begin, unit), Ok(0)) && tree.size() == 3
 }
 
 /// A copy is equal, and an action on its tree leaves the file as it was.
 #[test]
 fn copies_share_their_tree(rt: HostRuntime) -> Result<(), Fail> {
-    let alloc = rt.alloc();
-    let file = file(alloc, &[("ann", 1, "pw"), ("-", 2, "-")])?;
-    let mut copy = file.copy(alloc)?;
+    let unit = three_octets(rt.alloc())?;
+    let file = file(rt.alloc())?;
+    let mut copy = file.copy(rt.alloc())?;
     assert!(rt; are_alike(&file, &copy) && copy.terms.len() == 2 && copy.version == 1);
     assert!(rt; copy.created.moment.seconds() == 5);
-    assert!(rt; is_filled(alloc, &mut copy.tree)? && file.tree.size() == 0);
+    assert!(rt; is_filled(rt.alloc(), &mut copy.tree, unit) && file.tree.size() == 0);
     Ok(())
 }
 
-fn is_stamp(stamp: &Option<Stamp>, seconds: u64, identity: &[u8]) -> bool {
-    match stamp {
-        Some(stamp) => {
-            stamp.moment.seconds() == seconds && stamp.identity.as_slice() == identity
-        }
-        None => false,
-    }
-}
-
 /// An empty file `a` on which all but deletion is permitted, made by `ann` at moment 5.
-fn file(alloc: Global, rows: &[Row]) -> Result<File, BaseError> {
+fn file(alloc: Global) -> Result<File, BaseError> {
+    let name = Name::of(alloc, b"a")?;
+    let kind = Oid::of(alloc, &[1, 0, 8571, 5, 3])?;
+    let terms = terms(alloc)?;
+    let moment = Moment::of(5)?;
+    let identity = Name::of(alloc, b"ann")?;
+    let tree = Tree::empty(alloc, Constraint::Unstructured)?;
     Ok(File {
-        name: Name::of(alloc, b"a")?,
+        name,
         permitted: Actions { value: 127 },
         contents: Contents {
-            kind: Oid::of(alloc, &[1, 0, 8571, 5, 3])?,
+            kind,
             class: 25,
             longest: 0,
             significance: 0,
         },
-        terms: terms(alloc, rows)?,
-        created: Stamp {
-            moment: Moment::of(5)?,
-            identity: Name::of(alloc, b"ann")?,
-        },
+        terms,
+        created: Stamp { moment, identity },
         modified: None,
         read: None,
         changed: None,
         version: 1,
-        tree: Tree::empty(alloc, Constraint::Unstructured)?,
+        tree,
     })
 }
 
-fn terms(alloc: Global, rows: &[Row]) -> Result<Terms, BaseError> {
+/// A term for ann with her password, and one for everybody.
+fn terms(alloc: Global) -> Result<Terms, BaseError> {
     let mut terms = Sequence::new(alloc);
-    for (identity, actions, password) in rows {
-        let identity = if *identity == "-" {
-            None
-        } else {
-            Some(Name::of(alloc, identity.as_bytes())?)
-        };
-        let password = password_of(alloc, password)?;
-        terms.push(Term {
-            identity,
-            actions: Actions { value: *actions },
-            password,
-        })?;
-    }
+    let identity = Name::of(alloc, b"ann")?;
+    let password = Octets::of(alloc, b"pw")?;
+    terms.push(Term {
+        identity: Some(identity),
+        actions: Actions { value: 1 },
+        password: Some(password),
+    })?;
+    terms.push(Term {
+        identity: None,
+        actions: Actions { value: 2 },
+        password: None,
+    })?;
     Ok(terms)
-}
-
-fn password_of(alloc: Global, text: &str) -> Result<Option<Octets>, NoMemory> {
-    if text == "-" {
-        return Ok(None);
-    }
-    let octets = Octets::of(alloc, text.as_bytes())?;
-    Ok(Some(octets))
 }

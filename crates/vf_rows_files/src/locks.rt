@@ -1,6 +1,8 @@
+//! Holders of a file and their controls.
+
 use std::alloc::Global;
 use std::test::Fail;
-use vf_base::{Action, BaseError, Control, Controls, Name};
+use vf_base::{Action, BaseError, Control, Controls, Name, NoMemory};
 use vf_locks::{GrantError, Holder, Locks};
 
 const NO: Control = Control::NotRequired;
@@ -11,6 +13,19 @@ const EXCLUSIVE: Control = Control::Exclusive;
 
 const NO_ACCESS: Control = Control::NoAccess;
 
+/// Controls of two parties on one action, and whether both are granted.
+const PAIRS: [(Control, Control, bool); 9] = [
+    (SHARED, SHARED, true),
+    (SHARED, EXCLUSIVE, false),
+    (EXCLUSIVE, SHARED, false),
+    (SHARED, NO_ACCESS, false),
+    (NO_ACCESS, SHARED, false),
+    (EXCLUSIVE, NO_ACCESS, false),
+    (NO_ACCESS, NO_ACCESS, true),
+    (NO, EXCLUSIVE, true),
+    (NO_ACCESS, NO, true),
+];
+
 /// The control on reading and on deletion, and none on the other actions.
 fn controls(read: Control, delete: Control) -> Controls {
     Controls {
@@ -20,60 +35,81 @@ fn controls(read: Control, delete: Control) -> Controls {
 
 /// A party where the identity is 0, else a docket.
 fn holder(alloc: Global, who: (u8, u32)) -> Result<Holder, BaseError> {
-    if who.0 == 0 {
-        return Ok(Holder::Party { link: who.1 });
+    let (letter, number) = who;
+    if letter == 0 {
+        return Ok(Holder::Party { link: number });
     }
-    let identity = Name::of(alloc, &[who.0])?;
+    let identity = Name::of(alloc, &[letter])?;
     Ok(Holder::Docket {
         identity,
-        activity: who.1,
+        activity: number,
     })
 }
 
+/// Whether controls are allowed and granted.
 fn grants(
     locks: &mut Locks,
     alloc: Global,
-    who: (u8, u32),
-    read: Control,
-    delete: Control,
-) -> Result<bool, BaseError> {
-    let file = Name::of(alloc, b"f")?;
-    let holder = holder(alloc, who)?;
-    let allowed = locks
-        .allows(alloc, &file, &holder, &controls(read, delete))
-        .is_ok();
-    let granted = locks
-        .grant(alloc, &file, &holder, &controls(read, delete))
-        .is_ok();
-    Ok(allowed && granted)
+    file: &Name,
+    holder: &Holder,
+    wanted: Controls,
+) -> bool {
+    let allowed = locks.allows(alloc, file, holder, &wanted).is_ok();
+    let granted = locks.grant(alloc, file, holder, &wanted).is_ok();
+    allowed && granted
+}
+
+/// Whether one party is granted the first control, another one the second exactly where that is good, and then the
+/// first one deletion too.
+fn are_granted(alloc: Global, file: &Name, first: Control, second: Control, good: bool) -> bool {
+    let mut locks = Locks::new(alloc);
+    let (one, other) = (Holder::Party { link: 1 }, Holder::Party { link: 2 });
+    grants(&mut locks, alloc, file, &one, controls(first, NO))
+        && grants(&mut locks, alloc, file, &other, controls(second, NO)) == good
+        && grants(&mut locks, alloc, file, &one, controls(first, SHARED))
+}
+
+#[test]
+fn controls_clash_by_the_standard(rt: HostRuntime) -> Result<(), Fail> {
+    let file = Name::of(rt.alloc(), b"f")?;
+    for (first, second, good) in PAIRS {
+        assert!(rt; are_granted(rt.alloc(), &file, first, second, good));
+    }
+    Ok(())
+}
+
+/// Whether the error is a clash with this holder on deletion.
+fn is_clash(error: &GrantError, first: &Holder) -> bool {
+    match error {
+        GrantError::Clash(conflict) => {
+            conflict.action == Action::Delete && conflict.holder.is_same(first)
+        }
+        GrantError::NoMemory => false,
+    }
 }
 
 /// Whether the party 5 may not read and delete alone, and it is this holder that stands against its deleting.
-fn stands_first(locks: &Locks, alloc: Global, who: (u8, u32)) -> Result<bool, BaseError> {
-    let file = Name::of(alloc, b"f")?;
-    let first = holder(alloc, who)?;
+fn stands_first(
+    locks: &Locks,
+    alloc: Global,
+    file: &Name,
+    first: &Holder,
+) -> Result<bool, NoMemory> {
     let asking = Holder::Party { link: 5 };
-    let Err(error) = locks.allows(alloc, &file, &asking, &controls(SHARED, EXCLUSIVE)) else {
+    let Err(error) = locks.allows(alloc, file, &asking, &controls(SHARED, EXCLUSIVE)) else {
         return Ok(false);
     };
-    let Ok(GrantError::Clash(conflict)) = error.copy(alloc) else {
-        return Ok(false);
+    let error = error.copy(alloc)?;
+    let others = match locks.first_other(file, &asking) {
+        Some(other) => other.is_same(first),
+        None => false,
     };
-    let Some(other) = locks.first_other(&file, &asking) else {
-        return Ok(false);
-    };
-    Ok(
-        conflict.action == Action::Delete
-            && conflict.holder.is_same(&first)
-            && other.is_same(&first),
-    )
+    Ok(others && is_clash(&error, first))
 }
 
-fn releases(locks: &mut Locks, alloc: Global, who: (u8, u32)) -> Result<bool, BaseError> {
-    let file = Name::of(alloc, b"f")?;
-    let holder = holder(alloc, who)?;
-    locks.release(&file, &holder);
-    Ok(locks.controls(&file, &holder).is_none())
+fn releases(locks: &mut Locks, file: &Name, holder: &Holder) -> bool {
+    locks.release(file, holder);
+    locks.controls(file, holder).is_none()
 }
 
 /// Whether the first holder stood on the file, and the second did not and now stands in its place.
@@ -88,83 +124,76 @@ fn takes_the_place(locks: &mut Locks, file: &Name, from: &Holder, to: Holder) ->
 fn passes(
     locks: &mut Locks,
     alloc: Global,
+    file: &Name,
     from: (u8, u32),
     to: (u8, u32),
 ) -> Result<bool, BaseError> {
-    let file = Name::of(alloc, b"f")?;
     let from = holder(alloc, from)?;
     let to = holder(alloc, to)?;
-    Ok(takes_the_place(locks, &file, &from, to))
+    Ok(takes_the_place(locks, file, &from, to))
 }
 
-/// A copy of the locks, and whether each holder that it lends of the file is that of the locks, with its controls.
-fn copied(locks: &Locks, alloc: Global) -> Result<(Locks, bool), Fail> {
-    let file = Name::of(alloc, b"f")?;
-    let made = locks.copy(alloc)?;
-    let mut same = true;
-    for (held, other) in locks.holders(&file).iter().zip(made.holders(&file)) {
-        let held = held.copy(alloc)?;
-        same = same && held.holder.is_same(&other.holder) && held.controls == other.controls;
+/// Whether copies of what the locks lend of the file are what the others lend.
+fn are_same(locks: &Locks, others: &Locks, alloc: Global, file: &Name) -> Result<bool, NoMemory> {
+    let (held, other) = (locks.holders(file), others.holders(file));
+    if held.len() != other.len() {
+        return Ok(false);
     }
-    same = same && locks.holders(&file).len() == made.holders(&file).len();
-    Ok((made, same))
+    for place in 0..held.len() {
+        let copy = held[place].copy(alloc)?;
+        if !copy.holder.is_same(&other[place].holder) || copy.controls != other[place].controls {
+            return Ok(false);
+        }
+    }
+    Ok(true)
 }
 
 /// The numbers of the controls on deletion.
-fn numbers(locks: &Locks, alloc: Global) -> Result<Option<[u64; 4]>, BaseError> {
-    let file = Name::of(alloc, b"f")?;
-    let Some(counts) = locks.counts(&file) else {
-        return Ok(None);
-    };
-    Ok(Some(counts.numbers[7]))
+fn numbers(locks: &Locks, file: &Name) -> Option<[u64; 4]> {
+    match locks.counts(file) {
+        Some(counts) => Some(counts.numbers[7]),
+        None => None,
+    }
 }
 
-#[test]
-fn controls_clash_by_the_standard(rt: HostRuntime) -> Result<(), Fail> {
-    let alloc = rt.alloc();
-    let cases = [
-        (SHARED, SHARED, true),
-        (SHARED, EXCLUSIVE, false),
-        (EXCLUSIVE, SHARED, false),
-        (SHARED, NO_ACCESS, false),
-        (NO_ACCESS, SHARED, false),
-        (EXCLUSIVE, NO_ACCESS, false),
-        (NO_ACCESS, NO_ACCESS, true),
-        (NO, EXCLUSIVE, true),
-        (NO_ACCESS, NO, true),
-    ];
-    for (first, second, good) in cases {
-        let mut locks = Locks::new(alloc);
-        assert!(rt; grants(&mut locks, alloc, (0, 1), first, NO)?);
-        assert!(rt; grants(&mut locks, alloc, (0, 2), second, NO)? == good);
-        assert!(rt; grants(&mut locks, alloc, (0, 1), first, SHARED)?);
+/// Whether dockets and parties get their controls, and a party's go to a docket and from there to another party.
+fn fills(locks: &mut Locks, alloc: Global, file: &Name) -> Result<bool, BaseError> {
+    for who in [(b'b', 1), (b'a', 9), (0, 7), (b'a', 2), (0, 3)] {
+        let holder = holder(alloc, who)?;
+        if !grants(locks, alloc, file, &holder, controls(NO, SHARED)) {
+            return Ok(false);
+        }
     }
-    Ok(())
+    Ok(
+        passes(locks, alloc, file, (0, 7), (b'c', 1))?
+            && passes(locks, alloc, file, (b'c', 1), (0, 8))?,
+    )
+}
+
+/// Whether each is the first in its turn, until it is released.
+fn empties(locks: &mut Locks, alloc: Global, file: &Name) -> Result<bool, BaseError> {
+    for who in [(0, 3), (0, 8), (b'a', 2), (b'a', 9), (b'b', 1)] {
+        let holder = holder(alloc, who)?;
+        if !stands_first(locks, alloc, file, &holder)? || !releases(locks, file, &holder) {
+            return Ok(false);
+        }
+    }
+    Ok(numbers(locks, file).is_none())
 }
 
 #[test]
 fn holders_stand_in_their_order(rt: HostRuntime) -> Result<(), Fail> {
-    let alloc = rt.alloc();
-    let mut locks = Locks::new(alloc);
-    for who in [(b'b', 1), (b'a', 9), (0, 7), (b'a', 2), (0, 3)] {
-        assert!(rt; grants(&mut locks, alloc, who, NO, SHARED)?);
-    }
-    assert!(rt; passes(&mut locks, alloc, (0, 7), (b'c', 1))?);
-    assert!(rt; passes(&mut locks, alloc, (b'c', 1), (0, 8))?);
-    let (mut locks, same) = copied(&locks, alloc)?;
-    assert!(rt; same);
-    for who in [(0, 3), (0, 8), (b'a', 2), (b'a', 9), (b'b', 1)] {
-        assert!(rt; stands_first(&locks, alloc, who)?);
-        assert!(rt; releases(&mut locks, alloc, who)?);
-    }
-    assert!(rt; numbers(&locks, alloc)?.is_none());
+    let file = Name::of(rt.alloc(), b"f")?;
+    let mut locks = Locks::new(rt.alloc());
+    assert!(rt; matches!(fills(&mut locks, rt.alloc(), &file), Ok(true)));
+    let mut copy = locks.copy(rt.alloc())?;
+    assert!(rt; matches!(are_same(&locks, &copy, rt.alloc(), &file), Ok(true)));
+    assert!(rt; matches!(empties(&mut copy, rt.alloc(), &file), Ok(true)));
     Ok(())
 }
 
 #[test]
 fn numbers_follow_each_call(rt: HostRuntime) -> Result<(), Fail> {
-    let alloc = rt.alloc();
-    let mut locks = Locks::new(alloc);
     let steps = [
         (1, SHARED, [0, 1, 0, 0]),
         (2, SHARED, [0, 2, 0, 0]),
@@ -172,11 +201,22 @@ fn numbers_follow_each_call(rt: HostRuntime) -> Result<(), Fail> {
         (2, EXCLUSIVE, [1, 0, 1, 0]),
         (3, NO, [2, 0, 1, 0]),
     ];
+    let file = Name::of(rt.alloc(), b"f")?;
+    let mut locks = Locks::new(rt.alloc());
     for (link, control, counted) in steps {
-        assert!(rt; grants(&mut locks, alloc, (0, link), NO, control)?);
-        assert!(rt; numbers(&locks, alloc)? == Some(counted));
+        let holder = Holder::Party { link };
+        assert!(rt;
+            grants(
+                &mut locks,
+                rt.alloc(),
+                &file,
+                &holder,
+                controls(NO, control)
+            )
+        );
+        assert!(rt; numbers(&locks, &file) == Some(counted));
     }
-    assert!(rt; releases(&mut locks, alloc, (0, 2))?);
-    assert!(rt; numbers(&locks, alloc)? == Some([2, 0, 0, 0]));
+    assert!(rt; releases(&mut locks, &file, &Holder::Party { link: 2 }));
+    assert!(rt; numbers(&locks, &file) == Some([2, 0, 0, 0]));
     Ok(())
 }

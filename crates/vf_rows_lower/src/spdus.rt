@@ -1,6 +1,7 @@
 //! Worked SPDUs, as octets and as what they are.
 use crate::octets::{octets_of, show_all};
 use std::alloc::Global;
+use std::process::Abort;
 use std::test::Fail;
 use vf_base::{Octets, SpduKind};
 use vf_session::{Spdu, SpduError, SpduFields, fault_place, read, read_shared, write};
@@ -71,18 +72,23 @@ fn answer(alloc: Global, tsdu: &[u8], read: Result<Vec<Spdu>, SpduError>) -> Res
     }
 }
 
+/// Octets are read as a row says, also where they are shared.
+fn assert_read(rt: &impl Abort, alloc: Global, octets: &str, expected: &str) -> Result<(), Fail> {
+    let tsdu = octets_of(alloc, octets)?;
+    let kept = Octets::of(alloc, tsdu.as_slice())?;
+    let found = answer(alloc, tsdu.as_slice(), read(alloc, tsdu.as_slice()))?;
+    assert_eq!(rt; found.as_str(), expected, "{octets}");
+    let found = answer(alloc, tsdu.as_slice(), read_shared(alloc, &kept))?;
+    assert_eq!(rt; found.as_str(), expected, "{octets}");
+    Ok(())
+}
+
 #[test]
 fn octets_are_read(rt: HostRuntime) -> Result<(), Fail> {
     let mut count = 0_u32;
     for row in rows::ROWS.lines() {
         if let Some((octets, expected)) = row.split_once(" = ") {
-            let tsdu = octets_of(rt.alloc(), octets)?;
-            let tsdu = tsdu.as_slice();
-            let found = answer(rt.alloc(), tsdu, read(rt.alloc(), tsdu))?;
-            assert_eq!(rt; found.as_str(), expected, "{octets}");
-            let kept = Octets::of(rt.alloc(), tsdu)?;
-            let found = answer(rt.alloc(), tsdu, read_shared(rt.alloc(), &kept))?;
-            assert_eq!(rt; found.as_str(), expected, "{octets}");
+            assert_read(&rt, rt.alloc(), octets, expected)?;
             count = count.saturating_add(1);
         }
     }

@@ -1,7 +1,7 @@
 //! Presentation and ACSE: what is found in user data, object identifiers, lists, and a value that can't be written.
 use std::alloc::Global;
 use std::test::Fail;
-use vf_base::{Octets, Oid, SpduKind};
+use vf_base::{NoMemory, Octets, Oid, SpduKind};
 use vf_ber::{Tag, Value};
 use vf_upper::{
     CarriedValue, CarriedValues, ContextEntry, Contexts, Primitive, Results, is_writable,
@@ -115,15 +115,20 @@ const FAULTS: [(SpduKind, &[u8], u32); 5] = [
     (SpduKind::GT, &[0x61, 0x00], 0),
 ];
 
+/// Whether the user data have their fault at this place.
+fn stops(alloc: Global, carrier: SpduKind, octets: &[u8], place: u32) -> bool {
+    let Ok(octets) = Octets::of(alloc, octets) else {
+        return false;
+    };
+    let mut found = Marks::new(alloc);
+    matches!(find(alloc, carrier, &octets, &mut found), Err(Stop::At(at)) if at == place)
+}
+
 #[test]
-fn faults_have_their_places(rt: HostRuntime) -> Result<(), Fail> {
+fn faults_have_their_places(rt: HostRuntime) {
     for (carrier, octets, place) in FAULTS {
-        let octets = Octets::of(rt.alloc(), octets)?;
-        let mut found = Marks::new(rt.alloc());
-        let stop = find(rt.alloc(), carrier, &octets, &mut found);
-        assert!(rt; matches!(stop, Err(stop) if stop == Stop::At(place)));
+        assert!(rt; stops(rt.alloc(), carrier, octets, place), "{place}");
     }
-    Ok(())
 }
 
 /// Whether exactly the tests with a 1 hold of an object identifier: ACSE, PCI, FTAM, BER, ours.
@@ -176,44 +181,58 @@ fn contexts_of(alloc: Global) -> Contexts {
     made
 }
 
-#[test]
-fn a_value_in_an_unaccepted_context_is_not_written(rt: HostRuntime) -> Result<(), Fail> {
-    let mut values = CarriedValues::new(rt.alloc());
-    let tag = Tag {
-        class: 0,
-        number: 4,
-    };
-    let value = Value::of_octets(rt.alloc(), tag, &[0x68])?;
-    values.push(CarriedValue { context: 5, value })?;
-    let contexts = contexts_of(rt.alloc());
-    assert!(rt; !is_writable(&Primitive::Data { values }, &contexts));
-    Ok(())
-}
-
-/// The octets of the string of a P-DATA that has this string alone, as they are read where they are shared.
-fn carried_string(alloc: Global, string: &[u8]) -> Result<Option<Octets>, Fail> {
-    let mut values = CarriedValues::new(alloc);
+/// A list of one octet string, in this context.
+fn values_of(alloc: Global, context: i64, string: &[u8]) -> Result<CarriedValues, NoMemory> {
     let tag = Tag {
         class: 0,
         number: 4,
     };
     let value = Value::of_octets(alloc, tag, string)?;
-    values.push(CarriedValue { context: 3, value })?;
-    let contexts = contexts_of(alloc);
-    let primitive = Primitive::Data { values };
-    if !is_writable(&primitive, &contexts) {
-        return Ok(None);
+    let mut values = CarriedValues::new(alloc);
+    values.push(CarriedValue { context, value })?;
+    Ok(values)
+}
+
+#[test]
+fn a_value_in_an_unaccepted_context_is_not_written(rt: HostRuntime) -> Result<(), Fail> {
+    let values = values_of(rt.alloc(), 5, &[0x68])?;
+    let contexts = contexts_of(rt.alloc());
+    assert!(rt; !is_writable(&Primitive::Data { values }, &contexts));
+    Ok(())
+}
+
+/// Appends the octets of a primitive, where it is one that may be written.
+fn puts(alloc: Global, primitive: &Primitive, contexts: &Contexts, octets: &mut Vec<u8>) -> bool {
+    is_writable(primitive, contexts) && write(alloc, primitive, contexts, octets).is_ok()
+}
+
+/// Whether a P-DATA has one value, an octet string of these octets.
+fn has_string(alloc: Global, primitive: &Primitive, string: &[u8]) -> bool {
+    let Primitive::Data { values } = primitive else {
+        return false;
+    };
+    match values.get(0) {
+        Some(carried) => {
+            matches!(vf_ber::octets(alloc, &carried.value), Ok(Some(read)) if read.as_slice() == string)
+        }
+        None => false,
     }
+}
+
+/// Whether a P-DATA that has a string of so many octets alone is read so where its octets are shared.
+fn is_carried(alloc: Global, len: usize) -> Result<bool, Fail> {
+    let string = vec![in alloc; b'x'; len]?;
+    let values = values_of(alloc, 3, string.as_slice())?;
+    let contexts = contexts_of(alloc);
     let mut octets = Vec::new(alloc);
-    write(alloc, &primitive, &contexts, &mut octets)?;
+    if !puts(alloc, &Primitive::Data { values }, &contexts, &mut octets) {
+        return Ok(false);
+    }
     let octets = Octets::from_vec(octets)?;
-    let Ok(Primitive::Data { values }) = read_shared(alloc, SpduKind::DT, &contexts, &octets) else {
-        return Ok(None);
-    };
-    let Some(carried) = values.get(0) else {
-        return Ok(None);
-    };
-    Ok(vf_ber::octets(alloc, &carried.value)?)
+    match read_shared(alloc, SpduKind::DT, &contexts, &octets) {
+        Ok(primitive) => Ok(has_string(alloc, &primitive, string.as_slice())),
+        Err(_) => Ok(false),
+    }
 }
 
 /// Whether what stands before a string of so many octets is put at once, and how many octets it has.
@@ -245,41 +264,46 @@ fn strings_are_read_where_they_are_shared(rt: HostRuntime) -> Result<(), Fail> {
     for len in [
         0, 1, 21, 22, 23, 24, 127, 128, 255, 256, 300, 65_520, 65_521,
     ] {
-        let mut string = Vec::new(rt.alloc());
-        string.resize(len, b'x')?;
-        let read = carried_string(rt.alloc(), string.as_slice())?;
-        assert!(rt;
-            matches!(&read, Some(read) if read.as_slice() == string.as_slice()),
-            "{len}"
-        );
+        assert!(rt; is_carried(rt.alloc(), len)?, "{len}");
     }
     Ok(())
 }
 
-#[test]
-fn lists_give_what_was_pushed(rt: HostRuntime) -> Result<(), Fail> {
-    let mut results = Results::new(rt.alloc());
+/// Whether a copy of a list of two results has them.
+fn copies_results(alloc: Global) -> Result<bool, NoMemory> {
+    let mut results = Results::new(alloc);
     results.push(true)?;
     results.push(false)?;
-    let copy = results.copy(rt.alloc())?;
-    assert_eq!(rt; copy.as_slice(), [true, false].as_slice());
-    assert_eq!(rt; copy.len(), 2);
-    assert!(rt; copy.get(1) == Some(&false) && copy.get(2).is_none());
+    let copy = results.copy(alloc)?;
+    let both = copy.as_slice() == [true, false].as_slice() && copy.len() == 2;
+    Ok(both && copy.get(1) == Some(&false) && copy.get(2).is_none())
+}
 
-    let mut values = CarriedValues::new(rt.alloc());
+/// Whether a list has one value, the integer 7 in context 3.
+fn are_seven(values: &CarriedValues) -> bool {
+    let Some(value) = values.get(0) else {
+        return false;
+    };
+    let seven = value.context == 3 && vf_ber::integer(&value.value) == Some(7);
+    seven && values.len() == 1 && values.as_slice().len() == 1 && values.get(1).is_none()
+}
+
+/// Whether a copy of a list of one value has it.
+fn copies_values(alloc: Global) -> Result<bool, NoMemory> {
     let tag = Tag {
         class: 0,
         number: 2,
     };
-    let value = Value::of_integer(rt.alloc(), tag, 7)?;
+    let value = Value::of_integer(alloc, tag, 7)?;
+    let mut values = CarriedValues::new(alloc);
     values.push(CarriedValue { context: 3, value })?;
-    let copy = values.copy(rt.alloc())?;
-    assert_eq!(rt; copy.len(), 1);
-    assert!(rt; copy.get(0).map(|value| value.context) == Some(3) && copy.get(1).is_none());
-    assert!(rt;
-        copy.as_slice()
-            .iter()
-            .all(|value| vf_ber::integer(&value.value) == Some(7))
-    );
+    let copy = values.copy(alloc)?;
+    Ok(are_seven(&copy))
+}
+
+#[test]
+fn lists_give_what_was_pushed(rt: HostRuntime) -> Result<(), Fail> {
+    assert!(rt; copies_results(rt.alloc())?);
+    assert!(rt; copies_values(rt.alloc())?);
     Ok(())
 }

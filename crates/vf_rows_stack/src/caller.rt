@@ -91,18 +91,18 @@ fn say(alloc: Global, caller: &mut Caller, words: &str, octets: &mut Vec<u8>) ->
 }
 
 impl Conversation {
+    /// The called end has the CR, and its CC isn't heard yet.
     fn begin(alloc: Global, pieces: usize) -> Result<Conversation, Fail> {
         let mut octets = Vec::new(alloc);
         let caller = Caller::new(alloc, true, &mut octets)?;
-        let mut talk = Conversation {
+        let mut called = End::new(alloc, "called")?;
+        called.take(alloc, octets.as_slice(), pieces)?;
+        Ok(Conversation {
             caller,
-            called: End::new(alloc, "called")?,
+            called,
             pieces,
             lines: Vec::new(alloc),
-        };
-        talk.called.take(alloc, octets.as_slice(), pieces)?;
-        talk.hear(alloc)?;
-        Ok(talk)
+        })
     }
 
     /// What the called end has sent is heard.
@@ -146,15 +146,27 @@ impl Conversation {
     }
 }
 
-/// Rows with what they tell.
-fn lines_of(alloc: Global, rows: &str, pieces: usize) -> Result<String, Fail> {
-    let mut talk = Conversation::begin(alloc, pieces)?;
-    let mut text = String::from_str(alloc, "\n")?;
+/// Appends rows with what they tell, once the CC is heard.
+fn put_rows(
+    alloc: Global,
+    talk: &mut Conversation,
+    rows: &str,
+    text: &mut String,
+) -> Result<(), Fail> {
+    talk.hear(alloc)?;
     for row in rows.lines() {
         if let Some((words, _)) = row.split_once(" = ") {
-            talk.put_row(alloc, words, &mut text)?;
+            talk.put_row(alloc, words, text)?;
         }
     }
+    Ok(())
+}
+
+/// Rows with what they tell.
+fn lines_of(alloc: Global, rows: &str, pieces: usize) -> Result<String, Fail> {
+    let mut text = String::from_str(alloc, "\n")?;
+    let mut talk = Conversation::begin(alloc, pieces)?;
+    put_rows(alloc, &mut talk, rows, &mut text)?;
     Ok(text)
 }
 

@@ -140,16 +140,22 @@ impl Ends {
     }
 }
 
-/// Rows with what they tell the two ends, of which the calling one has this name.
-fn dialogue(alloc: Global, name: &str, rows: &str, pieces: usize) -> Result<String, Fail> {
-    let mut ends = Ends::new(alloc, name, pieces)?;
+/// Appends rows with what they tell the two ends, once these are connected.
+fn put_rows(alloc: Global, ends: &mut Ends, rows: &str, text: &mut String) -> Result<(), Fail> {
     ends.connect(alloc)?;
-    let mut text = String::from_str(alloc, "\n")?;
     for row in rows.lines() {
         if let Some((request, _)) = row.split_once(" = ") {
-            ends.put_row(alloc, request, &mut text)?;
+            ends.put_row(alloc, request, text)?;
         }
     }
+    Ok(())
+}
+
+/// Rows with what they tell the two ends, of which the calling one has this name.
+fn dialogue(alloc: Global, name: &str, rows: &str, pieces: usize) -> Result<String, Fail> {
+    let mut text = String::from_str(alloc, "\n")?;
+    let mut ends = Ends::new(alloc, name, pieces)?;
+    put_rows(alloc, &mut ends, rows, &mut text)?;
     Ok(text)
 }
 

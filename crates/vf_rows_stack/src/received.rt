@@ -40,15 +40,20 @@ fn shown(alloc: Global, end: &End) -> Result<String, Fail> {
     Ok(text)
 }
 
-/// The same for the end that a row names, after its steps, whose octets come so many at a time.
-fn answer(alloc: Global, name: &str, steps: &str, pieces: usize) -> Result<String, Fail> {
-    let mut end = End::new(alloc, name)?;
+/// The same after steps of the end, whose octets come so many at a time.
+fn shown_after(alloc: Global, end: &mut End, steps: &str, pieces: usize) -> Result<String, Fail> {
     let mut parts = steps.split('>');
     end.hear(alloc, parts.next().unwrap_or(""), pieces)?;
     for part in parts {
         end.step(alloc, part, pieces)?;
     }
-    shown(alloc, &end)
+    shown(alloc, end)
+}
+
+/// The same for the end that a row names.
+fn answer(alloc: Global, name: &str, steps: &str, pieces: usize) -> Result<String, Fail> {
+    let mut end = End::new(alloc, name)?;
+    shown_after(alloc, &mut end, steps, pieces)
 }
 
 #[test]

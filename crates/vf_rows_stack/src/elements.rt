@@ -3,7 +3,7 @@
 use crate::octets::octets_of;
 use std::alloc::Global;
 use std::test::Fail;
-use vf_base::{Element, NoMemory};
+use vf_base::Element;
 use vf_elements::{Message, Said, Stage, message_of};
 use vf_pdu::Pdu;
 
@@ -50,6 +50,7 @@ restart 000011110
 break 111111111
 ";
 
+/// The message of a word, or of the octets of its digits.
 fn message(alloc: Global, word: &str) -> Result<Message, Fail> {
     match word {
         "check" => Ok(Message::Check),
@@ -72,13 +73,18 @@ fn message_in(alloc: Global, digits: &str) -> Result<Message, Fail> {
     }
 }
 
+/// Whether exactly the stages with a 1 take the message of the word.
+fn is_row(alloc: Global, word: &str, digits: &str) -> Result<bool, Fail> {
+    let message = message(alloc, word)?;
+    Ok(is_taken_in(&message, digits.as_bytes()))
+}
+
 #[test]
 fn stages_take(rt: HostRuntime) -> Result<(), Fail> {
     let mut count = 0_u32;
     for row in TAKEN.lines() {
         if let Some((word, digits)) = row.split_once(' ') {
-            let message = message(rt.alloc(), word)?;
-            assert!(rt; is_taken_in(&message, digits.as_bytes()), "{row}");
+            assert!(rt; is_row(rt.alloc(), word, digits)?, "{row}");
             count = count.saturating_add(1);
         }
     }
@@ -86,13 +92,22 @@ fn stages_take(rt: HostRuntime) -> Result<(), Fail> {
     Ok(())
 }
 
-#[test]
-fn copies_messages(rt: HostRuntime) -> Result<(), NoMemory> {
+/// Whether a copy of a message is that message.
+fn copies_message(alloc: Global) -> bool {
     let message = Message::Pdu(Pdu::RestartRequest { point: 7 });
-    let copy = message.copy(rt.alloc())?;
-    assert!(rt; matches!(copy, Message::Pdu(Pdu::RestartRequest { point: 7 })));
+    matches!(
+        message.copy(alloc),
+        Ok(Message::Pdu(Pdu::RestartRequest { point: 7 }))
+    )
+}
+
+/// Whether a copy of what is sent is what is sent.
+fn copies_sent(alloc: Global) -> bool {
     let sent = Said::Element(Element::Exit);
-    let copy = sent.copy(rt.alloc())?;
-    assert!(rt; matches!(copy, Said::Element(Element::Exit)));
-    Ok(())
+    matches!(sent.copy(alloc), Ok(Said::Element(Element::Exit)))
+}
+
+#[test]
+fn copies_messages(rt: HostRuntime) {
+    assert!(rt; copies_message(rt.alloc()) && copies_sent(rt.alloc()));
 }
