@@ -1,14 +1,21 @@
 //! One call over objects in memory.
 use std::alloc::Global;
-use vf_base::{NoMemory, ScriptDial, ScriptLinks, Source, VecSink};
+use vf_base::{Dial, Links, NoMemory, ScriptDial, ScriptLinks, Sink, Source, VecSink};
 use vf_cli::ftam;
-use vf_disk::MemoryDisk;
+use vf_disk::{Disk, MemoryDisk};
 
 /// What a call printed, and its status.
 #[derive(Drop)]
 pub(crate) struct Printed {
-    pub(crate) octets: Vec<u8>,
+    out: VecSink,
     pub(crate) status: u8,
+}
+
+impl Printed {
+    /// What it printed.
+    pub(crate) fn octets(&self) -> &[u8] {
+        self.out.octets()
+    }
 }
 
 /// Calls with these words, which spaces part, on a sink whose writes of these numbers fail, from 1. The disk is empty.
@@ -32,13 +39,24 @@ pub(crate) fn call_on<I: Source>(
     failing: Vec<u64>,
 ) -> Result<(MemoryDisk, Printed), NoMemory> {
     let given = words_of(alloc, words)?;
-    let mut out = VecSink::new(alloc, failing);
     let mut links = ScriptLinks::new(alloc, Vec::new(alloc), Vec::new(alloc), Vec::new(alloc))?;
     let mut dial = ScriptDial::new(alloc, Vec::new(alloc), Vec::new(alloc))?;
-    let (disk, status) = ftam(alloc, &given, &mut links, disk, &mut dial, input, &mut out);
-    let mut octets = Vec::new(alloc);
-    octets.extend_from_slice(out.octets())?;
-    Ok((disk, Printed { octets, status }))
+    let mut out = VecSink::new(alloc, failing);
+    let (disk, status) = ended(alloc, &given, &mut links, disk, &mut dial, input, &mut out);
+    Ok((disk, Printed { out, status }))
+}
+
+/// The call over any objects, since all that the top call promises of certain ones takes long to read.
+fn ended<L: Links, D: Disk, C: Dial, I: Source, O: Sink>(
+    alloc: Global,
+    words: &Vec<String>,
+    links: &mut L,
+    disk: D,
+    dial: &mut C,
+    input: &mut I,
+    out: &mut O,
+) -> (D, u8) {
+    ftam(alloc, words, links, disk, dial, input, out)
 }
 
 /// The words, which spaces part.
@@ -52,7 +70,6 @@ pub(crate) fn words_of(alloc: Global, words: &str) -> Result<Vec<String>, NoMemo
 
 /// One number.
 pub(crate) fn only(alloc: Global, number: u64) -> Result<Vec<u64>, NoMemory> {
-    let mut numbers = Vec::new(alloc);
-    numbers.push(number)?;
+    let numbers = [number].to_vec(alloc)?;
     Ok(numbers)
 }

@@ -1,6 +1,6 @@
 //! Faults of the disk, the input and the output, through the top call. What a stop leaves is tried beside the functions of the
 //! commands, and what these read and print by `checks/commands.check`.
-use crate::call::{Printed, call_on, only};
+use crate::call::{call_on, only};
 use std::alloc::Global;
 use vf_base::{NoMemory, SliceSource};
 use vf_disk::MemoryDisk;
@@ -8,46 +8,31 @@ use vf_disk::MemoryDisk;
 /// A store of empty tables.
 pub(crate) const NEW: &[u8] = b"FTAMJNL1\0\0\0\x02\0\0\0\0\0\0\0\0\0\0\0\0!\0\0\0\0\0\0\0!\0";
 
-/// What a call over a disk answers, with the disk after it.
-fn called(
-    alloc: Global,
-    words: &str,
-    disk: MemoryDisk,
-    failing: Vec<u64>,
-) -> Result<(MemoryDisk, Printed), NoMemory> {
-    let mut input = SliceSource::new(b"ann\n", failing);
-    call_on(alloc, words, disk, &mut input, Vec::new(alloc))
+/// Words, what the disk holds, and the number of the call that fails of the disk, of the input and of the output, from 1, or 0 where
+/// none does; the status; and whether nothing is printed and the disk left as it was.
+type Row = (&'static str, &'static [u8], [u64; 3], u8, bool);
+
+const ROWS: [Row; 4] = [
+    ("init --store s", b"", [1, 0, 0], 5, true),
+    ("list --store s", NEW, [1, 0, 0], 5, true),
+    ("init --store s", b"", [0, 1, 0], 3, true),
+    ("init --store s", b"", [0, 0, 1], 4, false),
+];
+
+fn holds(alloc: Global, row: Row) -> Result<bool, NoMemory> {
+    let (words, before, failing, status, untouched) = row;
+    let of_output = only(alloc, failing[2])?;
+    let mut input = SliceSource::new(b"ann\n", only(alloc, failing[1])?);
+    let disk = MemoryDisk::of(alloc, before, only(alloc, failing[0])?)?;
+    let (disk, found) = call_on(alloc, words, disk, &mut input, of_output)?;
+    let is_untouched = found.octets().is_empty() && disk.octets() == before;
+    Ok(found.status == status && is_untouched == untouched)
 }
 
-/// A fault of the disk.
 #[test]
-fn a_disk_that_fails_is_told_by_the_status(rt: HostRuntime) -> Result<(), NoMemory> {
-    let alloc = rt.alloc();
-    for (words, before) in [("init --store s", b"".as_slice()), ("list --store s", NEW)] {
-        let disk = MemoryDisk::of(alloc, before, only(alloc, 1)?)?;
-        let (_disk, found) = called(alloc, words, disk, Vec::new(alloc))?;
-        assert!(rt; found.status == 5 && found.octets.is_empty());
+fn a_fault_is_told_by_the_status(rt: HostRuntime) -> Result<(), NoMemory> {
+    for row in ROWS {
+        assert!(rt; holds(rt.alloc(), row)?, "{}", row.0);
     }
-    Ok(())
-}
-
-/// A fault of the input.
-#[test]
-fn an_input_that_fails_is_told_by_the_status(rt: HostRuntime) -> Result<(), NoMemory> {
-    let alloc = rt.alloc();
-    let disk = MemoryDisk::of(alloc, b"", Vec::new(alloc))?;
-    let (disk, found) = called(alloc, "init --store s", disk, only(alloc, 1)?)?;
-    assert!(rt; found.status == 3 && disk.octets().is_empty());
-    Ok(())
-}
-
-/// A fault of the output.
-#[test]
-fn an_output_that_fails_is_told_by_the_status(rt: HostRuntime) -> Result<(), NoMemory> {
-    let alloc = rt.alloc();
-    let disk = MemoryDisk::of(alloc, b"", Vec::new(alloc))?;
-    let mut input = SliceSource::new(b"ann\n", Vec::new(alloc));
-    let (_disk, found) = call_on(alloc, "init --store s", disk, &mut input, only(alloc, 1)?)?;
-    assert!(rt; found.status == 4);
     Ok(())
 }

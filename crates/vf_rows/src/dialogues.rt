@@ -83,7 +83,7 @@ const ROWS: &str = "
 
 /// Whether this was printed, with the row's status.
 fn is_printed(found: &Printed, row: Row<'_>, printed: &[u8]) -> bool {
-    found.status == row.status && found.octets.as_slice() == printed
+    found.status == row.status && found.octets() == printed
 }
 
 /// Whether a row holds where its octets come so many at once, or as many as are asked for.
@@ -137,7 +137,7 @@ fn messages_cut_anywhere(rt: HostRuntime) -> Result<(), NoMemory> {
         let mut input = SliceSource::new(text.as_slice(), Vec::new(rt.alloc()));
         let found = call(rt.alloc(), "dialogue", &mut input, Vec::new(rt.alloc()))?;
         assert!(rt; found.status == 0, "{cut}");
-        assert!(rt; found.octets.as_slice() == REPLIES.as_bytes(), "{cut}");
+        assert!(rt; found.octets() == REPLIES.as_bytes(), "{cut}");
     }
     Ok(())
 }

@@ -20,7 +20,7 @@ fn is_told(alloc: Global, failing: u64) -> Result<bool, NoMemory> {
     let mut input = Sips { octets, most: 16 };
     let found = call(alloc, "dialogue", &mut input, Vec::new(alloc))?;
     let fails = failing <= READS;
-    let begins = REPLIES.as_bytes().starts_with(found.octets.as_slice());
+    let begins = REPLIES.as_bytes().starts_with(found.octets());
     let status = if fails { 3 } else { 0 };
     Ok(begins && found.status == status && input.faults() == u64::from(fails))
 }
@@ -43,7 +43,7 @@ const WRITES: &str = "
 /// Whether a call whose write of this number fails printed the beginning of this: the whole with its status, and not all of
 /// it with that of an output that fails. The first write never is all.
 fn is_cut_off(found: &Printed, status: u8, printed: &[u8], failing: u64) -> bool {
-    let octets = found.octets.as_slice();
+    let octets = found.octets();
     let whole = octets == printed;
     let wanted = if whole { status } else { 4 };
     printed.starts_with(octets) && found.status == wanted && (failing > 1 || !whole)

@@ -61,8 +61,7 @@ fn on(alloc: Global, octets: &[u8]) -> Result<MemoryDisk, Fail> {
 }
 
 fn only(alloc: Global, number: u64) -> Result<Vec<u64>, Fail> {
-    let mut numbers = Vec::new(alloc);
-    numbers.push(number)?;
+    let numbers = [number].to_vec(alloc)?;
     Ok(numbers)
 }
 

@@ -4,33 +4,49 @@ use std::test::Fail;
 use vf_base::{BaseError, Name};
 use vf_tables::{User, Users};
 
-/// A name of one letter.
-fn name(alloc: Global, letter: u8) -> Result<Name, BaseError> {
-    Name::of(alloc, &[letter])
+/// What is done with users: nothing, they are copied, the second gets another name, or it goes.
+#[derive(Clone, Copy)]
+enum Act {
+    Stay,
+    Copy,
+    Replace(u8),
+    Remove,
 }
 
-/// Puts a user of this name after the others.
-fn put(alloc: Global, users: &mut Users, letter: u8) -> Result<(), BaseError> {
-    let identity = name(alloc, letter)?;
-    let user = User {
+/// Users of one letter each, put one after another, and whether no two of them are known to be equal; what is done with them,
+/// and who they are then; and the place at which the first of a name is found.
+type Row = (&'static [u8], bool, Act, &'static [u8], u8, Option<usize>);
+
+const ROWS: [Row; 10] = [
+    (b"acb", true, Act::Stay, b"acb", b'b', Some(2)),
+    (b"ac", true, Act::Stay, b"ac", b'b', None),
+    (b"abab", false, Act::Stay, b"abab", b'b', Some(1)),
+    (b"aacb", false, Act::Stay, b"aacb", b'b', Some(3)),
+    (b"abc", true, Act::Copy, b"abc", b'c', Some(2)),
+    (b"aba", false, Act::Copy, b"aba", b'a', Some(0)),
+    (b"abc", true, Act::Replace(b'd'), b"adc", b'd', Some(1)),
+    // that name is another's already
+    (b"abc", true, Act::Replace(b'c'), b"acc", b'c', Some(1)),
+    // the others keep their order
+    (b"abcd", true, Act::Remove, b"acd", b'c', Some(1)),
+    (b"abcb", false, Act::Remove, b"acb", b'c', Some(1)),
+];
+
+/// The user of a letter.
+fn user_of(alloc: Global, letter: u8) -> Result<User, BaseError> {
+    let identity = Name::of(alloc, &[letter])?;
+    Ok(User {
         identity,
         password: None,
-    };
-    users.push(user)?;
-    Ok(())
-}
-
-fn put_all(alloc: Global, users: &mut Users, letters: &[u8]) -> Result<(), BaseError> {
-    for letter in letters {
-        put(alloc, users, *letter)?;
-    }
-    Ok(())
+    })
 }
 
 /// Users of these names, put one after another.
 fn users_of(alloc: Global, letters: &[u8]) -> Result<Users, BaseError> {
     let mut users = Users::new(alloc);
-    put_all(alloc, &mut users, letters)?;
+    for letter in letters {
+        users.push(user_of(alloc, *letter)?)?;
+    }
     Ok(users)
 }
 
@@ -45,123 +61,58 @@ fn are(users: &Users, letters: &[u8]) -> bool {
 }
 
 /// Whether the first user of this name is found at this place, or none where there is none.
-fn is_found(users: &Users, name: &Name, place: Option<usize>) -> bool {
-    users.place_of(name) == place && users.with_name(name).is_some() == place.is_some()
+fn is_found(
+    alloc: Global,
+    users: &Users,
+    letter: u8,
+    place: Option<usize>,
+) -> Result<bool, BaseError> {
+    let name = Name::of(alloc, &[letter])?;
+    Ok(users.place_of(&name) == place && users.with_name(&name).is_some() == place.is_some())
 }
 
-/// Whether of users of these names, put one after another, the first `b` is found at this place.
-fn finds(alloc: Global, letters: &[u8], b: &Name, place: Option<usize>) -> Result<bool, Fail> {
-    let users = users_of(alloc, letters)?;
-    Ok(is_found(&users, b, place))
-}
-
-#[test]
-fn a_user_is_found_by_its_name(rt: HostRuntime) -> Result<(), Fail> {
-    let alloc = rt.alloc();
-    let b = name(alloc, b'b')?;
-    assert!(rt; finds(alloc, b"acb", &b, Some(2))?);
-    assert!(rt; finds(alloc, b"ac", &b, None)?);
-    Ok(())
-}
-
-#[test]
-fn the_first_of_equal_names_is_found(rt: HostRuntime) -> Result<(), Fail> {
-    let alloc = rt.alloc();
-    let b = name(alloc, b'b')?;
-    assert!(rt; finds(alloc, b"abab", &b, Some(1))?);
-    assert!(rt; finds(alloc, b"aacb", &b, Some(3))?);
-    Ok(())
-}
-
-/// Whether no two of these names are known to be equal.
-fn differ(alloc: Global, letters: &[u8]) -> Result<bool, Fail> {
-    let users = users_of(alloc, letters)?;
-    Ok(users.are_distinct())
-}
-
-#[test]
-fn names_are_known_to_differ_until_two_are_equal(rt: HostRuntime) -> Result<(), Fail> {
-    let alloc = rt.alloc();
-    assert!(rt; differ(alloc, b"abc")?);
-    assert!(rt; !differ(alloc, b"aba")?);
-    Ok(())
-}
-
-/// Gives the second user this name.
-fn replace(alloc: Global, users: &mut Users, letter: u8) -> Result<(), Fail> {
-    if users.len() < 2 {
-        return Err(Fail::from("no second user"));
+/// Gives the second user the name of a letter.
+fn replace(alloc: Global, users: &mut Users, letter: u8) -> Result<(), BaseError> {
+    let user = user_of(alloc, letter)?;
+    if users.len() > 1 {
+        users.replace(1, user)?;
     }
-    let identity = name(alloc, letter)?;
-    let user = User {
-        identity,
-        password: None,
-    };
-    users.replace(1, user)?;
     Ok(())
 }
 
-/// Whether the users have these names, when the second gets this one, by which it is found there.
-fn replaces(alloc: Global, users: &mut Users, new: u8, after: &[u8]) -> Result<bool, Fail> {
-    replace(alloc, users, new)?;
-    let name = name(alloc, new)?;
-    Ok(are(users, after) && is_found(users, &name, Some(1)))
-}
-
-/// The same of users of other names.
-fn replaces_of(alloc: Global, before: &[u8], new: u8, after: &[u8]) -> Result<bool, Fail> {
-    let mut users = users_of(alloc, before)?;
-    replaces(alloc, &mut users, new, after)
-}
-
-#[test]
-fn a_user_gets_another_name_in_its_place(rt: HostRuntime) -> Result<(), Fail> {
-    let alloc = rt.alloc();
-    assert!(rt; replaces_of(alloc, b"abc", b'd', b"adc")?);
-    // that name is another's already
-    assert!(rt; replaces_of(alloc, b"abc", b'c', b"acc")?);
+/// Makes a copy, which stands in the place of the users.
+fn copy(alloc: Global, users: &mut Users) -> Result<(), BaseError> {
+    *users = users.copy(alloc)?;
     Ok(())
 }
 
-/// Whether the users have these names, when the second goes, and `c` is found at its place then.
-fn removes(users: &mut Users, after: &[u8], c: &Name) -> bool {
-    if users.len() < 2 {
-        return false;
+fn do_to(alloc: Global, users: &mut Users, act: Act) -> Result<(), BaseError> {
+    match act {
+        Act::Stay => Ok(()),
+        Act::Copy => copy(alloc, users),
+        Act::Replace(letter) => replace(alloc, users, letter),
+        Act::Remove => {
+            if users.len() > 1 {
+                users.remove(1);
+            }
+            Ok(())
+        }
     }
-    users.remove(1);
-    are(users, after) && is_found(users, c, Some(1))
 }
 
-/// The same of users of other names.
-fn removes_of(alloc: Global, before: &[u8], after: &[u8], c: &Name) -> Result<bool, Fail> {
+fn holds(alloc: Global, row: Row) -> Result<bool, BaseError> {
+    let (before, distinct, act, after, letter, place) = row;
     let mut users = users_of(alloc, before)?;
-    Ok(removes(&mut users, after, c))
+    let is_distinct = users.are_distinct();
+    do_to(alloc, &mut users, act)?;
+    let is_found = is_found(alloc, &users, letter, place)?;
+    Ok(is_distinct == distinct && is_found && are(&users, after))
 }
 
 #[test]
-fn a_user_goes_and_the_others_keep_their_order(rt: HostRuntime) -> Result<(), Fail> {
-    let alloc = rt.alloc();
-    let c = name(alloc, b'c')?;
-    assert!(rt; removes_of(alloc, b"abcd", b"acd", &c)?);
-    assert!(rt; removes_of(alloc, b"abcb", b"acb", &c)?);
-    Ok(())
-}
-
-/// Whether a copy of users has these names.
-fn copies(alloc: Global, users: &Users, letters: &[u8]) -> Result<bool, Fail> {
-    let copy = users.copy(alloc)?;
-    Ok(are(&copy, letters))
-}
-
-/// Whether a copy of users of these names has the same ones.
-fn copies_of(alloc: Global, letters: &[u8]) -> Result<bool, Fail> {
-    let users = users_of(alloc, letters)?;
-    copies(alloc, &users, letters)
-}
-
-#[test]
-fn users_are_copied(rt: HostRuntime) -> Result<(), Fail> {
-    assert!(rt; copies_of(rt.alloc(), b"abc")?);
-    assert!(rt; copies_of(rt.alloc(), b"aba")?);
+fn users_are_found_copied_replaced_and_removed(rt: HostRuntime) -> Result<(), Fail> {
+    for (number, row) in ROWS.iter().enumerate() {
+        assert!(rt; holds(rt.alloc(), *row)?, "{number}");
+    }
     Ok(())
 }

@@ -15,7 +15,7 @@ use two_values::choose;
 #[test]
 fn a_disk_in_memory_gives_what_was_written(rt: HostRuntime) -> Result<(), Fail> {
     let alloc = rt.alloc();
-    let mut disk = MemoryDisk::of(alloc, b"abc", [5].to_vec(alloc)?)?;
+    let mut disk = MemoryDisk::of(alloc, b"abc", [6].to_vec(alloc)?)?;
     assert!(rt; works(&mut disk));
     let mut disk = disk.copy(alloc)?;
     assert!(rt; disk.octets() == b"aXY".as_slice() && !disk.lacked());
@@ -108,19 +108,27 @@ fn fails(disk: FileDisk<'_>) -> bool {
     disk.len().is_err() && disk.sync().is_err() && disk.faults() == 2
 }
 
-/// Writes past the end, reads, syncs twice, since the first may be planned to fail, cuts and syncs.
+/// Writes, reads, cuts and syncs.
 fn works<D: Disk>(disk: &mut D) -> bool {
+    writes(disk) && cuts(disk)
+}
+
+/// Writes past the end, and reads.
+fn writes<D: Disk>(disk: &mut D) -> bool {
     let Ok(length) = disk.len() else { return false };
     if length != 3 || disk.write_at(1, b"XYZ").is_err() {
         return false;
     }
     let Ok(length) = disk.len() else { return false };
     let mut octets = [0; 2];
-    if length != 4 || disk.read(2, &mut octets).is_err() {
-        return false;
-    }
+    length == 4 && disk.read(2, &mut octets).is_ok() && octets == *b"YZ"
+}
+
+/// Syncs twice, since the first may be planned to fail, and cuts between.
+fn cuts<D: Disk>(disk: &mut D) -> bool {
+    let Ok(length) = disk.len() else { return false };
     let _ = disk.sync();
-    octets == *b"YZ" && disk.cut(3).is_ok() && disk.sync().is_ok()
+    length == 4 && disk.cut(3).is_ok() && disk.sync().is_ok()
 }
 
 /// A call on a disk in memory.

@@ -1,11 +1,19 @@
 //! Rows of both ends' messages: what the other end says, or the octets that come from it, and after `=` what it is told then,
-//! after `|` the changes of the kept task, and after `!` how the task stands, where it isn't going on.
-use crate::ends::{Ends, keep};
-use crate::tasks::plan_of;
+//! after `|` the changes of the kept task, and after `!` how the task stands, where it isn't going on. The other end is a called
+//! stack.
 use std::alloc::Global;
 use std::test::Fail;
 use vf_initiator::{KeptTask, Plan};
 use vf_tables::Tables;
+
+mod ends;
+mod octets;
+mod requests;
+mod shown;
+mod tasks;
+
+use ends::{Ends, keep};
+use tasks::plan_of;
 
 /// Three strings, a check behind every second one, without an activity.
 const PUT: &str = "
@@ -219,12 +227,13 @@ struct Rows {
 
 impl Rows {
     fn new(alloc: Global, pieces: usize) -> Result<Rows, Fail> {
+        let text = String::from_str(alloc, "\n")?;
         Ok(Rows {
             tables: Tables::new(alloc),
             plan: None,
             ends: None,
             pieces,
-            text: String::from_str(alloc, "\n")?,
+            text,
         })
     }
 

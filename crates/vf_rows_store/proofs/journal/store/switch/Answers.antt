@@ -3,7 +3,7 @@ use Rattle.vf_journal.specs.declared.placing.Placing.{Placing}
 use Rattle.vf_journal.specs.JournalState.{new_start, placing}
 use Rattle.vf_journal.proofs.Lengths.{length-area_with}
 use Rattle.vf_journal.proofs.Planned.{planned}
-use Rattle.vf_rows_disk.proofs.journal.store.switch.Goals as goal
+use Rattle.vf_rows_store.proofs.journal.store.switch.Goals as goal
 
 pub prepare-requires-clause-planned : goal.prepare-requires-clause-planned
 prepare-requires-clause-planned g c =

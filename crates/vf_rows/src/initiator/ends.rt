@@ -1,8 +1,8 @@
 //! An initiator, the store's tables in which its task is kept, and the other end.
-use crate::octets::octets_of;
-use crate::requests::request_of;
-use crate::shown::{show_changes, show_doing, show_elements, show_told};
-use crate::tasks::kept_first;
+use crate::initiator::octets::octets_of;
+use crate::initiator::requests::request_of;
+use crate::initiator::shown::{show_changes, show_doing, show_elements, show_told};
+use crate::initiator::tasks::kept_first;
 use std::alloc::Global;
 use std::test::Fail;
 use vf_base::Sequence;

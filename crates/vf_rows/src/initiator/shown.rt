@@ -1,5 +1,5 @@
 //! What the other end is told, how a task is kept, and how it stands, in words.
-use crate::octets::show_all;
+use crate::initiator::octets::show_all;
 use std::alloc::Global;
 use std::test::Fail;
 use vf_base::Element;

@@ -1,5 +1,5 @@
 //! Tasks in rows: `put` or `get`, the kind, `every`, the activity or `-`, and of a put its elements in digits.
-use crate::requests::element_of;
+use crate::initiator::requests::element_of;
 use std::alloc::Global;
 use std::test::Fail;
 use vf_base::{Elements, Name, Sequence};
@@ -56,12 +56,17 @@ pub(crate) fn plan_of(alloc: Global, words: &str) -> Result<Plan, Fail> {
     })
 }
 
-/// The row of a task that is new.
-fn new_row(alloc: Global, plan: &Plan, activity: u32) -> Result<KeptPlan, Fail> {
-    let (way, kind, every) = match &plan.task {
+/// The way of a task, its kind, and the elements between its checkpoints.
+fn form_of(task: &Task) -> (Way, u8, u32) {
+    match task {
         Task::Put { kind, every, .. } => (Way::Put, *kind, *every),
         Task::Get { kind, every, .. } => (Way::Get, *kind, *every),
-    };
+    }
+}
+
+/// The row of a task that is new.
+fn new_row(alloc: Global, plan: &Plan, activity: u32) -> Result<KeptPlan, Fail> {
+    let (way, kind, every) = form_of(&plan.task);
     let file = Name::of(alloc, b"a")?;
     let identity = plan.identity.copy(alloc)?;
     Ok(KeptPlan {

@@ -1,6 +1,6 @@
 //! Requests of the other end in rows: a name with `+` or `-` for sync, a serial number, and after a colon the digits of a PDU
 //! or of a data element, as `Accept+:A10381010F`, `Acknowledge2` and `Item:AB00`.
-use crate::octets::octets_of;
+use crate::initiator::octets::octets_of;
 use std::alloc::Global;
 use std::test::Fail;
 use vf_base::Element;

@@ -1,7 +1,7 @@
 //! A caller that is proved from the trait's clauses alone: three octets stand for one of two values, by the first.
 ghost use Rattle.std.specs.Prelude.{◌≡◌, ◌⊎◌, [], ◌∷◌, Some, ℕ, OnOk};
 ghost use Rattle.vf_disk.specs.Disk.{LeavesOnly, LeavesShown};
-ghost use Rattle.vf_rows_disk.specs.Value.{value_of};
+ghost use Rattle.vf_rows_store.specs.Value.{value_of};
 
 use vf_base::Failed;
 use vf_disk::Disk;

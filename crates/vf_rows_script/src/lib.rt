@@ -1,5 +1,0 @@
-//! Scripts of incarnations, as they are read of objects in memory.
-#![tactic(auto)]
-
-#[cfg(test)]
-mod scripts;
