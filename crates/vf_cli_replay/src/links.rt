@@ -58,7 +58,10 @@ impl Links {
     pub(crate) fn close(self) -> MemoryDisk
         ensures { result ≡ self.responder.store.disk }
     {
-        let Links { responder, callers: _ } = self;
+        let Links {
+            responder,
+            callers: _,
+        } = self;
         responder.close()
     }
 
