@@ -1,5 +1,5 @@
 -- What a calling end hears: octets one by one, few at once, and any number of them.
-use Rattle.std.proofs.Common.{◌≡◌, ◌<◌, ◌≤◌, ◌⊎◌, ℕ, suc, ◌+◌, Bool, true, false, List, [], ◌∷◌, ◌++◌, Option, Some, None, length, drop, get_or, refl, sym, ap, subst, ◌∙◌, append_assoc, append-nil, arith, inl, inr, drop-cons}
+use Rattle.std.proofs.Common.{◌≡◌, ◌<◌, ◌≤◌, ◌⊎◌, ℕ, suc, ◌+◌, Bool, true, false, List, [], ◌∷◌, ◌++◌, Option, Some, None, length, drop, get_or, refl, sym, ap, subst, ◌∙◌, append_assoc, add-one, append-nil, arith, inl, inr, drop-cons}
 use Rattle.std.specs.Prelude.{if◌then◌else◌}
 use Rattle.std.proofs.Math.ListN.{drop_of_length-le}
 use Rattle.vf_session.specs.declared.units.TokenSide.{TokenSide}
@@ -147,7 +147,7 @@ pub told_next : (link : ℕ) (calling : Calling) (indications : List Indication)
     → ((now : Calling) → Represents caller now → IsRead indication → Tells link (noted now indication) indication text' caller' text'')
     → ToldOnward link calling indications text caller' text'' (drop (place + 1) indications)
 told_next link calling indications text caller text' caller' text'' indication place within there before one =
-    let more : suc place ≡ place + 1 = omega arith in
+    let more : suc place ≡ place + 1 = sym (add-one place) in
     let first : drop place indications ≡ indication ∷ drop (place + 1) indications =
     drop-cons indications place indication within ∙ (ap (λ (i : Indication). i ∷ drop (suc place) indications) (sym there) ∙ ap (λ (n : ℕ). indication ∷ drop n indications) more) in
     told_one link calling indications text caller text' caller' text'' indication (drop (place + 1) indications)

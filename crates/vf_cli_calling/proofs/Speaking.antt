@@ -1,5 +1,5 @@
 -- What a calling end says: requests, messages, and messages one after another.
-use Rattle.std.proofs.Common.{◌≡◌, ◌<◌, ◌≤◌, ℕ, suc, ◌+◌, Bool, true, false, List, [], ◌∷◌, ◌++◌, Option, Some, None, length, drop, get_or, refl, sym, ap, subst, ◌∙◌, append_assoc, append-nil, arith, inl, inr, drop-cons}
+use Rattle.std.proofs.Common.{◌≡◌, ◌<◌, ◌≤◌, ℕ, suc, ◌+◌, Bool, true, false, List, [], ◌∷◌, ◌++◌, Option, Some, None, length, drop, get_or, refl, sym, ap, subst, ◌∙◌, append_assoc, append-nil, add-one, inl, inr, drop-cons}
 use Rattle.std.specs.Option.{option_map}
 use Rattle.std.specs.Prelude.{if◌then◌else◌}
 use Rattle.std.proofs.Math.ListN.{drop_of_length-le}
@@ -166,7 +166,7 @@ pub says_next : (calling : Calling) (messages : List Message) (out : List ℕ) (
     → SaysOnward calling messages out caller out' (drop place messages) → ((now : Calling) → Represents caller now → Speaks (Says now message) out' caller' out'')
     → SaysOnward calling messages out caller' out'' (drop (place + 1) messages)
 says_next calling messages out caller out' caller' out'' message place within there before one =
-    let more : suc place ≡ place + 1 = omega arith in
+    let more : suc place ≡ place + 1 = sym (add-one place) in
     let first : drop place messages ≡ message ∷ drop (place + 1) messages =
     drop-cons messages place message within ∙ (ap (λ (m : Message). m ∷ drop (suc place) messages) (sym there) ∙ ap (λ (n : ℕ). message ∷ drop n messages) more) in
     says_one calling messages out caller out' caller' out'' message (drop (place + 1) messages)

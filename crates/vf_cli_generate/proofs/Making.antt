@@ -1,5 +1,5 @@
 -- A link that arrives, a file that is made on it, and files that are made one after another.
-use Rattle.std.proofs.Common.{◌≡◌, ◌∙◌, ℕ, suc, ◌+◌, ◌≤◌, List, [], ◌∷◌, ◌++◌, Option, Ok, Err, OnOk, inl, inr, ⊎_elim, ap, append-nil, refl, sym, subst, arith}
+use Rattle.std.proofs.Common.{◌≡◌, ◌∙◌, ℕ, suc, ◌+◌, ◌<◌, ◌≤◌, add-one, le_trans, List, [], ◌∷◌, ◌++◌, Option, Ok, Err, OnOk, inl, inr, ⊎_elim, ap, append-nil, refl, sym, subst, arith}
 use Rattle.vf_base.specs.declared.events.ScriptEvent.{ScriptEvent}
 use Rattle.vf_base.specs.declared.events.ScriptEvent.TheVariants.{Arrived}
 use Rattle.vf_disk.proofs.Runs.{weaker}
@@ -26,7 +26,17 @@ use Rattle.vf_cli_generate.specs.Drawing.{after_files, contents_after, name_of}
 use Rattle.vf_cli_generate.specs.Generating.{AlongFront, Answer, ArrivalFront, Both, FrontOfFile, FrontOfFiles, Goes, HasCalled, HasSaid, IsCalling, IsFullOf, MakesFile, MakesFiles, MakesWell, SaysFront, arrivals, arrived, coming, good}
 use Rattle.vf_cli_generate.specs.Requests.{requests_for}
 
--- the link has arrived, and nothing has come on it
+-- ---- COUNTS, apart from the large facts beside which they are needed
+none_at_most : (count : ℕ) → 0 ≤ count
+none_at_most count = omega arith
+
+at_most_next : (count : ℕ) → count ≤ suc count
+at_most_next count = omega arith
+
+pub next_within : (made count : ℕ) → made < count → made + 1 ≤ count
+next_within made count less = omega arith
+
+-- ---- A LINK has arrived, and nothing has come on it.
 abbrev pub HasCome : (link : ℕ) → Serving → List ScriptEvent → Serving → Type 0
 HasCome link serving events serving' = (events ≡ Arrived link ∷ []) × (serving' ≡ at_end serving (trail (Arrived link) serving))
 
@@ -100,7 +110,7 @@ module _ {D : Type 0} (shown : D → Option (List ℕ)) (may_leave : D → List 
       → IsRepresented shown may_leave old.store → Goes shown may_leave moment left_since (MakesFiles number 0 serving) (FrontOfFiles number 0 serving) serving old old good
   goes_no_file only_now number serving old represents stands =
       goes_nowhere shown may_leave moment left_since only_now (MakesFiles number 0 serving) (FrontOfFiles number 0 serving) serving old (refl, refl)
-      (0, [], [], serving, (omega arith, (refl, refl), inl refl, refl)) represents stands
+      (0, [], [], serving, (none_at_most 0, (refl, refl), inl refl, refl)) represents stands
 
   more_files : (number made : ℕ) (serving : Serving) (old mid new : Kept D) (answer : Answer)
       → Goes shown may_leave moment left_since (MakesFiles number made serving) (FrontOfFiles number made serving) serving old mid good
@@ -114,8 +124,8 @@ module _ {D : Type 0} (shown : D → Option (List ℕ)) (may_leave : D → List 
       goes_by shown may_leave moment left_since (MakesFile (after_files number made) (made + 1) between) (λ later serving'. MakesFiles number (suc made) serving (events ++ later) serving')
       (FrontOfFile (after_files number made) (made + 1) between) (λ later. FrontOfFiles number (suc made) serving (events ++ later)) between mid new answer (next between represents stands)
       (λ later serving' one. (events, later, between, (all, one, refl)))
-      (λ later front. (made, events, later, between, (omega arith, all, front, refl))))
-      (λ events front. (front.0, front.1, front.2, front.3, (omega (arith, front.4.0), front.4.1, front.4.2, front.4.3)))
+      (λ later front. (made, events, later, between, (at_most_next made, all, front, refl))))
+      (λ events front. (front.0, front.1, front.2, front.3, (le_trans front.4.0 (at_most_next made), front.4.1, front.4.2, front.4.3)))
 
   pub goes_one_file : (number made : ℕ) (serving : Serving) (old mid new : Kept D) (answer : Answer)
       → Goes shown may_leave moment left_since (MakesFiles number made serving) (FrontOfFiles number made serving) serving old mid good
@@ -123,8 +133,7 @@ module _ {D : Type 0} (shown : D → Option (List ℕ)) (may_leave : D → List 
       → Goes shown may_leave moment left_since (MakesFile (after_files number made) (made + 1) between) (FrontOfFile (after_files number made) (made + 1) between) between mid new answer)
       → Goes shown may_leave moment left_since (MakesFiles number (made + 1) serving) (FrontOfFiles number (made + 1) serving) serving old new answer
   goes_one_file number made serving old mid new answer first next =
-      let one : made + 1 ≡ suc made = omega arith in
-      subst (λ (n : ℕ). Goes shown may_leave moment left_since (MakesFiles number n serving) (FrontOfFiles number n serving) serving old new answer) (sym one)
+      subst (λ (n : ℕ). Goes shown may_leave moment left_since (MakesFiles number n serving) (FrontOfFiles number n serving) serving old new answer) (sym (add-one made))
       (more_files number made serving old mid new answer first next)
 
   pub goes_fewer : (number made count : ℕ) (serving : Serving) (old new : Kept D) (error : JournalError) → made ≤ count
@@ -133,9 +142,9 @@ module _ {D : Type 0} (shown : D → Option (List ℕ)) (may_leave : D → List 
       → Goes shown may_leave moment left_since (MakesFiles number count serving) (FrontOfFiles number count serving) serving old new (let answer : Answer = Err error in answer)
   goes_fewer number made count serving old new error within run_on full = record {
     any_moment = weaker moment left_since old.store.disk new.store.disk (AlongFront (FrontOfFiles number made serving) serving) (AlongFront (FrontOfFiles number count serving) serving) run_on
-        (λ image along. (along.0, (let front = along.1 in (front.0, front.1, front.2, front.3, (omega (arith, front.4.0, within), front.4.1, front.4.2, front.4.3))), along.2));
+        (λ image along. (along.0, (let front = along.1 in (front.0, front.1, front.2, front.3, (le_trans front.4.0 within, front.4.1, front.4.2, front.4.3))), along.2));
     full = full-to error (IsFullOf (FrontOfFiles number made serving) serving new.store) (IsFullOf (FrontOfFiles number count serving) serving new.store) full
-        (λ place at. (at.0, at.1, (let front = at.2 in (front.0, front.1, front.2, front.3, (omega (arith, front.4.0, within), front.4.1, front.4.2, front.4.3))), at.3));
+        (λ place at. (at.0, at.1, (let front = at.2 in (front.0, front.1, front.2, front.3, (le_trans front.4.0 within, front.4.1, front.4.2, front.4.3))), at.3));
     done = tt;
   }
 
@@ -158,9 +167,9 @@ module _ {D : Type 0} (shown : D → Option (List ℕ)) (may_leave : D → List 
 
 -- the numbers drawn for one file more
 pub after_more : (number made : ℕ) → after_files number (made + 1) ≡ after_files number (suc made)
-after_more number made = let one : made + 1 ≡ suc made = omega arith in ap (after_files number) one
+after_more number made = ap (after_files number) (add-one made)
 
 -- an image that represents the tables with which the responder begins
 pub at_first : (number count : ℕ) (serving : Serving) (tables : Tables) (image : List ℕ) → IsBegun tables serving → ImageRepresents image tables → AlongFront (FrontOfFiles number count serving) serving image
 at_first number count serving tables image begun represents =
-    ([], (0, [], [], serving, (omega arith, (refl, refl), inl refl, refl)), (0, subst (λ (t : Tables). ImageRepresents image t) (sym begun.begins.kept) represents))
+    ([], (0, [], [], serving, (none_at_most count, (refl, refl), inl refl, refl)), (0, subst (λ (t : Tables). ImageRepresents image t) (sym begun.begins.kept) represents))

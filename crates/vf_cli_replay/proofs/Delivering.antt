@@ -1,6 +1,7 @@
 -- What an event that comes to the responder comes to: its answers are heard, or it can't go on.
 use Rattle.std.proofs.Common.{◌≡◌, ℕ, ◌≤◌, length, List, [], Option, None, Some, Result, Ok, Err, IfOk, arith, refl, sym, subst}
 use Rattle.std.proofs.lemmas.List.{take_all}
+use Rattle.std.proofs.lemmas.Option.{none-some, same_Some}
 use Rattle.vf_base.specs.declared.events.ScriptEvent.{ScriptEvent}
 use Rattle.vf_base.specs.declared.events.ScriptEvent.TheVariants.{Octets}
 use Rattle.vf_cli_calling.specs.Calling.{Calling}
@@ -52,10 +53,10 @@ leaves : (serving : Serving) (event : ScriptEvent) (old new : Memory)
 leaves serving event old new run = record { each = λ image left. run.each image (left_now new (length old.steps) image run.later left) }
 
 halts_so : (error : JournalError) (halt : Halt) (commits : List Commit) (old new : StoreState Memory) → halt_by error ≡ Some halt → AreMadeUpTo tells error commits old new → Halted halt commits old new
-halts_so DiskFault halt commits old new is up = let it : halts.Stopped ≡ halt = cc in subst (λ (h : Halt). Halted h commits old new) it up
-halts_so (Full length limit) halt commits old new is up = let it : halts.Full ≡ halt = cc in subst (λ (h : Halt). Halted h commits old new) it (length, limit, up)
-halts_so NoMemory halt commits old new is up = absurd cc
-halts_so (NotAStore place found expected) halt commits old new is up = absurd cc
+halts_so DiskFault halt commits old new is up = subst (λ (h : Halt). Halted h commits old new) (same_Some halts.Stopped halt is) up
+halts_so (Full length limit) halt commits old new is up = subst (λ (h : Halt). Halted h commits old new) (same_Some halts.Full halt is) (length, limit, up)
+halts_so NoMemory halt commits old new is up = absurd (none-some halt is)
+halts_so (NotAStore place found expected) halt commits old new is up = absurd (none-some halt is)
 
 pub comes_to_halt : (running : Running) (event : ScriptEvent) (text : List ℕ) (store : StoreState Memory) (error : JournalError) (halt : Halt) (links : Links) → halt_by error ≡ Some halt
     → LeavesOnly (λ (disk : Memory). length disk.steps) LeftSince store.disk links.responder.store.disk (RepresentsAlong running.serving (trail event running.serving))

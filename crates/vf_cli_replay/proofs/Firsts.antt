@@ -1,16 +1,18 @@
 -- The disk of a script before its first life.
 use Rattle.std.proofs.Common.{◌≡◌, ◌∙◌, ℕ, zero, suc, ◌<◌, ◌≤◌, true, false, List, [], ◌∷◌, None, Some, Result, Ok, Err, IfOk, length, ap, refl, arith, sym, subst}
+use Rattle.std.proofs.lemmas.Option.{same_Some}
 use Rattle.vf_base.specs.declared.errors.NoMemory.{NoMemory as OutOfMemory}
-use Rattle.vf_disk.specs.Calls.{MakesChanges, after_changes}
+use Rattle.vf_disk.specs.Calls.{MakesChanges, SyncsAndLooks, after_changes}
 use Rattle.vf_disk.specs.Disk.{LeavesShown}
 use Rattle.vf_disk.specs.Memory.{Memory, fresh, state as state_of}
 use Rattle.vf_disk.specs.Plans.{StopPlan, counted_down, planned}
 use Rattle.vf_disk.specs.State.{State as DiskState, left_by, settled}
-use Rattle.vf_disk.specs.Steps.{MakesSteps}
+use Rattle.vf_disk.specs.Steps.{LeavesState, MakesSteps, ending_of}
 use Rattle.vf_disk.specs.declared.crash_form.CrashForm.TheVariants.{Keep}
+use Rattle.vf_disk.specs.declared.step.Step.TheVariants.{Synced}
 use Rattle.vf_filestore.specs.Runs.{beginning}
 use Rattle.vf_incarnations.proofs.Lives.{new_stores_begin}
-use Rattle.vf_journal.specs.JournalState.{when_opened}
+use Rattle.vf_journal.specs.JournalState.{JournalState, when_opened}
 use Rattle.vf_journal.specs.Layout.{new_journal}
 use Rattle.vf_responder.specs.Commits.{AreMade, Commit}
 use Rattle.vf_store.specs.Commit.{AreFitting, after_commit, commit_steps, placed}
@@ -48,18 +50,29 @@ first_keeps users store left image good tables stands is may synced =
       begins = new_stores_begin users good.valid good.ranged;
     }
 
+-- It is crashed. What it leaves is a variable, since the checker would else compute the image of the first disk at each step.
+crashes_to : (users : List User) (store : StoreState Memory) (disk : Memory) (image : List ℕ) (answer : Result Memory OutOfMemory) → AreGood users
+    → store.tables ≡ users_alone users → IsRepresented shown may_leave store → left_by Keep (state_of store.disk) ≡ image → disk ≡ store.disk
+    → IfOk answer (λ left. left ≡ fresh (left_by Keep (state_of disk)) []) → IfOk answer (λ left. may_leave disk left.first) → IfOk answer (λ left. LeavesShown (Some left.first) (may_leave left))
+    → IfOk answer (λ left. Keeps left image (beginning users []))
+crashes_to users store disk image (Ok left) good tables stands leaves same is may synced =
+    let kept : left_by Keep (state_of disk) ≡ image = ap (λ (d : Memory). left_by Keep (state_of d)) same ∙ leaves in
+    first_keeps users store left image good tables stands (is ∙ ap (λ (o : List ℕ). fresh o []) kept) (subst (λ (d : Memory). may_leave d left.first) same may) synced
+crashes_to users store disk image (Err error) good tables stands leaves same is may synced = tt
+
 pub first_crashes : (users : List User) (store : StoreState Memory) (disk : Memory) (answer : Result Memory OutOfMemory) → AreGood users
     → (store.tables ≡ users_alone users) × IsRepresented shown may_leave store × IsFirst users store → disk ≡ store.disk
     → IfOk answer (λ left. left ≡ fresh (left_by Keep (state_of disk)) []) → IfOk answer (λ left. may_leave disk left.first) → IfOk answer (λ left. LeavesShown (Some left.first) (may_leave left))
     → IfOk answer (λ left. Keeps left (first_image users) (beginning users []))
-first_crashes users store disk (Ok left) good has same is may synced =
-    let image : left_by Keep (state_of disk) ≡ first_image users = ap (λ (d : Memory). left_by Keep (state_of d)) same ∙ ap (left_by Keep) has.2 in
-    first_keeps users store left (first_image users) good has.0 has.1 (is ∙ ap (λ (o : List ℕ). fresh o []) image) (subst (λ (d : Memory). may_leave d left.first) same may) synced
-first_crashes users store disk (Err error) good has same is may synced = tt
+first_crashes users store disk answer good has same is may synced =
+    crashes_to users store disk (first_image users) answer good has.0 has.1 (ap (left_by Keep) has.2) same is may synced
 
 pub no_users : (users : List User) → length users ≡ 0 → users ≡ []
 no_users [] none = refl
 no_users (user ∷ users) none = absurd (omega (arith, none))
+
+pub some_users : (users : List User) (count : ℕ) → count ≡ length users → (count ≡ 0 → ⊥) → 0 < length users
+some_users users count is some = omega arith
 
 -- ---- THE COMMIT of the users
 pub users_fit : (tables : Tables) (changes : List Change) (users : List User) → SnapshotMakes → AreGood users → tables ≡ no_tables → changes ≡ snapshot (users_alone users)
@@ -79,15 +92,23 @@ first_commit : (users : List User) → 0 < length users → first_commits users 
 first_commit [] some = absurd (omega (arith, some))
 first_commit (user ∷ users) some = refl
 
+-- The calls and the state that they begin with are variables, for the same reason.
+first_by : (calls : Calls) (begun : DiskState) (commits : List Commit) (store new : StoreState Memory) → calls_by store.journal commits ≡ calls → state_of store.disk ≡ begun → HasNone store.disk.plan None
+    → AreMade tells commits store new → state_of new.disk ≡ (ending_of calls.steps (planned []) begun).state
+first_by calls begun commits store new are state has made =
+    let there : Comes calls store.disk.plan begun (state_of new.disk) Through =
+    subst (λ (s : DiskState). Comes calls store.disk.plan s (state_of new.disk) Through) state
+    (subst (λ (k : Calls). Comes k store.disk.plan (state_of store.disk) (state_of new.disk) Through) are (made_comes commits store new made)) in
+    let same : SameStop store.disk.plan (planned []) = record { none = has.none; other = refl; stop = has.stop } in
+    sym there.leaves ∙ (ends_same calls.steps store.disk.plan (planned []) begun same).state
+
+calls_are : (journal journal' : JournalState) (commits commits' : List Commit) → journal ≡ journal' → commits' ≡ commits → calls_by journal commits ≡ calls_by journal' commits'
+calls_are journal journal' commits commits' is are = λ i. calls_by (is i) (sym are i)
+
 first_is : (users : List User) (commits : List Commit) (store new : StoreState Memory) → first_commits users ≡ commits → IsNew store → AreMade tells commits store new → IsFirst users new
 first_is users commits store new is begun made =
-    let come = made_comes commits store new made in
-    let journal : calls_by store.journal commits ≡ calls_by (when_opened new_journal no_limit) (first_commits users) = λ i. calls_by (begun.journal i) (sym is i) in
-    let there : Comes (calls_by (when_opened new_journal no_limit) (first_commits users)) store.disk.plan (settled new_journal) (state_of new.disk) Through =
-    subst (λ (s : DiskState). Comes (calls_by (when_opened new_journal no_limit) (first_commits users)) store.disk.plan s (state_of new.disk) Through) begun.state
-    (subst (λ (k : Calls). Comes k store.disk.plan (state_of store.disk) (state_of new.disk) Through) journal come) in
-    let same : SameStop store.disk.plan (planned []) = record { none = begun.failing; other = refl; stop = begun.stop } in
-    sym there.leaves ∙ (ends_same (calls_by (when_opened new_journal no_limit) (first_commits users)).steps store.disk.plan (planned []) (settled new_journal) same).state
+    first_by (calls_by (when_opened new_journal no_limit) (first_commits users)) (settled new_journal) commits store new
+    (calls_are store.journal (when_opened new_journal no_limit) commits (first_commits users) begun.journal is) begun.state (record { none = begun.failing; stop = begun.stop }) made
 
 pub users_made : (changes : List Change) (users : List User) (old new : StoreState Memory) → SnapshotMakes → AreGood users → 0 < length users → old.tables ≡ no_tables → changes ≡ snapshot (users_alone users)
     → IsNew old → new.tables ≡ after_all old.tables changes → (AreFitting old.tables changes → IsRepresented shown may_leave new) → (placed old.journal old.tables changes).end ≤ old.journal.limit
@@ -115,20 +136,25 @@ changes_have (suc count) plan has = let before = changes_have count plan has in 
 
 pub made_with : (plan plan' : StopPlan) → plan ≡ planned [] → MakesChanges 6 (Some plan) (Some plan') false → HasNone plan' None
 made_with plan plan' is made =
-    let next : Some plan' ≡ Some (after_changes 6 plan) = made.1 in
-    let same : plan' ≡ after_changes 6 plan = cc in
+    let same : plan' ≡ after_changes 6 plan = same_Some plan' (after_changes 6 plan) made.1 in
     let begun : HasNone (planned []) None = record { none = refl; stop = refl } in
     subst (λ (p : StopPlan). HasNone p None) (sym same) (changes_have 6 plan (subst (λ (p : StopPlan). HasNone p None) (sym is) begun))
 
+-- opened on any image: what is computed of a new journal has no part in it
+record IsBegun (image : List ℕ) (store : StoreState Memory) : Type 0 where
+  pub has : HasNone store.disk.plan None
+  pub state : state_of store.disk ≡ settled image
+
+begins_on : (image : List ℕ) (disk : Memory) (store : StoreState Memory) → shown disk ≡ Some image → HasNone disk.plan None → SyncsAndLooks (Some disk.plan) (Some store.disk.plan) false
+    → LeavesState (Synced ∷ []) (Some disk.plan) (Some (state_of disk)) (Some (state_of store.disk)) → IsBegun image store
+begins_on image disk store shows has calls made =
+    let next = opens_with disk.plan store.disk.plan has.none calls in
+    let goes = opens_well disk.plan store.disk.plan calls in
+    record {
+      has = record { none = next.none; stop = next.stop ∙ ap counted_down has.stop };
+      state = leaves_settled disk.plan (state_of disk) (state_of store.disk) made goes ∙ ap settled (same_Some (state_of disk).shown image shows);
+    }
+
 pub begins_new : (disk : Memory) (store : StoreState Memory) → shown disk ≡ Some new_journal → HasNone disk.plan None → Opens new_journal disk store → IsNew store
 begins_new disk store shows has opens =
-    let next = opens_with disk.plan store.disk.plan has.none opens.calls in
-    let goes = opens_well disk.plan store.disk.plan opens.calls in
-    let it : Some (state_of disk).shown ≡ Some new_journal = shows in
-    let held : (state_of disk).shown ≡ new_journal = cc in
-    record {
-      failing = next.none;
-      stop = next.stop ∙ ap counted_down has.stop;
-      state = leaves_settled disk.plan (state_of disk) (state_of store.disk) opens.made goes ∙ ap settled held;
-      journal = opens.journal;
-    }
+    let begun = begins_on new_journal disk store shows has opens.calls opens.made in record { failing = begun.has.none; stop = begun.has.stop; state = begun.state; journal = opens.journal }

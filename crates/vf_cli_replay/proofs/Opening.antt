@@ -1,6 +1,7 @@
 -- How a life begins on a disk that keeps a state, and what a crash leaves at its end.
 use Rattle.std.proofs.Common.{◌≡◌, ◌∙◌, ℕ, length, nat_lt, Bool, true, false, List, [], ◌∷◌, ◌++◌, Option, None, Some, Result, Ok, Err, IfOk, ap, arith, refl, sym, subst}
 use Rattle.std.proofs.lemmas.Bool.Decides.{nat_tests}
+use Rattle.std.proofs.lemmas.Option.{same_Some}
 use Rattle.std.specs.Prelude.{IsSome}
 use Rattle.vf_base.specs.declared.errors.NoMemory.{NoMemory as OutOfMemory}
 use Rattle.vf_disk.specs.Calls.{SyncsAndLooks}
@@ -53,16 +54,14 @@ pub leaves_it : (stop : Option Stop) (disk disk' : Memory) (image : List ℕ) (s
     → Represents left (tables_of state)
 leaves_it stop disk disk' image state keeps is left may =
     let here = left_by_stop stop disk left (subst (λ (d : Memory). may_leave d left) is may) in
-    let same : Some image ≡ Some left = keeps.synced left here in
-    let it : image ≡ left = cc in
+    let it : image ≡ left = same_Some image left (keeps.synced left here) in
     subst (λ (o : List ℕ). Represents o (tables_of state)) it keeps.represents
 
 -- ---- it is opened. The journal is as what the disk holds is read.
 journal_is : (image : List ℕ) (limit : ℕ) (store : StoreState Memory) → HeldIsRead → IsRepresented shown may_leave store → store.journal.limit ≡ limit → shown store.disk ≡ Some image
     → record store.journal { prepared = None } ≡ when_opened image limit
 journal_is image limit store read stands bound shows =
-    let there : Some stands.on.image ≡ Some image = sym stands.on.shows ∙ shows in
-    let same : stands.on.image ≡ image = cc in
+    let same : stands.on.image ≡ image = same_Some stands.on.image image (sym stands.on.shows ∙ shows) in
     let records : records_of stands.on.image ≡ stands.records = (read stands.on.image stands.records stands.on.holds).1 in
     let second : store.journal.second ≡ selects_second image = stands.on.second ∙ ap selects_second same in
     let area : store.journal.area ≡ area_of (selected_start image) (records_of image) =
@@ -82,9 +81,7 @@ begins_planned stop image disk disk' is by = ap (λ (d : Memory). d.plan) (by �
 -- the state of its disk then
 pub leaves_settled : (plan : StopPlan) (state left : DiskState) → LeavesState (Synced ∷ []) (Some plan) (Some state) (Some left) → step_fails plan Synced ≡ false → left ≡ settled state.shown
 leaves_settled plan state left made goes =
-    let is : Some left ≡ Some (ending_of (Synced ∷ []) plan state).state = made in
-    let it : left ≡ (ending_of (Synced ∷ []) plan state).state = cc in
-    it ∙ ap (λ (e : Ending). e.state) (behind_sync [] plan state goes)
+    same_Some left (ending_of (Synced ∷ []) plan state).state made ∙ ap (λ (e : Ending). e.state) (behind_sync [] plan state goes)
 
 pub opens_so : (life : Life) (image : List ℕ) (state : State) (disk disk' : Memory) (store : StoreState Memory) → Keeps disk image state → disk' ≡ with_stop life.stop disk → HeldIsRead
     → IsRepresented shown may_leave store → store.journal.limit ≡ life.limit → shown store.disk ≡ shown disk' → SyncsAndLooks (Some disk'.plan) (Some store.disk.plan) false
@@ -137,14 +134,17 @@ stops_opening life image state text text' disk disk' left error halt before afte
     let stays : Some (state_in left) ≡ Some (ending life image state []).state =
     subst (λ (s : DiskState). LeavesState (Synced ∷ []) (Some plan) (Some s) (Some (state_in left))) began
     (subst (λ (p : StopPlan). LeavesState (Synced ∷ []) (Some p) (Some (state_in disk')) (Some (state_in left))) planned made) in
-    let there : state_in left ≡ (ending life image state []).state = cc in
+    let there : state_in left ≡ (ending life image state []).state = same_Some (state_in left) (ending life image state []).state stays in
     lives_not life image state text text' left some (ap (λ (e : Ending). outcome_by e.failed false) ends) (ap (left_by (form_by life.stop)) (sym there))
     (line ∙ ap (λ (h : Halt). text ++ halt_line h) (sym so.stopped)) (λ image may. run.each image (left_now left (length disk'.steps) image run.later may))
 
 -- ---- the crash at its end
+none_lacked : (lacks : ℕ) → nat_lt 0 lacks ≡ false → lacks ≡ 0
+none_lacked lacks none = grind (arith, nat_tests)
+
 pub crashes : (life : Life) (image : List ℕ) (state : State) (text text' : List ℕ) (disk end : Memory) (answer : Result Memory OutOfMemory) → Keeps disk image state
     → LivesOn life image state text end text' → nat_lt 0 end.lacks ≡ false → IfOk answer (λ left. left ≡ fresh (left_by (form_by life.stop) (state_in end)) []) → IfOk answer (λ left. may_leave end left.first)
     → IfOk answer (λ left. LeavesShown (Some left.first) (may_leave left)) → IfOk answer (λ left. HasLived life image state text left text')
 crashes life image state text text' disk end (Ok left) keeps lives memory is may synced =
-    let none : end.lacks ≡ 0 = grind (arith, nat_tests) in crash_leaves life image state text text' disk end left keeps lives none is may synced
+    crash_leaves life image state text text' disk end left keeps lives (none_lacked end.lacks memory) is may synced
 crashes life image state text text' disk end (Err error) keeps lives memory is may synced = tt

@@ -2,6 +2,7 @@
 use Rattle.std.proofs.Common.{◌≡◌, ◌∙◌, ⊎_elim, ℕ, zero, suc, ◌-◌, ◌<◌, max, Bool, true, false, nat_eq, nat_le, List, [], Option, None, Some, ap, refl, sym, subst, arith}
 use Rattle.std.specs.Prelude.{◌||◌, IsSome}
 use Rattle.std.proofs.lemmas.Bool.{eqb-true}
+use Rattle.std.proofs.lemmas.Option.{same_Some}
 use Rattle.vf_disk.specs.Calls.{SyncsAndLooks, after_looks}
 use Rattle.vf_disk.specs.Memory.{fresh}
 use Rattle.vf_disk.specs.Plans.{StopPlan, after_change, counted_down, is_after_stop, look_fails}
@@ -64,8 +65,7 @@ fails_at_once (Some stop) first = ap (λ (b : Bool). (b || false) || false) (fir
 pub opens_with : (plan plan' : StopPlan) → plan.numbers.failing ≡ [] → SyncsAndLooks (Some plan) (Some plan') false → HasNone plan' (counted_down plan.until_stop)
 opens_with plan plan' none looks =
     let more = looks.1 in
-    let is : Some plan' ≡ Some (after_looks more.0 (after_change plan)) = more.2 in
-    let same : plan' ≡ after_looks more.0 (after_change plan) = cc in
+    let same : plan' ≡ after_looks more.0 (after_change plan) = same_Some plan' (after_looks more.0 (after_change plan)) more.2 in
     let has = looks_have more.0 (after_change plan) (counted_down plan.until_stop) (record { none = none; stop = refl }) in
     subst (λ (p : StopPlan). HasNone p (counted_down plan.until_stop)) (sym same) has
 

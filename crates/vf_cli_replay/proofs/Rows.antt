@@ -1,5 +1,6 @@
 -- How a row of calls ends, by the stop that is planned.
 use Rattle.std.proofs.Common.{◌≡◌, ◌∙◌, inl, inr, ℕ, nat_eq, Bool, true, false, List, [], ◌∷◌, ◌++◌, Option, Some, ap, refl, sym, subst, arith, true≢false}
+use Rattle.std.proofs.lemmas.Option.{same_Some}
 use Rattle.std.specs.List.{list_any}
 use Rattle.std.specs.Prelude.{◌||◌, fold, if◌then◌else◌}
 use Rattle.vf_base.specs.Faults.{HasRisen, counted}
@@ -99,11 +100,11 @@ pub record Went (steps : List Step) (plan plan' : StopPlan) (state state' : Stat
 pub went : (steps : List Step) (plan plan' : StopPlan) (state state' : State) (lacks lacks' : ℕ) → MakesSteps steps (Some plan) (Some plan') (Some state) (Some state') false lacks lacks'
     → Went steps plan plan' state state'
 went steps plan plan' state state' lacks lacks' (inl planned) =
-    let is : Some plan' ≡ Some (ending_of steps plan state).plan = planned.next in
-    let left : Some state' ≡ Some (ending_of steps plan state).state = planned.leaves in
-    let next : plan' ≡ (ending_of steps plan state).plan = cc in
-    let leaves : state' ≡ (ending_of steps plan state).state = cc in
-    record { goes = sym planned.fails; next = next; leaves = leaves }
+    record {
+      goes = sym planned.fails;
+      next = same_Some plan' (ending_of steps plan state).plan planned.next;
+      leaves = same_Some state' (ending_of steps plan state).state planned.leaves;
+    }
 went steps plan plan' state state' lacks lacks' (inr wanting) = absurd (true≢false (sym wanting.fails))
 
 -- or up to a call that fails, where none found no memory
@@ -118,7 +119,5 @@ never_risen old new (inr last) none = let is : new ≡ 18446744073709551615 = la
 pub fell : (steps : List Step) (plan plan' : StopPlan) (state state' : State) (lacks lacks' : ℕ) → MakesSteps steps (Some plan) (Some plan') (Some state) (Some state') true lacks lacks' → lacks' ≡ 0
     → Fell steps plan state state'
 fell steps plan plan' state state' lacks lacks' (inl planned) none =
-    let left : Some state' ≡ Some (ending_of steps plan state).state = planned.leaves in
-    let leaves : state' ≡ (ending_of steps plan state).state = cc in
-    record { fails = sym planned.fails; leaves = leaves }
+    record { fails = sym planned.fails; leaves = same_Some state' (ending_of steps plan state).state planned.leaves }
 fell steps plan plan' state state' lacks lacks' (inr wanting) none = absurd (never_risen lacks lacks' wanting.memory none)

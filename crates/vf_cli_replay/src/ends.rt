@@ -33,8 +33,8 @@ const NO_LIMIT: u64 = 18_446_744_073_709_551_615;
 pub(crate) fn first_disk(alloc: Global, users: Users) -> Result<MemoryDisk, NoMemory>
     ensures { AreGood users → IfOk result (λ disk. Keeps disk (first_image users) (beginning users [])) }
 {
-    let store = new_store(alloc)?;
-    let store = with_users(alloc, store, users)?;
+    let mut store = new_store(alloc)?;
+    put_users(alloc, &mut store, users)?;
     store.close().crash(CrashForm::Keep)
 }
 
@@ -74,23 +74,18 @@ fn changes_for(alloc: Global, users: Users) -> Result<Changes, NoMemory>
     Ok(changes)
 }
 
-/// The store with these users, in one record.
-fn with_users(
-    alloc: Global,
-    store: Store<MemoryDisk>,
-    users: Users,
-) -> Result<Store<MemoryDisk>, NoMemory>
-    ensures { AreGood users → store.tables ≡ no_tables → IsRepresented shown may_leave store → IsNew store
-        → IfOk result (λ store. (store.tables ≡ users_alone users) × IsRepresented shown may_leave store × IsFirst users store) }
+/// Puts these users into a store without entries, in one record.
+fn put_users(alloc: Global, store: &mut Store<MemoryDisk>, users: Users) -> Result<(), NoMemory>
+    ensures { AreGood users → store.old.tables ≡ no_tables → IsRepresented shown may_leave store.old → IsNew store.old
+        → OnOk result ((store.new.tables ≡ users_alone users) × IsRepresented shown may_leave store.new × IsFirst users store.new) }
 {
     snapshot_makes();
     if users.len() == 0 {
-        return Ok(store);
+        return Ok(());
     }
     let changes = changes_for(alloc, users)?;
-    let mut store = store;
     match store.commit(alloc, changes) {
-        Ok(()) => Ok(store),
+        Ok(()) => Ok(()),
         Err(_) => Err(NoMemory),
     }
 }

@@ -1,8 +1,9 @@
 //! An incarnation of the responder: it is opened over a disk, and things happen on its links until it stops or they are through.
-ghost use Rattle.std.specs.Prelude.{◌≡◌, IfOk, List, ℕ};
+ghost use Rattle.std.specs.Prelude.{◌≡◌, IfOk, List, OnOk, ℕ};
 ghost use Rattle.vf_cli_replay.specs.Calls.{form_by};
 ghost use Rattle.vf_cli_replay.specs.Disks.{Keeps, may_leave, shown};
-ghost use Rattle.vf_cli_replay.specs.Standing.{HasLived, IsOpened, LivesOn, with_stop};
+ghost use Rattle.vf_cli_replay.specs.Living.{opened};
+ghost use Rattle.vf_cli_replay.specs.Standing.{HasLived, IsOpened, LivesOn, Stands, with_stop};
 ghost use Rattle.vf_filestore.specs.State.{State};
 ghost use Rattle.vf_responder.specs.Represents.{Represents};
 ghost use Rattle.vf_responder.specs.Serving.{unheard};
@@ -89,12 +90,27 @@ fn live_in(
 {
     let callers = IndexMap::new(alloc);
     let mut links = Links { responder, callers };
-    for line in life.lines.as_slice() {
-        let halted = links.happens(alloc, line, text)?;
-        if let Some(halt) = halted {
-            append_halt(life.stop, halt, text)?;
-            return Ok(links.responder.close());
-        }
-    }
-    Ok(links.responder.close())
+    let lived = live_through(alloc, life, &mut links, text);
+    let disk = links.close();
+    lived?;
+    Ok(disk)
+}
+
+/// What happens on the links, line by line, and the line of an end before the last one.
+// The links are lent, since each way out of a function that owns them is checked to drop all of them.
+fn live_through(
+    alloc: Global,
+    life: &Life,
+    links: &mut Links,
+    text: &mut Vec<u8>,
+) -> Result<(), NoMemory>
+    ensures { (image : List ℕ) (state : State) → Stands links.old (opened state) → IsOpened life.now image links.old.responder.store
+        → OnOk result (LivesOn life.now image state text.old.items links.new.responder.store.disk text.new.items) }
+{
+    let halted = links.happen_all(alloc, life.lines.as_slice(), text)?;
+    let Some(halt) = halted else {
+        return Ok(());
+    };
+    append_halt(life.stop, halt, text)?;
+    Ok(())
 }

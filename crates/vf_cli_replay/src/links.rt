@@ -2,7 +2,7 @@
 ghost use Rattle.std.specs.Option.{option_map};
 ghost use Rattle.std.specs.Prelude.{◌≡◌, ◌∷◌, [], IfOk};
 ghost use Rattle.vf_base.specs.declared.events.ScriptEvent.TheVariants as script;
-ghost use Rattle.vf_cli_replay.specs.Running.{Begins, Comes, Running, Speaks, arrival_of, events_by, moment_of};
+ghost use Rattle.vf_cli_replay.specs.Running.{Begins, Comes, Running, Speaks, arrival_of, events_by, events_of, moment_of};
 ghost use Rattle.vf_cli_replay.specs.Standing.{HasCome, HasHappened, HasSpoken, Stands};
 
 use crate::halt::{Halt, halt_of};
@@ -35,8 +35,38 @@ fn first_moment() -> Moment
 }
 
 impl Links {
+    /// What the lines tell happens, one after another; says whether the incarnation ends by one of them.
+    pub(crate) fn happen_all(
+        &mut self,
+        alloc: Global,
+        lines: &[LinkLine],
+        text: &mut Vec<u8>,
+    ) -> Result<Option<Halt>, NoMemory>
+        ensures { (running : Running) → Stands self.old running
+            → IfOk result (HasHappened running (events_of lines.now) text.old.items self.old.responder.store self.new text.new.items) }
+    {
+        for line in lines {
+            let halted = self.happens(alloc, line, text)?;
+            if let Some(halt) = halted {
+                return Ok(Some(halt));
+            }
+        }
+        Ok(None)
+    }
+
+    /// The disk of the responder, as it is then.
+    pub(crate) fn close(self) -> MemoryDisk
+        ensures { result ≡ self.responder.store.disk }
+    {
+        let Links {
+            responder,
+            callers: _,
+        } = self;
+        responder.close()
+    }
+
     /// Something happens on a link; says whether the incarnation ends by it.
-    pub(crate) fn happens(
+    fn happens(
         &mut self,
         alloc: Global,
         line: &LinkLine,

@@ -17,6 +17,6 @@ loop-rest-preserved c = λ calling is.
     c.split_at.ensures.by_index.0 (c.loop-rest.invariant calling is) c.in_ok-hear_few.ensures
 
 pub returns : goal.returns
-returns c = λ calling is.
-    let none : length c.loop-rest.rest.now ≡ 0 = grind (arith, common_steps) in
+returns c =
+    let none : length c.loop-rest.rest.now ≡ 0 = grind (arith, common_steps) in λ calling is.
     hears_last c.args.link calling c.args.octets.now c.args.text.now.items c.loop-rest.self c.loop-rest.text.items c.loop-rest.rest.now none (c.loop-rest.invariant calling is)
