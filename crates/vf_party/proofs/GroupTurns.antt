@@ -1,5 +1,7 @@
 -- What a party in a group that isn't ended owes to a message.
-use Rattle.std.proofs.Common.{◌≡◌, Bool, true, false, cond, List, [], ◌∷◌, ◌++◌, is_some, length, Option, option_map, Result, Ok, Err, refl, ap, sym, subst, ◌∙◌, nat_le}
+use Rattle.std.proofs.Common.{◌≡◌, ℕ, Bool, true, false, cond, List, [], ◌∷◌, ◌++◌, is_some, length, Option, option_map, Result, Ok, Err, refl, ap, sym, subst, ◌∙◌, nat_eq, nat_le}
+use Rattle.std.specs.Prelude.{IfErr, IfOk, IfSome}
+use borrow.Author.Tests.{clash}
 use Rattle.vf_base.specs.declared.errors.NoMemory.{NoMemory}
 use Rattle.vf_elements.specs.Stages.{takes}
 use Rattle.vf_elements.specs.declared.message.Message.{Message}
@@ -18,7 +20,9 @@ use Rattle.vf_filestore.specs.Transition.{answered, met, with_message}
 use Rattle.vf_filestore.specs.Transition.{leaves as leaves_with}
 use Rattle.vf_filestore.proofs.Lists.{all_append}
 use Rattle.vf_locks.specs.Table.{IsAsBefore}
-use Rattle.vf_party.specs.GroupTurns.{IsAdded, IsInGroup}
+use Rattle.vf_filestore.specs.Records.{changes_where}
+use Rattle.vf_party.specs.GroupEnds.{IsEnd, end_message}
+use Rattle.vf_party.specs.GroupTurns.{EndsAs, IsAdded, IsGroupTurn, IsInGroup}
 use Rattle.vf_party.specs.Items.{is_item}
 use Rattle.vf_party_steps.specs.Steps.{HoldersOfFiles, StandsIn}
 use Rattle.vf_party.specs.Turns.{EndsSaying, IsEnded, IsGrouped, IsNext, IsTaken, IsTurnIn}
@@ -26,11 +30,16 @@ use Rattle.vf_party.specs.declared.party.Grouping.{Grouping}
 use Rattle.vf_party.specs.declared.party.Outcome.{Outcome}
 use Rattle.vf_party.specs.declared.party.Party.{Party}
 use Rattle.vf_party.specs.declared.party.Party.TheVariants as parties
+use Rattle.vf_party.specs.declared.quiet.Quiet.{Quiet}
+use Rattle.vf_party_steps.specs.declared.step.Step.{Step}
+use Rattle.vf_party_steps.specs.declared.step.StepError.{StepError}
 use Rattle.vf_party.proofs.Answering.{end_answers}
 use Rattle.vf_party.proofs.Turning.{IsSingle, aborts, leaves, taken_of, waits_turn}
 use Rattle.vf_pdu.specs.PduNumbers.{number_of}
 use Rattle.vf_pdu.specs.declared.pdu.Pdu.{Pdu}
 use Rattle.vf_pdu.specs.declared.pdu.Pdu.TheVariants.{UserAbort, ProviderAbort, SelectRequest, DeselectRequest, CreateRequest, DeleteRequest, ReadAttribRequest, ChangeAttribRequest, OpenRequest, CloseRequest, EndGroupRequest}
+use Rattle.vf_tables.specs.Changes.{after_all}
+use Rattle.vf_tables.specs.declared.change.Change.{Change}
 use Rattle.vf_tables.specs.declared.tables.Tables.{Tables}
 
 -- ---- requests
@@ -49,7 +58,7 @@ joining (ReadAttribRequest names) is = record { decides = λ group. refl; joins 
 joining (ChangeAttribRequest name permitted terms others) is = record { decides = λ group. refl; joins = λ before. refl }
 joining (OpenRequest mode contents controls activity) is = record { decides = λ group. refl; joins = λ before. refl }
 joining CloseRequest is = record { decides = λ group. refl; joins = λ before. refl }
-joining request is = absurd cc
+joining request is = absurd (clash is)
 
 -- what else a group takes ends the association
 leaves_group : (request : Pdu) (group : Group) → takes stages.Grouping (messages.Pdu request) ≡ true → is_item request ≡ false → (number_of request ≡ 24 → ⊥)
@@ -129,3 +138,35 @@ module _ (tables : Tables) (old : HoldersOfFiles) (self : Grouping) (setting : S
         items = all_append (λ (one : Pdu). is_item one ≡ true) self.items (request ∷ []) is.items (item, tt);
       })
   added_turn (Err (back, error)) item counted added = (added, λ file. refl)
+
+-- ---- the end of a group
+
+pub end_request : (request : Pdu) → nat_eq (number_of request) 24 ≡ true → request ≡ EndGroupRequest
+end_request EndGroupRequest is = refl
+end_request request is = absurd (clash is)
+
+pub over_turn : (tables : Tables) (old new : HoldersOfFiles) (self : Grouping) (setting : Setting) (answer : Result (Step Quiet) (Quiet × StepError)) (result : Result Outcome (Party × NoMemory))
+    → IsEnd self.quiet self.threshold self.items tables old new setting answer → IfErr answer (λ back. back.0 ≡ self.quiet) → EndsAs self.threshold self.items answer result
+    → IsGroupTurn tables old new self setting end_message result
+over_turn tables old new self setting (Ok step) (Ok outcome) ends kept comes = λ state party stands is.
+    let ended = ends state party stands is.represented is.grouped is.items in
+    record {
+      says = (λ i. (comes.says i).items) ∙ ended.says;
+      differs = comes.differs ∙ ended.differs ∙ sym (ap (changes_where state party setting end_message) (grouped_decides tables old new self setting end_message state party stands is refl));
+      held = ended.held;
+      next = subst (λ (one : Option Party). IsNext one (party_of party.link (answered state party setting end_message).state.parties)) (sym comes.goes_on)
+          (ended.goes_on.party, ended.goes_on.stands, record { represented = ended.goes_on.represented; alone = ended.goes_on.alone });
+    }
+over_turn tables old new self setting (Ok step) (Err back) ends kept comes = absurd comes
+over_turn tables old new self setting (Err back) (Ok outcome) ends kept comes = absurd comes
+over_turn tables old new self setting (Err (quiet, error)) (Err (back, memory)) ends kept comes = λ state party stands is.
+    (comes ∙ (λ i. parties.Grouping (record { quiet = kept i; threshold = self.threshold; items = self.items })), ends)
+
+-- and a second of the tables after its changes
+pub over_after : (tables : Tables) (second : Option Tables) (threshold : ℕ) (items : List Pdu) (answer : Result (Step Quiet) (Quiet × StepError)) (result : Result Outcome (Party × NoMemory))
+    → EndsAs threshold items answer result → IfOk answer (λ step. IfSome second (λ one. one ≡ after_all tables step.changes))
+    → IfOk result (λ outcome. IfSome second (λ one. one ≡ after_all tables outcome.changes))
+over_after tables second threshold items (Ok step) (Ok outcome) comes ahead =
+    subst (λ (changes : List Change). IfSome second (λ one. one ≡ after_all tables changes)) (sym comes.differs) ahead
+over_after tables second threshold items (Err back) (Ok outcome) comes ahead = absurd comes
+over_after tables second threshold items answer (Err back) comes ahead = tt

@@ -1,6 +1,7 @@
 -- A second of the tables that is lent to a group, and what it is after the group's changes.
 use Rattle.std.proofs.Common.{◌≡◌, ℕ, true, List, [], Option, None, Some, unwrap_or, Result, Ok, Err, refl, ap, sym, subst, ◌∙◌}
 use Rattle.std.specs.Prelude.{IfOk, IfSome}
+use borrow.Author.Tests.{clash}
 use Rattle.std.proofs.lemmas.List.Sums.{fold-append}
 use Rattle.vf_base.specs.declared.diagnostic.Diagnostic.{Diagnostic}
 use Rattle.vf_base.specs.declared.errors.NoMemory.{NoMemory}
@@ -76,8 +77,8 @@ none_after tables second (Err error) none = tt
 
 pub ending_party : (party : Party) (message : Message) → ends_group party message ≡ true → (grouping : Grouping) × (party ≡ parties.Grouping grouping)
 ending_party (parties.Grouping grouping) message is = (grouping, refl)
-ending_party party message is = absurd cc
+ending_party party message is = absurd (clash is)
 
 pub ending_message : (party : Party) (message : Message) → ends_group party message ≡ true → message ≡ end_message
 ending_message (parties.Grouping grouping) (messages.Pdu EndGroupRequest) is = refl
-ending_message party message is = absurd cc
+ending_message party message is = absurd (clash is)

@@ -2,6 +2,7 @@
 -- party owes to the message.
 use Rattle.std.proofs.Common.{◌≡◌, ℕ, true, nat_eq, Result, refl, ap, subst, sym, ◌∙◌}
 use Rattle.std.specs.Prelude.{IfErr}
+use borrow.Author.Tests.{clash}
 use Rattle.vf_base.specs.declared.errors.NoMemory.{NoMemory}
 use Rattle.vf_elements.specs.declared.message.Message.{Message}
 use Rattle.vf_elements.specs.declared.message.Message.TheVariants as messages
@@ -29,19 +30,19 @@ use Rattle.vf_tables.specs.declared.tables.Tables.{Tables}
 
 pub selecting_party : (party : Party) (message : Message) → selects party message ≡ true → (associated : Associated) × (party ≡ parties.Quiet (quiets.Associated associated))
 selecting_party (parties.Quiet (quiets.Associated associated)) message is = (associated, refl)
-selecting_party party message is = absurd cc
+selecting_party party message is = absurd (clash is)
 
 pub selecting_message : (party : Party) (message : Message) → selects party message ≡ true → (request : Pdu) × (number_of request ≡ 6) × (message ≡ messages.Pdu request)
 selecting_message (parties.Quiet (quiets.Associated associated)) (messages.Pdu (SelectRequest name requested controls password)) is = (SelectRequest name requested controls password, refl, refl)
-selecting_message party message is = absurd cc
+selecting_message party message is = absurd (clash is)
 
 pub deselecting_party : (party : Party) (message : Message) → deselects party message ≡ true → (selected : Selected) × (party ≡ parties.Quiet (quiets.Selected selected))
 deselecting_party (parties.Quiet (quiets.Selected selected)) message is = (selected, refl)
-deselecting_party party message is = absurd cc
+deselecting_party party message is = absurd (clash is)
 
 pub deselecting_message : (party : Party) (message : Message) → deselects party message ≡ true → message ≡ messages.Pdu DeselectRequest
 deselecting_message (parties.Quiet (quiets.Selected selected)) (messages.Pdu DeselectRequest) is = refl
-deselecting_message party message is = absurd cc
+deselecting_message party message is = absurd (clash is)
 
 -- the number of the request that a message is
 abbrev number_in : Message → ℕ
@@ -66,7 +67,7 @@ module _ (tables : Tables) (old mid new : HoldersOfFiles) (setting : Setting) wh
       6 (λ diagnostic. refl) answer result step kept ends state standing stands histories (associated_alone associated standing alone) in
       subst (λ (one : Message). IsTurn tables old new party setting one result) (sym comes)
       (subst (λ (one : Party). IsTurn tables old new one setting (messages.Pdu request) result) (sym is) turn)
-  select_turn party message associated request is comes six answer result step kept ends = absurd cc
+  select_turn party message associated request is comes six answer result step kept ends = absurd (clash six)
 
   pub deselect_turn : (party : Party) (message : Message) (selected : Selected) → party ≡ selected_party selected → message ≡ messages.Pdu DeselectRequest
       → (answer : Result (Step Associated) (Selected × StepError)) (result : Result Outcome (Party × NoMemory))

@@ -72,14 +72,23 @@ pub(crate) fn told(
     ensures { result ≡ turn_in party heard }
 {
     match heard {
-        Ok(heard) => {
-            let next = if heard.goes { Some(party) } else { None };
-            Ok(Outcome {
-                party: next,
-                said: heard.said,
-                changes: heard.changes,
-            })
-        }
+        Ok(heard) => Ok(outcome_with(party, heard)),
         Err(error) => Err((party, error)),
+    }
+}
+
+/// What came of the message, with this party where one is left.
+fn outcome_with(party: Party, heard: Answered) -> Outcome
+    ensures { result ≡ outcome_in party heard }
+{
+    let Answered {
+        goes,
+        said,
+        changes,
+    } = heard;
+    Outcome {
+        party: goes.then_some(party),
+        said,
+        changes,
     }
 }

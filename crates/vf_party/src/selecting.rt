@@ -16,7 +16,7 @@ ghost use Rattle.vf_pdu.specs.declared.pdu.Pdu.{Pdu as PduMeant};
 use crate::hearing::Answered;
 use crate::outcomes::conclude;
 use crate::party::Party;
-use crate::{Message, Quiet, Setting};
+use crate::{Associated, Message, Quiet, Selected, Setting};
 use std::alloc::Global;
 use std::mem;
 use vf_base::NoMemory;
@@ -61,12 +61,8 @@ pub(crate) fn hear_select(
     requires message { (request : PduMeant) × (number_of request ≡ 6) × (message ≡ messages.Pdu request) }
     ensures { IsTurn tables.now locks.old locks.new party.old (setting_of setting) message (turn_in party.new result) }
 {
-    let Party::Quiet(Quiet::Associated(associated)) = mem::replace(party, Party::arrived(0)) else {
-        unreachable!()
-    };
-    let Message::Pdu(request) = message else {
-        unreachable!()
-    };
+    let associated = associated_in(mem::replace(party, Party::arrived(0)));
+    let request = request_in(message);
     let answer = associated.select(
         alloc,
         request,
@@ -94,12 +90,7 @@ pub(crate) fn hear_deselect(
     requires message { message ≡ messages.Pdu PduMeant.DeselectRequest }
     ensures { IsTurn tables.now locks.old locks.new party.old (setting_of setting) message (turn_in party.new result) }
 {
-    let Party::Quiet(Quiet::Selected(selected)) = mem::replace(party, Party::arrived(0)) else {
-        unreachable!()
-    };
-    let Message::Pdu(Pdu::DeselectRequest) = message else {
-        unreachable!()
-    };
+    let selected = selected_in(mem::replace(party, Party::arrived(0)));
     let answer = selected.deselect(
         alloc,
         Pdu::DeselectRequest,
@@ -111,4 +102,37 @@ pub(crate) fn hear_deselect(
         locks,
     );
     return conclude(party, alloc, 8, answer, locks);
+}
+
+/// The state of a party with an association and no selected file.
+fn associated_in(party: Party) -> Associated
+    requires { (associated : AssociatedMeant) × (party ≡ parties.Quiet (quiets.Associated associated)) }
+    ensures { party ≡ parties.Quiet (quiets.Associated result) }
+{
+    let Party::Quiet(Quiet::Associated(associated)) = party else {
+        unreachable!()
+    };
+    associated
+}
+
+/// The state of a party with a selected file that isn't open.
+fn selected_in(party: Party) -> Selected
+    requires { (selected : SelectedMeant) × (party ≡ parties.Quiet (quiets.Selected selected)) }
+    ensures { party ≡ parties.Quiet (quiets.Selected result) }
+{
+    let Party::Quiet(Quiet::Selected(selected)) = party else {
+        unreachable!()
+    };
+    selected
+}
+
+/// The request that a message is.
+fn request_in(message: Message) -> Pdu
+    requires { (request : PduMeant) × (message ≡ messages.Pdu request) }
+    ensures { message ≡ messages.Pdu result }
+{
+    let Message::Pdu(request) = message else {
+        unreachable!()
+    };
+    request
 }

@@ -4,7 +4,7 @@ ghost use Rattle.vf_elements.specs.Stages.{takes};
 ghost use Rattle.vf_elements.specs.declared.message.Message.TheVariants as messages;
 ghost use Rattle.vf_elements.specs.declared.stage.Stage.TheVariants as stages;
 ghost use Rattle.vf_party.specs.GroupEnds.{end_message};
-ghost use Rattle.vf_party.specs.GroupTurns.{IsAdded, IsGroupTurn, IsInGroup};
+ghost use Rattle.vf_party.specs.GroupTurns.{EndsAs, IsAdded, IsGroupTurn, IsInGroup};
 ghost use Rattle.vf_party.specs.Hearing.{turn_in};
 ghost use Rattle.vf_party.specs.Settings.{setting_of};
 ghost use Rattle.vf_party.specs.Turns.{IsTurn};
@@ -19,10 +19,10 @@ use crate::hearing::{Answered, settled};
 use crate::items::is_item;
 use crate::leaving::leave_quiet;
 use crate::party::{Grouping, Outcome, Party, PartyState};
-use crate::{Message, Setting};
+use crate::{Message, Quiet, Setting, Step, StepError};
 use std::alloc::Global;
 use std::mem;
-use vf_base::NoMemory;
+use vf_base::{NoMemory, Sequence};
 use vf_elements::Stage;
 use vf_locks::Locks;
 use vf_pdu::Pdu;
@@ -168,11 +168,20 @@ pub(crate) fn hear_end(
     ensures turn { IsTurn tables.now locks.old locks.new party.old (setting_of setting) end_message (turn_in party.new result) }
     ensures ahead { IfOk result (λ heard. IfSome spare.new (λ second. second ≡ after_all tables.now heard.changes)) }
 {
-    let Party::Grouping(grouping) = mem::replace(party, Party::arrived(0)) else {
-        unreachable!()
-    };
+    let grouping = grouping_in(mem::replace(party, Party::arrived(0)));
     let taken = end_over(grouping, alloc, setting, tables, locks, spare);
     return settled(party, taken);
+}
+
+/// The group that a party is in.
+fn grouping_in(party: Party) -> Grouping
+    requires { (grouping : GroupingMeant) × (party ≡ parties.Grouping grouping) }
+    ensures { party ≡ parties.Grouping result }
+{
+    let Party::Grouping(grouping) = party else {
+        unreachable!()
+    };
+    grouping
 }
 
 /// The group ends; its items are tried on the tables of `spare`, if it has any.
@@ -193,7 +202,7 @@ fn end_over(
         threshold,
         items,
     } = grouping;
-    match end_group(
+    let answer = end_group(
         quiet,
         alloc,
         threshold,
@@ -202,7 +211,19 @@ fn end_over(
         tables,
         locks,
         spare,
-    ) {
+    );
+    return over(threshold, items, answer);
+}
+
+/// What comes of the end of a group of these items, from what the end answers.
+fn over(
+    threshold: u8,
+    items: Sequence<Pdu>,
+    answer: Result<Step<Quiet>, (Quiet, StepError)>,
+) -> Result<Outcome, (Party, NoMemory)>
+    ensures { EndsAs threshold items answer result }
+{
+    match answer {
         Ok(step) => Ok(Outcome {
             party: Some(Party::Quiet(step.state)),
             said: step.said,

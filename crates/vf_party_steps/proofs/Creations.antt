@@ -6,12 +6,16 @@ use Rattle.vf_base.specs.declared.diagnostic.Diagnostic.{Diagnostic}
 use Rattle.vf_doctype.specs.DocumentTypes.{doc_type}
 use Rattle.vf_doctype.specs.declared.doc_type.DocType.{DocType}
 use Rattle.vf_filestore.specs.Changes.{file_changes}
-use Rattle.vf_filestore.specs.Decision.{made_unless}
+use Rattle.vf_elements.specs.declared.message.Message.{Message}
+use Rattle.vf_filestore.specs.Aborts.{Setting}
+use Rattle.vf_filestore.specs.Decision.{granted_unless, made_unless, message_decision}
 use Rattle.vf_filestore.specs.Diagnostics.{Row, row, first_row, name_exists}
 use Rattle.vf_filestore.specs.Effects.{created, created_where}
 use Rattle.vf_filestore.specs.Files.{file_named, made}
+use Rattle.vf_filestore.specs.History.{Given}
 use Rattle.vf_filestore.specs.Holders.{HeldFiles}
 use Rattle.vf_filestore.specs.Selecting.{Wanted, create_by, create_rows, selection_rows, typed_rows}
+use Rattle.vf_filestore.specs.State.{State, StandingParty}
 use Rattle.vf_filestore.specs.Units.{limited_management, unit_row}
 use Rattle.vf_filestore.specs.declared.creation.NewFile.{NewFile}
 use Rattle.vf_filestore.proofs.FileSteps.{changes_added}
@@ -21,7 +25,13 @@ use Rattle.vf_regime_refusals.specs.Creating.{creation_by, creation_of, made_of,
 use Rattle.vf_regime_refusals.specs.declared.creating.Creation.{Creation}
 use Rattle.vf_regime_refusals.specs.declared.creating.Creation.TheVariants.{Selected}
 use Rattle.vf_tables.specs.declared.change.Change.{Change}
-use Rattle.vf_party_steps.specs.Creations.{changes_of}
+use Rattle.vf_locks.specs.Table.{IsAsBefore}
+use Rattle.vf_party_steps.specs.Creations.{IsRefusedBy, changes_of}
+use Rattle.vf_party_steps.specs.Steps.{HoldersOfFiles, MeetsStep, Represents}
+use Rattle.vf_party_steps.specs.declared.states.Associated.{Associated}
+use Rattle.vf_party_steps.specs.declared.step.StepError.{StepError}
+use Rattle.vf_party_steps.specs.declared.step.StepError.TheVariants as errors
+use Rattle.vf_tables.specs.declared.tables.Tables.{Tables}
 use Rattle.std.specs.Prelude.{nat_eq}
 
 abbrev pub refusal_in : Result (List Change) Diagnostic → Row
@@ -80,3 +90,12 @@ module _ (found : HeldFiles) (wanted : Wanted) (over : ℕ) (stamp : Stamp) (new
           → made_in (changes_of (unless_refused one (creation_by found wanted over stamp new (file_named new.name found.files)))) ≡ file_changes found.files (created_where (made_unless (file_named new.name found.files)) new stamp found.files)
       by (Some diagnostic) free = absurd cc
       by None free = made_by (file_named new.name found.files) refl free
+
+-- the party is given back with what refuses it
+pub gives_back : {New : Type 0} (after : Represents New) (tables : Tables) (old new : HoldersOfFiles) (state : State) (party : StandingParty) (setting : Setting) (message : Message)
+    (self : Associated) (made : Result (List Change) Diagnostic) (given : Given) (error : StepError)
+    → message_decision state party setting message ≡ granted_unless (refusal_in made) given → IsRefusedBy made error → IsAsBefore old new
+    → MeetsStep after tables old new state party setting message (Err (self, error))
+gives_back after tables old new state party setting message self made given (errors.Refused diagnostic) decides refused same =
+    (decides ∙ ap (λ (one : Row). granted_unless one given) (ap refusal_in refused), same)
+gives_back after tables old new state party setting message self made given errors.NoMemory decides refused same = same

@@ -14,12 +14,14 @@ use Rattle.vf_filestore.specs.State.{State, StandingParty, docket_of, identity_i
 use Rattle.vf_filestore.specs.Tables.{direction_by, direction_of}
 use Rattle.vf_filestore.specs.Transfers.{Movement, Reads, Writes, Transfer, under_way}
 use Rattle.vf_base.specs.declared.diagnostic.Diagnostic.{Diagnostic}
-use Rattle.vf_party_steps.specs.Recoveries.{AbortsRead, IsRecovered, MeetsTaken, docket_row, is_read, is_read_row, refusal_in, step_as, would_read}
+use Rattle.vf_party_steps.specs.Recoveries.{AbortsRead, IsRecovered, IsRefusedBy, MeetsTaken, docket_row, is_read, is_read_row, refusal_in, step_as, would_read}
 use Rattle.vf_party_steps.specs.Represents.{IsAssociated}
 use Rattle.vf_party_steps.specs.Steps.{HoldersOfFiles, MeetsStep, Represents, StandsIn}
 use Rattle.vf_party_steps.specs.declared.recovering.Recovered.{Recovered}
 use Rattle.vf_party_steps.specs.declared.states.Associated.{Associated}
 use Rattle.vf_party_steps.specs.declared.step.Step.{Step}
+use Rattle.vf_party_steps.specs.declared.step.StepError.{StepError}
+use Rattle.vf_party_steps.specs.declared.step.StepError.TheVariants as errors
 use Rattle.vf_party_steps.proofs.FoundDockets.{row_found, row_there}
 use Rattle.vf_party_steps.proofs.TakenUp as up
 use Rattle.vf_filestore.proofs.Nested.{none_some}
@@ -74,6 +76,12 @@ module _ (tables : Tables) (old : HoldersOfFiles) (state : State) (party : Stand
       by (Some docket) found =
           absurd (none_some ⊥ (docket_row tables old (identity_of party) activity) (subst (λ (n : List ℕ). docket_row tables old n activity ≡ None) name_is asked)
           (row_there tables old state party stands (identity_of party) activity docket found))
+
+  -- the party is given back with what refuses it
+  pub gives_back : (error : StepError) → IsRefusedBy (refusal_in tables.files self.association.units (docket_row tables old self.association.identity activity) number) error
+      → MeetsStep {Old = Associated} IsRecovered tables old old state party setting message (Err (self, error))
+  gives_back (errors.Refused diagnostic) refused = (decision_refused (docket_row tables old self.association.identity activity) refl diagnostic refused, λ file. refl)
+  gives_back errors.NoMemory refused = λ file. refl
 
   decision_aborted : (row : Option rows.Docket) → docket_row tables old self.association.identity activity ≡ row → is_read_row row ≡ true → is_none (refusal_in tables.files self.association.units row number) ≡ true
       → setting.token ≡ false → message_decision state party setting message ≡ Aborts wrong_state

@@ -243,3 +243,18 @@ IsKeptStep represents after tables old new self setting message result =
     (state : State) (party : StandingParty) → StandsIn tables old state party → AreHistoriesKept state → represents self party.link party.history
     → takes (regime_stage party.history) message ≡ true
     → MeetsStep after tables old new state party setting message result
+
+-- WHAT REFUSES it by the row, as an error; nothing is said of the want of memory
+abbrev pub IsRefusedBy : Row → StepError → Type 0
+IsRefusedBy refusal (errors.Refused diagnostic) = refusal ≡ Some diagnostic
+IsRefusedBy refusal errors.NoMemory = Unit {0}
+
+-- A docket that nothing refuses is taken up, in whatever it retains.
+abbrev pub IsTakenUp : Tables → (before after : HoldersOfFiles)
+    → Associated → Setting → (activity number : ℕ) → Message → Docket → Result (Step Recovered) (Associated × StepError) → Type 0
+IsTakenUp tables old new self setting activity number message docket result =
+    (state : State) (party : StandingParty) → StandsIn tables old state party → AreHistoriesKept state
+    → IsAssociated self party.link party.history → takes (regime_stage party.history) message ≡ true
+    → docket_row tables old self.association.identity activity ≡ Some docket
+    → refusal_in tables.files self.association.units (Some docket) number ≡ None
+    → MeetsStep IsRecovered tables old new state party setting message result

@@ -2,6 +2,7 @@
 ghost use Rattle.std.specs.Prelude.{◌≡◌, IfOk, true};
 ghost use Rattle.std.specs.Cmp.Lexicographic.{pointwise};
 ghost use Rattle.vf_attr.specs.Attributes.{are_same_attributes, attributes_of, is_same_contents, is_same_option, is_same_term as term_meant, is_same_text as text_meant};
+ghost use Rattle.vf_filestore.specs.Changes.{is_same_file};
 ghost use Rattle.vf_party_steps.specs.Files.{changes_of_file};
 ghost use Rattle.vf_tree.specs.Same.{are_same_units};
 
@@ -34,18 +35,32 @@ pub(crate) fn attributes_change(
     requires { are_same_units before.now.tree.units after.tree.units ≡ true }
     ensures { IfOk result (λ changes. changes ≡ changes_of_file before.now after) }
 {
-    if before.name == after.name && have_same_attributes(before, &after) {
+    if is_unchanged(before, &after) {
         return Ok(Changes::new(alloc));
     }
     let old = before.name.copy(alloc)?;
+    let changes = one_change(alloc, attributes_put(old, after))?;
+    Ok(changes)
+}
+
+/// Whether a file with the contents that it had is as it was.
+fn is_unchanged(before: &File, after: &File) -> bool
+    requires { are_same_units before.now.tree.units after.now.tree.units ≡ true }
+    ensures { result ≡ is_same_file before.now after.now }
+{
+    before.name == after.name && have_same_attributes(before, after)
+}
+
+/// The change by which the file of this name has the name and the attributes of another.
+fn attributes_put(old: Name, after: File) -> Change
+    ensures { result ≡ Change.PutAttributes old after.name (attributes_of after) }
+{
     let (name, attributes) = after.into_attributes();
-    let change = Change::PutAttributes {
+    Change::PutAttributes {
         old,
         name,
         attributes,
-    };
-    let changes = one_change(alloc, change)?;
-    Ok(changes)
+    }
 }
 
 #[tactic(auto, unfolding(vf_attr::specs::Attributes::are_same_attributes))]

@@ -1,7 +1,7 @@
 //! A party that takes up again what a docket retains (ISO 8571-3, F-RECOVER; which dockets it may is profile).
-ghost use Rattle.std.specs.Prelude.{◌≡◌, IfErr, IfOk, Some, true, option_copied};
+ghost use Rattle.std.specs.Prelude.{◌≡◌, IfErr, IfOk, None, Some, option_copied};
 ghost use Rattle.vf_elements.specs.declared.message.Message.TheVariants as messages;
-ghost use Rattle.vf_party_steps.specs.Recoveries.{AbortsRead, IsKeptStep, IsRecovered, is_read_row as is_read_row_meant, step_as, would_read as would_read_meant};
+ghost use Rattle.vf_party_steps.specs.Recoveries.{AbortsRead, IsKeptStep, IsRecovered, IsRefusedBy, IsTakenUp, docket_row, is_read_row as is_read_row_meant, refusal_in, step_as, would_read as would_read_meant};
 ghost use Rattle.vf_party_steps.specs.Represents.{IsAssociated};
 ghost use Rattle.vf_pdu.specs.PduNumbers.{number_of};
 ghost use Rattle.vf_pdu.specs.declared.pdu.Pdu.TheVariants.{RecoverRequest};
@@ -54,26 +54,42 @@ impl Associated {
         else {
             unreachable!()
         };
-        let Ok(holder) = holder_of(alloc, &self.association.identity, activity) else {
-            return Err((self, StepError::NoMemory));
-        };
-        let found = docket_in(tables, locks, &self.association.identity, activity, &holder);
-        if let Some(diagnostic) = refused_recover(
-            &tables.files,
-            self.association.units,
-            found,
-            number,
-        ) {
-            return Err((self, StepError::Refused(diagnostic)));
+        match recovered_docket(alloc, &self.association, activity, number, tables, locks) {
+            Ok(docket) => {
+                return self.take_up(
+                    alloc, activity, number, point, docket, moment, serial, token, sync, tables,
+                    locks,
+                );
+            }
+            Err(error) => return Err((self, error)),
         }
-        let Some(docket) = found else { unreachable!() };
+    }
+
+    /// Takes up a docket whose recovery nothing refuses: a read only with the token.
+    fn take_up(
+        self,
+        alloc: Global,
+        activity: u32,
+        number: u32,
+        point: u32,
+        docket: &Docket,
+        moment: Moment,
+        serial: u32,
+        token: bool,
+        sync: bool,
+        tables: &Tables,
+        locks: &mut Locks,
+    ) -> Result<Step<Recovered>, (Associated, StepError)>
+        ensures consequence { IsTakenUp tables.now locks.old locks.new self (record { moment = moment; serial = serial; token = token; sync = sync }) activity number (messages.Pdu (RecoverRequest activity number point)) docket.now result }
+        ensures kept { IfErr result (λ back. back.0 ≡ self) }
+    {
         match docket.regime.direction {
             Direction::Idle => {
                 let taken = self.take_up_open(
                     alloc, activity, number, point, docket, moment, serial, token, sync, tables,
                     locks,
                 );
-                open_again(taken)
+                return open_again(taken);
             }
             Direction::Read { context } => {
                 if !token {
@@ -83,14 +99,14 @@ impl Associated {
                     alloc, activity, number, point, docket, context, moment, serial, token, sync,
                     tables, locks,
                 );
-                reading_again(taken)
+                return reading_again(taken);
             }
             Direction::Write { operation } => {
                 let taken = self.take_up_write(
                     alloc, activity, number, point, docket, operation, moment, serial, token, sync,
                     tables, locks,
                 );
-                writing_again(taken)
+                return writing_again(taken);
             }
         }
     }
@@ -112,6 +128,30 @@ impl Associated {
         let reads = would_read(alloc, &self.association, activity, number, tables, locks)?;
         Ok(reads)
     }
+}
+
+/// The docket of this activity, where nothing refuses its recovery.
+fn recovered_docket<'t>(
+    alloc: Global,
+    association: &Association,
+    activity: u32,
+    number: u32,
+    tables: &'t Tables,
+    locks: &Locks,
+) -> Result<&'t Docket, StepError>
+    ensures found { IfOk result (λ docket. docket_row tables.now locks.now association.now.identity activity ≡ Some docket.now) }
+    ensures free { IfOk result (λ docket. refusal_in tables.now.files association.now.units (Some docket.now) number ≡ None) }
+    ensures refused { IfErr result (IsRefusedBy (refusal_in tables.now.files association.now.units (docket_row tables.now locks.now association.now.identity activity) number)) }
+{
+    let Ok(holder) = holder_of(alloc, &association.identity, activity) else {
+        return Err(StepError::NoMemory);
+    };
+    let found = docket_in(tables, locks, &association.identity, activity, &holder);
+    if let Some(diagnostic) = refused_recover(&tables.files, association.units, found, number) {
+        return Err(StepError::Refused(diagnostic));
+    }
+    let Some(docket) = found else { unreachable!() };
+    Ok(docket)
 }
 
 fn would_read(

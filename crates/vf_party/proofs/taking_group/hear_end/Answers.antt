@@ -10,14 +10,17 @@ use Rattle.vf_party.specs.declared.party.Party.TheVariants as parties
 use Rattle.vf_party.proofs.Lent.{settled_after}
 use Rattle.vf_party.proofs.taking_group.hear_end.Goals as goal
 
+pub grouping_in-grouping-requires : goal.grouping_in-grouping-requires
+grouping_in-grouping-requires c = (c.requires.party.0, c.replace.ensures.value ∙ c.requires.party.1)
+
 pub returns-clause-turn : goal.returns-clause-turn
 returns-clause-turn c =
     let tables = c.args.tables.now in
     let old = c.args.locks.now in
     let new = c.end_over-taken.new.locks in
     let setting = setting_of c.args.setting in
-    subst (λ (self : Party). IsTurn tables old new self setting end_message (turn_in c.settled.new.party c.settled.result)) (sym c.in-Grouping.is ∙ c.replace.ensures.value)
-    (subst (λ (result : Result Outcome (Party × NoMemory)). IsTurn tables old new (parties.Grouping c.in-Grouping.grouping) setting end_message result) (sym c.settled.ensures)
+    subst (λ (self : Party). IsTurn tables old new self setting end_message (turn_in c.settled.new.party c.settled.result)) (sym c.grouping_in-grouping.ensures ∙ c.replace.ensures.value)
+    (subst (λ (result : Result Outcome (Party × NoMemory)). IsTurn tables old new (parties.Grouping c.grouping_in-grouping.result) setting end_message result) (sym c.settled.ensures)
     (λ state standing stands histories is. c.end_over-taken.ensures.turn state standing stands is))
 
 pub returns-clause-ahead : goal.returns-clause-ahead

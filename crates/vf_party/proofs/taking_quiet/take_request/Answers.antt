@@ -24,6 +24,27 @@ returns-in-Some c = λ state party stands histories alone.
     (ap (λ stage. takes stage message) (quiet_stage c.args.quiet party alone.represented) ∙ c.requires)
     (ap first_abort (quiet_bars party (setting_of c.args.setting) c.args.quiet c.args.request alone.represented c.requires) ∙ sym c.aborted_in_quiet-bar.ensures ∙ c.in-Some.is) c.abort_quiet.ensures
 
+pub take_item-answer-requires-clause-item : goal.take_item-answer-requires-clause-item
+take_item-answer-requires-clause-item c = sym c.is_item-is_item.ensures ∙ c.if-is_item.true
+
+pub take_item-answer-requires-clause-taken : goal.take_item-answer-requires-clause-taken
+take_item-answer-requires-clause-taken c = c.requires
+
+pub take_other-requires-clause-taken : goal.take_other-requires-clause-taken
+take_other-requires-clause-taken c = c.requires
+
+pub take_other-requires-clause-item : goal.take_other-requires-clause-item
+take_other-requires-clause-item c = sym c.is_item-is_item.ensures ∙ c.if-is_item.false
+
+pub take_other-requires-clause-stays : goal.take_other-requires-clause-stays
+take_other-requires-clause-stays c = (λ i. sym c.number-number.ensures i == 4 || sym c.number-number.ensures i == 5) ∙ sym c.is_leaving.ensures ∙ c.if-is_leaving.false
+
+pub take_other-requires-clause-unbarred : goal.take_other-requires-clause-unbarred
+take_other-requires-clause-unbarred c = sym c.aborted_in_quiet-bar.ensures ∙ c.in_default.is
+
+pub returns : goal.returns
+returns c = c.take_other.ensures
+
 pub returns-then-is_item : goal.returns-then-is_item
 returns-then-is_item c =
     let item : is_item c.args.request ≡ true = sym c.is_item-is_item.ensures ∙ c.if-is_item.true in

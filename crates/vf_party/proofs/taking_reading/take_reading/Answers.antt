@@ -21,3 +21,12 @@ returns-in-Some c = λ state party stands histories alone.
     barred_turn IsReading parties.Reading c.args.tables.now c.args.locks.now c.aborted-in-Some.new.locks c.args.reading setting c.args.message state party stands alone c.in-Some.number c.aborted-in-Some.result
     (ap (λ stage. takes stage c.args.message) (reading_stage c.args.reading party.link party.history alone.represented) ∙ taken)
     (ap first_abort (reading_bars party setting c.args.reading alone.represented c.args.message taken) ∙ sym c.aborted_in_reading-bar.ensures ∙ c.in-Some.is) c.aborted-in-Some.ensures
+
+pub take_unbarred-requires-clause-taken : goal.take_unbarred-requires-clause-taken
+take_unbarred-requires-clause-taken c = ap (λ stage. takes stage c.args.message) (sym c.stage.ensures) ∙ sym c.takes.ensures ∙ c.if-not-takes.false
+
+pub take_unbarred-requires-clause-unbarred : goal.take_unbarred-requires-clause-unbarred
+take_unbarred-requires-clause-unbarred c = sym c.aborted_in_reading-bar.ensures ∙ c.in_default.is
+
+pub returns : goal.returns
+returns c = c.take_unbarred.ensures

@@ -20,3 +20,12 @@ returns-in-Some c = λ state party stands histories alone.
     barred_turn IsWriting parties.Writing c.args.tables.now c.args.locks.now c.aborted-in-Some.new.locks c.args.writing setting c.args.message state party stands alone c.in-Some.number c.aborted-in-Some.result
     (ap (λ stage. takes stage c.args.message) (writing_stage c.args.writing party.link party.history alone.represented) ∙ taken)
     (ap first_abort (writing_bars party setting c.args.writing alone.represented c.args.message taken) ∙ sym c.aborted_in_writing-bar.ensures ∙ c.in-Some.is) c.aborted-in-Some.ensures
+
+pub take_unbarred-requires-clause-taken : goal.take_unbarred-requires-clause-taken
+take_unbarred-requires-clause-taken c = ap (λ stage. takes stage c.args.message) (sym c.stage.ensures) ∙ sym c.takes.ensures ∙ c.if-not-takes.false
+
+pub take_unbarred-requires-clause-unbarred : goal.take_unbarred-requires-clause-unbarred
+take_unbarred-requires-clause-unbarred c = sym c.aborted_in_writing-bar.ensures ∙ c.in_default.is
+
+pub returns : goal.returns
+returns c = c.take_unbarred.ensures

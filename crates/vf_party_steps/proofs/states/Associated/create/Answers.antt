@@ -1,81 +1,42 @@
-use Rattle.std.proofs.Common.{◌≡◌, ℕ, true, List, ◌∷◌, None, Some, refl, ap, sym, subst, ◌∙◌, [], ◌++◌}
+use Rattle.std.proofs.Common.{◌≡◌, ℕ, true, List, ◌∷◌, Some, Err, ap, sym, subst, ◌∙◌}
 use Rattle.vf_base.specs.declared.action.Controls.{Controls}
 use Rattle.vf_elements.specs.Stages.{takes}
 use Rattle.vf_elements.specs.declared.message.Message.TheVariants as messages
-use Rattle.vf_elements.specs.declared.message.Said.{Said}
-use Rattle.vf_elements.specs.declared.message.Said.TheVariants as answers
 use Rattle.vf_filestore.specs.Aborts.{Setting}
 use Rattle.vf_filestore.specs.Changes.{file_changes}
 use Rattle.vf_filestore.specs.Controls.{attribute_controls, joined, not_opened}
-use Rattle.vf_filestore.specs.Decision.{Refuses, granted_unless, made_unless, message_decision}
+use Rattle.vf_filestore.specs.Decision.{granted_unless, made_unless}
 use Rattle.vf_filestore.specs.Diagnostics.{Row, first_row}
 use Rattle.vf_filestore.specs.Effects.{created_where}
 use Rattle.vf_filestore.specs.Ending.{stamp_of}
 use Rattle.vf_filestore.specs.Files.{file_named}
 use Rattle.vf_filestore.specs.HoldersAfter.{concluded_by}
-use Rattle.vf_filestore.specs.Selecting.{Wanted, create_rows}
+use Rattle.vf_filestore.specs.Selecting.{create_rows}
 use Rattle.vf_filestore.specs.Stage.{regime_stage}
 use Rattle.vf_filestore.specs.State.{identity_in, units_in, activity_in}
 use Rattle.vf_filestore.specs.Units.{limited_management, unit_row}
 use Rattle.vf_filestore.specs.declared.creation.NewFile.{NewFile}
-use Rattle.vf_filestore.proofs.Decided.{later_passed}
 use Rattle.vf_filestore.proofs.HeldCalls.{calls_follow}
-use Rattle.vf_locks.specs.Clash.{conflict}
 use Rattle.vf_locks.specs.Holders.{granted}
 use Rattle.vf_locks.specs.Table.{IsWith, held}
 use Rattle.vf_locks.specs.declared.holder.Holder.TheVariants.{Party}
 use Rattle.vf_pdu.specs.declared.pdu.Pdu.{Pdu}
-use Rattle.vf_pdu.specs.declared.pdu.Pdu.TheVariants.{CreateRequest, CreateResponse}
+use Rattle.vf_pdu.specs.declared.pdu.Pdu.TheVariants.{CreateRequest}
 use Rattle.vf_pdu_fields.specs.declared.controls.AttributeControls.{AttributeControls}
-use Rattle.vf_regime_refusals.specs.Asked.{found_in, stamp_by}
+use Rattle.vf_regime_refusals.specs.Asked.{found_in, stamp_by, wanted_of}
 use Rattle.vf_regime_refusals.specs.declared.association.Selection.{Selection}
 use Rattle.vf_party_steps.specs.declared.states.Selected.{Selected}
 use Rattle.vf_party_steps.specs.declared.step.Step.{Step}
-use Rattle.vf_party_steps.specs.Creations.{changes_of}
+use Rattle.vf_party_steps.specs.Creations.{changes_of, creation_in}
 use Rattle.vf_party_steps.specs.Represents.{IsSelected}
-use Rattle.vf_party_steps.specs.Steps.{Concludes, history_by}
+use Rattle.vf_party_steps.specs.Steps.{Concludes, MeetsStep, history_by}
 use Rattle.vf_party_steps.proofs.Concluding.{filed_step, found_is}
-use Rattle.vf_party_steps.proofs.Creations.{changes_are, made_in, refusal_in, refusal_is}
+use Rattle.vf_party_steps.proofs.Creations.{changes_are, gives_back, made_in, refusal_in, refusal_is}
 use Rattle.vf_party_steps.proofs.Kept.{none_left, tables_filed, with_history}
-use Rattle.vf_party_steps.proofs.Unopposed.{creation_unopposed}
 use Rattle.vf_party_steps.proofs.states.Associated.create.Goals as goal
 
-pub returns-in-Err-clause-consequence : goal.returns-in-Err-clause-consequence
-returns-in-Err-clause-consequence c = λ state party stands represents taken.
-    let asks = c.in-CreateRequest in
-    let setting : Setting = record { moment = c.args.moment; serial = c.args.serial; token = c.args.token; sync = c.args.sync } in
-    let request = CreateRequest asks.over asks.name asks.contents asks.permitted asks.terms asks.requested asks.controls asks.password in
-    let new : NewFile = record { name = asks.name; contents = asks.contents; permitted = asks.permitted; terms = asks.terms } in
-    let association = c.args.self.association in
-    let wanted : Wanted = record { link = association.link; identity = association.identity; password = asks.password; requested = asks.requested; controls = c.attribute_controls.result } in
-    let tables = c.args.tables.now in
-    let old = c.args.locks.now in
-    let refused = refusal_is (found_in tables.files old) wanted asks.over (stamp_by association c.args.moment) new association.units in (
-      subst (λ (r : Pdu). message_decision state party setting (messages.Pdu r) ≡ Refuses c.in-Err.diagnostic) (sym asks.is)
-          (ap (λ (row : Row). granted_unless row (made_unless (file_named asks.name state.files)))
-          ((λ i. first_row (unit_row (units_in (represents.stands i)) limited_management
-          ∷ create_rows (found_is tables old state party stands i) (record { link = represents.linked i; identity = identity_in (represents.stands i); password = asks.password; requested = asks.requested; controls = sym c.attribute_controls.ensures i }) asks.over (record { moment = c.args.moment; identity = identity_in (represents.stands i) }) new))
-          ∙ sym refused ∙ ap refusal_in (sym (c.in-Ok-changes_of.ensures ∙ ap changes_of c.in-Ok-create.ensures) ∙ c.in-Err.is))),
-      λ file. refl,
-    )
-
-pub hold_selected-requires : goal.hold_selected-requires
-hold_selected-requires c =
-    let asks = c.in-CreateRequest in
-    let new : NewFile = record { name = asks.name; contents = asks.contents; permitted = asks.permitted; terms = asks.terms } in
-    let association = c.args.self.association in
-    let wanted : Wanted = record { link = association.link; identity = association.identity; password = asks.password; requested = asks.requested; controls = c.attribute_controls.result } in
-    let old = c.args.locks.now in
-    let found = found_in c.args.tables.now.files old in
-    let stamp = stamp_by association c.args.moment in
-    let free = ap refusal_in (sym (c.in-Ok-changes_of.ensures ∙ ap changes_of c.in-Ok-create.ensures) ∙ c.in-Ok-made.is) in
-    let rows = create_rows found wanted asks.over stamp new in
-    subst (λ (file : List ℕ). conflict (Party association.link) (joined not_opened c.attribute_controls.result) (held file old) ≡ None) (sym c.in-Ok.ensures)
-    (creation_unopposed found wanted asks.over stamp new
-    (later_passed (unit_row association.units limited_management) rows (sym (refusal_is found wanted asks.over stamp new association.units) ∙ free)))
-
-pub returns-clause-consequence : goal.returns-clause-consequence
-returns-clause-consequence c = λ state party stands represents.
+pub returns-in-Ok-created-clause-consequence : goal.returns-in-Ok-created-clause-consequence
+returns-in-Ok-created-clause-consequence c = λ state party stands represents.
     let asks = c.in-CreateRequest in
     let setting : Setting = record { moment = c.args.moment; serial = c.args.serial; token = c.args.token; sync = c.args.sync } in
     let name = asks.name in
@@ -84,34 +45,33 @@ returns-clause-consequence c = λ state party stands represents.
     let message = messages.Pdu request in
     let new_file : NewFile = record { name = name; contents = asks.contents; permitted = asks.permitted; terms = asks.terms } in
     let association = c.args.self.association in
-    let wanted_is : Wanted = record { link = association.link; identity = association.identity; password = asks.password; requested = requested; controls = c.attribute_controls.result } in
     let selection : Selection = record { file = c.in-Ok.file; requested = requested; controls = c.attribute_controls.result; password = asks.password } in
+    let wanted_is = wanted_of association selection in
     let made : Selected = record { associated = c.args.self; selection = selection } in
-    let said : c.push_reserved.new.self.items ≡ answers.Pdu (CreateResponse None) ∷ [] = c.push_reserved.ensures.items ∙ ap (λ (all : List Said). all ++ (answers.Pdu (CreateResponse None) ∷ [])) c.in-Ok-hold_selected.ensures.said in
-    let step : Step Selected = record { state = made; said = c.push_reserved.new.self; changes = c.in-Ok-made.changes } in
+    let step : Step Selected = record { state = made; said = c.in-Ok-created.done.0; changes = c.in-Ok-created.done.1 } in
     let given = made_unless (file_named name state.files) in
     let next = history_by state party setting message given in
     let after = concluded_by state party setting message given in
     let tables = c.args.tables.now in
     let old = c.args.locks.now in
-    let new = c.hold_selected.new.locks in
+    let new = c.created.new.locks in
     let files = created_where given new_file (stamp_of party c.args.moment) state.files in
     let found = found_in tables.files old in
     let stamp = stamp_by association c.args.moment in
-    let comes = c.in-Ok-changes_of.ensures ∙ ap changes_of c.in-Ok-create.ensures in
-    let free = ap refusal_in (sym comes ∙ c.in-Ok-made.is) in
+    let comes = c.in-Ok-created.ensures.made in
+    let free = ap refusal_in comes in
     let controls : Controls = joined not_opened (attribute_controls requested asks.controls) in
     let with_controls : IsWith name (granted (Party party.link) controls (held name old)) old new =
     subst (λ (file : List ℕ). IsWith file (granted (Party party.link) controls (held file old)) old new) c.in-Ok.ensures
     (subst (λ (link : ℕ). IsWith c.in-Ok.file (granted (Party link) controls (held c.in-Ok.file old)) old new) (sym represents.linked)
-    (subst (λ (all : AttributeControls). IsWith c.in-Ok.file (granted (Party association.link) (joined not_opened all) (held c.in-Ok.file old)) old new) c.attribute_controls.ensures c.in-Ok-hold_selected.ensures.held)) in
+    (subst (λ (all : AttributeControls). IsWith c.in-Ok.file (granted (Party association.link) (joined not_opened all) (held c.in-Ok.file old)) old new) c.attribute_controls.ensures c.in-Ok-created.ensures.held)) in
     subst (λ (r : Pdu). takes (regime_stage party.history) (messages.Pdu r) ≡ true → Concludes IsSelected tables new state party setting (messages.Pdu r) step) (sym asks.is)
     (λ taken. filed_step IsSelected tables old new state party setting message given files step stands taken
     (ap (λ (row : Row). granted_unless row given)
     ((λ i. first_row (unit_row (units_in (represents.stands i)) limited_management
     ∷ create_rows (found_is tables old state party stands i) (record { link = represents.linked i; identity = identity_in (represents.stands i); password = asks.password; requested = requested; controls = sym c.attribute_controls.ensures i }) asks.over (record { moment = c.args.moment; identity = identity_in (represents.stands i) }) new_file))
     ∙ sym (refusal_is found wanted_is asks.over stamp new_file association.units) ∙ free))
-    said represents.moved
+    c.in-Ok-created.ensures.said represents.moved
     (record {
       linked = represents.linked;
       associated = represents.stands;
@@ -119,7 +79,29 @@ returns-clause-consequence c = λ state party stands represents.
       opened = represents.opened;
       moved = represents.moved;
     })
-    (ap made_in (sym c.in-Ok-made.is ∙ comes) ∙ changes_are found wanted_is asks.over stamp new_file association.units free
+    (ap made_in (sym comes) ∙ changes_are found wanted_is asks.over stamp new_file association.units free
     ∙ (λ i. file_changes tables.files (created_where (made_unless (file_named name (sym stands.kept i).files)) new_file (record { moment = c.args.moment; identity = identity_in (sym represents.stands i) }) (sym stands.kept i).files)))
     (tables_filed state party next files stands.stands (none_left (with_history next party) (ap activity_in represents.opened) ∙ sym (none_left party (ap activity_in represents.opened))))
     (λ after_held. calls_follow old new state after name (granted (Party party.link) controls) stands.held with_controls after_held))
+
+pub returns-in-Err-clause-consequence : goal.returns-in-Err-clause-consequence
+returns-in-Err-clause-consequence c = λ state party stands represents taken.
+    let asks = c.in-CreateRequest in
+    let setting : Setting = record { moment = c.args.moment; serial = c.args.serial; token = c.args.token; sync = c.args.sync } in
+    let new : NewFile = record { name = asks.name; contents = asks.contents; permitted = asks.permitted; terms = asks.terms } in
+    let association = c.args.self.association in
+    let selection : Selection = record { file = c.in-Ok.file; requested = asks.requested; controls = c.attribute_controls.result; password = asks.password } in
+    let wanted = wanted_of association selection in
+    let tables = c.args.tables.now in
+    let old = c.args.locks.now in
+    let found = found_in tables.files old in
+    let stamp = stamp_by association c.args.moment in
+    let given = made_unless (file_named asks.name state.files) in
+    let message = messages.Pdu (CreateRequest asks.over asks.name asks.contents asks.permitted asks.terms asks.requested asks.controls asks.password) in
+    subst (λ (r : Pdu). MeetsStep IsSelected tables old c.created.new.locks state party setting (messages.Pdu r) (Err (c.args.self, c.in-Err.error))) (sym asks.is)
+    (gives_back IsSelected tables old c.created.new.locks state party setting message c.args.self (changes_of (creation_in tables old association selection asks.over c.args.moment new)) given c.in-Err.error
+    (ap (λ (row : Row). granted_unless row given)
+    ((λ i. first_row (unit_row (units_in (represents.stands i)) limited_management
+    ∷ create_rows (found_is tables old state party stands i) (record { link = represents.linked i; identity = identity_in (represents.stands i); password = asks.password; requested = asks.requested; controls = sym c.attribute_controls.ensures i }) asks.over (record { moment = c.args.moment; identity = identity_in (represents.stands i) }) new))
+    ∙ sym (refusal_is found wanted asks.over stamp new association.units)))
+    c.in-Err.ensures.refused c.in-Err.ensures.kept)
