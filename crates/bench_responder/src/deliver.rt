@@ -28,7 +28,8 @@ pub fn put_sent(alloc: Global, link: u32, octets: &[u8], out: &mut Vec<u8>) -> R
 
 fn put_replies(alloc: Global, replies: &[Reply], out: &mut Vec<u8>) -> Result<(), Fault> {
     for reply in replies {
-        put_sent(alloc, reply.link, reply.octets.as_slice(), out)?;
+        let octets = reply.octets.to_vec(alloc)?;
+        put_sent(alloc, reply.link, octets.as_slice(), out)?;
         put(out, if reply.shut { "! " } else { " " })?;
     }
     Ok(())

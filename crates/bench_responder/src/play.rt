@@ -175,13 +175,14 @@ fn answered<D: Disk>(
     if answer.is_err() {
         return Err(Fault::Line);
     }
-    Ok(said_in(replies.as_slice()))
+    said_in(alloc, replies.as_slice())
 }
 
-fn said_in(replies: &[Reply]) -> u64 {
+fn said_in(alloc: Global, replies: &[Reply]) -> Result<u64, Fault> {
     let mut said: u64 = 0;
     for reply in replies {
-        said = said.saturating_add(reply.octets.len() as u64);
+        let octets = reply.octets.to_vec(alloc)?;
+        said = said.saturating_add(octets.len() as u64);
     }
-    said
+    Ok(said)
 }
