@@ -34,10 +34,18 @@ pub fn put_sent(link: u32, octets: &[u8], out: &mut Text) {
     put_octets(octets, out);
 }
 
-fn put_replies(replies: &[Reply], out: &mut Text) {
+/// Appends a reply.
+fn put_reply(alloc: Global, reply: &Reply, out: &mut Text) {
+    match reply.octets.to_vec(alloc) {
+        Ok(octets) => put_sent(reply.link, octets.as_slice(), out),
+        Err(_) => out.fail(Fault::NoMemory),
+    }
+    out.put(if reply.shut { "! " } else { " " });
+}
+
+fn put_replies(alloc: Global, replies: &[Reply], out: &mut Text) {
     for reply in replies {
-        put_sent(reply.link, reply.octets.as_slice(), out);
-        out.put(if reply.shut { "! " } else { " " });
+        put_reply(alloc, reply, out);
     }
 }
 
@@ -54,8 +62,13 @@ fn count_of(seed: &mut u64, len: usize) -> usize {
 }
 
 /// Appends what an event is answered. False where the responder doesn't go on.
-fn put_answer(answer: Result<(), RespondError>, replies: &[Reply], out: &mut Text) -> bool {
-    put_replies(replies, out);
+fn put_answer(
+    alloc: Global,
+    answer: Result<(), RespondError>,
+    replies: &[Reply],
+    out: &mut Text,
+) -> bool {
+    put_replies(alloc, replies, out);
     match answer {
         Ok(()) => true,
         Err(error) => {
@@ -68,13 +81,13 @@ fn put_answer(answer: Result<(), RespondError>, replies: &[Reply], out: &mut Tex
 fn arrive<D: Disk>(alloc: Global, responder: &mut Responder<D>, link: u32, out: &mut Text) -> bool {
     let mut replies = Vec::new(alloc);
     let answer = responder.deliver(alloc, Event::Arrived { link }, &mut replies);
-    put_answer(answer, replies.as_slice(), out)
+    put_answer(alloc, answer, replies.as_slice(), out)
 }
 
 fn end<D: Disk>(alloc: Global, responder: &mut Responder<D>, link: u32, out: &mut Text) -> bool {
     let mut replies = Vec::new(alloc);
     let answer = responder.deliver(alloc, Event::Ended { link }, &mut replies);
-    put_answer(answer, replies.as_slice(), out)
+    put_answer(alloc, answer, replies.as_slice(), out)
 }
 
 /// A piece of octets comes on a link.
@@ -96,7 +109,7 @@ fn hear<D: Disk>(
         },
         &mut replies,
     );
-    put_answer(answer, replies.as_slice(), out)
+    put_answer(alloc, answer, replies.as_slice(), out)
 }
 
 /// Octets come on a link, cut by a seed.

@@ -56,8 +56,8 @@ impl Peer {
         for reply in replies {
             let mut told = Vec::new(alloc);
             let mut answers = Vec::new(alloc);
-            self.stack
-                .feed(reply.octets.as_slice(), &mut told, &mut answers)?;
+            let octets = reply.octets.to_vec(alloc)?;
+            self.stack.feed(octets.as_slice(), &mut told, &mut answers)?;
         }
         Ok(())
     }

@@ -86,7 +86,7 @@ pub(crate) fn hear_all(
     let mut octets = Vec::new(alloc);
     for place in 0..replies.len() {
         let reply = &replies[place];
-        octets.extend_from_slice(reply.octets.as_slice())?;
+        reply.octets.append_to(&mut octets)?;
         if !goes_on(reply, &replies[place + 1..]) {
             hear_on(
                 alloc,

@@ -33,3 +33,5 @@ pub mod BegunLemmas
 pub mod PieceLoopLemmas
 pub mod AskedLemmas
 pub mod WayLemmas
+pub mod SpokenLemmas
+pub mod BlockLemmas

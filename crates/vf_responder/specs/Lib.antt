@@ -15,4 +15,6 @@ pub mod Steps
 pub mod Hears
 pub mod Served
 pub mod Sends
+pub mod Spoken
+pub mod Blocks
 pub mod Examples

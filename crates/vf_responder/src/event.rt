@@ -1,4 +1,5 @@
-use vf_base::{Moment, Octets};
+use crate::spoken::Spoken;
+use vf_base::Moment;
 
 /// What happens on a link.
 #[derive(Clone, Copy)]
@@ -23,6 +24,6 @@ pub enum Event<'a> {
 #[derive(Drop)]
 pub struct Reply {
     pub link: u32,
-    pub octets: Octets,
+    pub octets: Spoken,
     pub shut: bool,
 }

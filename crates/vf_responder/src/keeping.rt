@@ -9,6 +9,7 @@ ghost use Rattle.vf_responder.specs.declared.event.Reply.{Reply as ReplyMeant};
 use crate::event::Reply;
 use crate::link::Link;
 use crate::replies::speak;
+use crate::spoken::Spoken;
 use indexmap::IndexMap;
 use std::alloc::Global;
 use vf_base::NoMemory;
@@ -56,7 +57,7 @@ impl<D: Disk> Keeping<D> {
             return Ok(());
         }
         if self.links.len() >= MOST_LINKS {
-            speak(number, Vec::new(alloc), true, replies)?;
+            speak(number, Spoken::new(alloc), true, replies)?;
             return Ok(());
         }
         let link = Link::arrived(alloc, number)?;

@@ -19,6 +19,7 @@ ghost use Rattle.vf_tables.specs.Changes.{after_all};
 use crate::event::Reply;
 use crate::meaning::{Asked, PLAIN};
 use crate::replies::{send_all, speak};
+use crate::spoken::Spoken;
 use std::alloc::Global;
 use std::mem;
 use vf_base::{Moment, NoMemory};
@@ -65,7 +66,7 @@ impl Link {
         let mut told = Vec::new(alloc);
         let mut answers = Vec::new(alloc);
         self.stack.feed(octets, &mut told, &mut answers)?;
-        speak(self.number, answers, false, replies)?;
+        speak(self.number, Spoken::of(alloc, answers), false, replies)?;
         Ok(told)
     }
 
@@ -121,7 +122,7 @@ impl Link {
         ensures party { self.new.party ≡ self.old.party }
         ensures number { self.new.number ≡ self.old.number }
     {
-        let mut out = Vec::new(alloc);
+        let mut out = Spoken::new(alloc);
         send_all(alloc, &mut self.stack, asked, said, &mut out)?;
         speak(self.number, out, shut, replies)?;
         Ok(())

@@ -8,14 +8,12 @@ ghost use Rattle.vf_stack.specs.declared.indication.Indication.{Indication};
 
 use crate::event::Reply;
 use crate::meaning::Asked;
+use crate::spoken::Spoken;
 use std::alloc::Global;
-use vf_base::{Element, NoMemory, Octets};
+use vf_base::NoMemory;
 use vf_elements::Said;
 use vf_pdu::{Boxed, Pdu};
 use vf_stack::{Item, Request, Stack};
-
-/// What stands around the octets of a string where it is sent, and what a short PDU is sent in; a long one may have more.
-const AROUND: usize = 64;
 
 /// The request of a PDU that answers what was asked.
 fn request_of_pdu(alloc: Global, asked: Asked, pdu: Pdu) -> Result<Request, NoMemory>
@@ -82,12 +80,12 @@ fn send(
     alloc: Global,
     stack: &mut Stack,
     request: &Request,
-    out: &mut Vec<u8>,
+    out: &mut Spoken,
 ) -> Result<(), NoMemory>
-    ensures { OnOk result ((association : Association) → IsCalled stack.old association → Sends (sending association request.now) out.old.items stack.new out.new.items) }
+    ensures { OnOk result ((association : Association) → IsCalled stack.old association → Sends (sending association request.now) out.old stack.new out.new) }
 {
     if stack.may(request) {
-        stack.send(alloc, request, out)?;
+        out.send(alloc, stack, request)?;
         return Ok(());
     }
     match request {
@@ -96,57 +94,16 @@ fn send(
     }
 }
 
-/// About how many octets something is sent in. No promise rests on it: where it has more, the room for it grows.
-fn room_of(said: &Said) -> usize {
-    let octets = match said {
-        Said::Element(Element::Text { octets, .. }) => octets.len(),
-        Said::Element(Element::Binary { octets }) => octets.len(),
-        _ => 0,
-    };
-    octets.saturating_add(AROUND)
-}
-
-/// About how many octets all of it is sent in.
-fn room_for(said: &[Said]) -> usize {
-    let mut room: usize = 0;
-    for one in said {
-        room = room.saturating_add(room_of(one));
-    }
-    room
-}
-
-/// Makes the room for what all of it is sent in, so that what stands isn't moved as it grows.
-fn make_room(said: &[Said], out: &mut Vec<u8>) -> Result<(), NoMemory>
-    ensures { out.new.items ≡ out.old.items }
-{
-    out.reserve(room_for(said))?;
-    Ok(())
-}
-
 /// Appends the octets of all that is said in answer to what was asked.
 pub(crate) fn send_all(
     alloc: Global,
     stack: &mut Stack,
     asked: Asked,
     said: Vec<Said>,
-    out: &mut Vec<u8>,
+    out: &mut Spoken,
 ) -> Result<(), NoMemory>
     ensures { OnOk result ((association : Association) (indication : Indication) → IsCalled stack.old association → IsAsked asked indication
-        → Sends (sending_all indication association said.items) out.old.items stack.new out.new.items) }
-{
-    make_room(said.as_slice(), out)?;
-    send_each(alloc, stack, asked, said, out)
-}
-
-fn send_each(
-    alloc: Global,
-    stack: &mut Stack,
-    asked: Asked,
-    said: Vec<Said>,
-    out: &mut Vec<u8>,
-) -> Result<(), NoMemory>
-    ensures { OnOk result ((association : Association) (indication : Indication) → IsCalled stack.old association → IsAsked asked indication
-        → Sends (sending_all indication association said.items) out.old.items stack.new out.new.items) }
+        → Sends (sending_all indication association said.items) out.old stack.new out.new) }
 {
     for one in said {
         let request = request_of(alloc, stack, asked, one)?;
@@ -160,17 +117,16 @@ fn send_each(
 /// Appends what is spoken on a link, if anything is or the link is shut.
 pub(crate) fn speak(
     link: u32,
-    octets: Vec<u8>,
+    octets: Spoken,
     shut: bool,
     replies: &mut Vec<Reply>,
 ) -> Result<(), NoMemory>
-    ensures said { OnOk result (replies.new.items ≡ replies.old.items ++ speaking link octets.items shut) }
+    ensures said { OnOk result (replies.new.items ≡ replies.old.items ++ speaking link octets shut) }
     ensures err { OnErr result (replies.new.items ≡ replies.old.items) }
 {
     if octets.is_empty() && !shut {
         return Ok(());
     }
-    let octets = Octets::from_vec(octets)?;
     replies.push(Reply { link, octets, shut })?;
     Ok(())
 }

@@ -21,6 +21,7 @@ ghost use Rattle.vf_tables.specs.declared.tables.Tables.{Tables as TablesMeant};
 use crate::error::ServeError;
 use crate::event::{Event, Reply};
 use crate::responder::Responder;
+use crate::sending::send_octets;
 use std::alloc::Global;
 use vf_base::{LinkEvent, LinkFault, Links};
 use vf_disk::Disk;
@@ -161,7 +162,7 @@ fn round<L: Links, D: Disk>(
     let mut replies = Vec::new(alloc);
     answer(alloc, responder, event, piece, &mut replies)?;
     let mut lost = room_for(alloc, replies.len())?;
-    send_all(links, replies.as_slice(), &mut lost);
+    send_all(alloc, links, replies.as_slice(), &mut lost);
     end_all(alloc, responder, lost.as_slice());
     Ok(())
 }
@@ -237,7 +238,7 @@ fn end<D: Disk>(alloc: Global, responder: &mut Responder<D>, link: u32)
 }
 
 /// Sends replies in their order, and tells the links on which a send failed. Nothing more is sent on these.
-fn send_all<L: Links>(links: &mut L, replies: &[Reply], lost: &mut Vec<u32>)
+fn send_all<L: Links>(alloc: Global, links: &mut L, replies: &[Reply], lost: &mut Vec<u32>)
     requires none { lost.old.items ≡ [] }
     requires room { length replies.now ≤ vec_capacity lost.old }
     ensures sends { SendsAll (L.told links.old) (L.told links.new) replies.now lost.new.items }
@@ -246,12 +247,12 @@ fn send_all<L: Links>(links: &mut L, replies: &[Reply], lost: &mut Vec<u32>)
     ensures count { L.fault_count links.new ≡ L.fault_count links.old }
 {
     for reply in replies {
-        send(links, reply, lost);
+        send(alloc, links, reply, lost);
     }
 }
 
 /// Sends a reply, unless a send on its link has failed, and shuts the link where that is due.
-fn send<L: Links>(links: &mut L, reply: &Reply, lost: &mut Vec<u32>)
+fn send<L: Links>(alloc: Global, links: &mut L, reply: &Reply, lost: &mut Vec<u32>)
     requires { length lost.old.items < vec_capacity lost.old }
     ensures sends { (traffic : Traffic) → L.told links.old ≡ Some traffic → SendsReply traffic (L.told links.new) reply.now lost.old.items lost.new.items }
     ensures most { length lost.new.items ≤ length lost.old.items + 1 }
@@ -260,14 +261,14 @@ fn send<L: Links>(links: &mut L, reply: &Reply, lost: &mut Vec<u32>)
     ensures turns { L.turns links.new ≡ L.turns links.old }
     ensures count { L.fault_count links.new ≡ L.fault_count links.old }
 {
-    try_send(links, reply, lost);
+    try_send(alloc, links, reply, lost);
     if reply.shut {
         links.shut(reply.link);
     }
 }
 
 /// Sends a reply, unless a send on its link has failed.
-fn try_send<L: Links>(links: &mut L, reply: &Reply, lost: &mut Vec<u32>)
+fn try_send<L: Links>(alloc: Global, links: &mut L, reply: &Reply, lost: &mut Vec<u32>)
     requires { length lost.old.items < vec_capacity lost.old }
     ensures tries { (traffic : Traffic) → L.told links.old ≡ Some traffic → (later : Traffic) × Tries traffic later reply.now lost.old.items lost.new.items × (L.told links.new ≡ Some later) }
     ensures most { length lost.new.items ≤ length lost.old.items + 1 }
@@ -279,7 +280,7 @@ fn try_send<L: Links>(links: &mut L, reply: &Reply, lost: &mut Vec<u32>)
     if !is_due(reply, lost.as_slice()) {
         return;
     }
-    if links.send(reply.link, reply.octets.as_slice()).is_err() {
+    if send_octets(alloc, links, reply.link, &reply.octets).is_err() {
         lost.push_reserved(reply.link);
     }
 }
@@ -288,7 +289,7 @@ fn try_send<L: Links>(links: &mut L, reply: &Reply, lost: &mut Vec<u32>)
 fn is_due(reply: &Reply, lost: &[u32]) -> bool
     ensures { result ≡ due_test reply.now lost.now }
 {
-    reply.octets.len() > 0 && !is_lost(reply.link, lost)
+    !reply.octets.is_empty() && !is_lost(reply.link, lost)
 }
 
 fn is_lost(link: u32, lost: &[u32]) -> bool

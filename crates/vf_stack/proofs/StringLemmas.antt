@@ -10,11 +10,11 @@ use Rattle.vf_session.specs.declared.state.SessionState.{SessionState}
 use Rattle.vf_session.specs.declared.units.SessionSay.{SessionSay}
 use Rattle.vf_session.specs.declared.units.SessionSay.TheVariants.{Data}
 use Rattle.vf_session.specs.declared.units.TokenSide.{TokenSide}
-use Rattle.vf_stack.specs.Association.{Exchange}
-use Rattle.vf_stack.specs.Represents.{Stands, standing_of}
-use Rattle.vf_stack.specs.Requests.{element_carried, in_first, syntax_for}
+use Rattle.vf_stack.specs.Association.{Association, Exchange}
+use Rattle.vf_stack.specs.Represents.{IsSame, Kept, Represents, Stands, side_of}
+use Rattle.vf_stack.specs.Requests.{element_carried, in_first}
 use Rattle.vf_stack.specs.Sending.{permits, tsdu_of}
-use Rattle.vf_stack.specs.Sends.{IsPermitted, PutsHead, unit_kept}
+use Rattle.vf_stack.specs.Sends.{IsPermitted, Joins, PutsHead, Sends, unit_kept}
 use Rattle.vf_stack.specs.declared.ending.Ending.{Ending}
 use Rattle.vf_stack.specs.declared.ending.Ending.TheVariants.{Refused}
 use Rattle.vf_stack.specs.declared.exchange.KeptExchange.{KeptExchange}
@@ -22,8 +22,8 @@ use Rattle.vf_stack.specs.declared.indication.Item.TheVariants as items
 use Rattle.vf_stack.specs.declared.request.Request.{Request}
 use Rattle.vf_stack.specs.declared.request.Request.TheVariants as requests
 use Rattle.vf_stack.proofs.HeadLemmas.{plain_head}
-use Rattle.vf_stack.proofs.SendLemmas.{keeps-permitted, may-permitted}
-use Rattle.vf_upper.specs.CarriedCode.{Carried}
+use Rattle.vf_stack.proofs.SendLemmas.{keeps-permitted, may-permitted, sends-all}
+use Rattle.vf_tpkt.specs.Sending.{most_of, sent as packets}
 use Rattle.vf_upper.specs.PlainData.{string_data}
 use Rattle.vf_upper.specs.Written.{pdv_list, universal, user_data}
 use Rattle.vf_upper.specs.declared.contexts.ContextEntry.{ContextEntry}
@@ -69,3 +69,23 @@ may-data kept octets p = may-permitted kept.session.side kept.session.offer kept
 
 pub keeps-data : (kept : KeptExchange) (x : Exchange) (octets : List ℕ) → Stands kept x → IsPermitted kept (Data false octets) → Keeps kept.session x.trace
 keeps-data kept x octets s p = keeps-permitted kept x (Data false octets) s (no-refusal kept octets p) p
+
+-- The packets of a request that is P-DATA of one string: its TSDU is what was put before the string, and the string.
+by-string : (kept kept' : Kept) (a : Association) (request : Request) (string head out out' : List ℕ) → Represents kept a → IsPermitted kept.exchange (unit_kept kept.exchange request)
+    → PutsHead kept.exchange request string [] head → ((octets : List ℕ) → IsPermitted kept.exchange (Data false octets) → Joins kept.exchange (Data false octets) kept'.exchange)
+    → IsSame kept.exchange kept'.exchange → kept'.transport ≡ kept.transport → out' ≡ out ++ packets (most_of kept.transport.connection.phase) (head ++ string) → Sends (side_of kept) a request out kept' out'
+by-string kept kept' a request string head out out' rep permitted puts joins same transport octets =
+    let joined = joins puts.octets (subst (IsPermitted kept.exchange) puts.unit_is permitted) in
+    sends-all kept kept' a request (unit_kept kept.exchange request) out out' rep refl
+    (octets ∙ ap (λ (o : List ℕ). out ++ packets (most_of kept.transport.connection.phase) o) puts.together)
+    transport (subst (λ (unit : SessionSay). Joins kept.exchange unit kept'.exchange) (sym puts.unit_is) joined) same
+
+pub string-sent : (inside kept kept' : Kept) (a : Association) (request : Request) (string head out out' : List ℕ) → inside ≡ kept → Represents kept a
+    → IsPermitted kept.exchange (unit_kept kept.exchange request)
+    → PutsHead inside.exchange request string [] head → ((octets : List ℕ) → IsPermitted inside.exchange (Data false octets) → Joins inside.exchange (Data false octets) kept'.exchange)
+    → IsSame inside.exchange kept'.exchange → kept'.transport ≡ inside.transport → out' ≡ out ++ packets (most_of inside.transport.connection.phase) (head ++ string) → Sends (side_of kept) a request out kept' out'
+string-sent inside kept kept' a request string head out out' view rep permitted =
+    subst
+    (λ (k : Kept). PutsHead k.exchange request string [] head → ((octets : List ℕ) → IsPermitted k.exchange (Data false octets) → Joins k.exchange (Data false octets) kept'.exchange)
+    → IsSame k.exchange kept'.exchange → kept'.transport ≡ k.transport → out' ≡ out ++ packets (most_of k.transport.connection.phase) (head ++ string) → Sends (side_of kept) a request out kept' out')
+    (sym view) (by-string kept kept' a request string head out out' rep permitted)

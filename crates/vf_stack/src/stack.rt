@@ -1,5 +1,5 @@
 //! One end of an association: what it receives, and what it sends.
-ghost use Rattle.std.specs.Prelude.{◌≡◌, ◌↔◌, ◌+◌, ◌++◌, ◌≤◌, [], IfOk, IsTrue, List, OnErr, OnOk, false, length, true, ℕ};
+ghost use Rattle.std.specs.Prelude.{◌≡◌, ◌↔◌, ◌+◌, ◌++◌, ◌≤◌, [], IfNone, IfOk, IfSome, IsTrue, List, OnErr, OnOk, false, length, true, ℕ};
 ghost use Rattle.vf_stack.specs.Association.{Association, beginning, is_ended as is_over};
 ghost use Rattle.vf_stack.specs.Pieces.{TellOnce};
 ghost use Rattle.vf_stack.specs.Receiving.{octets_received, piece_received};
@@ -21,7 +21,7 @@ use crate::unit::has_token;
 use crate::{Ending, Indication, Request};
 use std::alloc::Global;
 use std::marker::Model;
-use vf_base::{MOST_VALUE_OCTETS, NoMemory};
+use vf_base::{MOST_VALUE_OCTETS, NoMemory, Octets};
 use vf_session::{Session, SessionSay};
 use vf_tpkt::{Tpkt, TpktError, Unit};
 use vf_upper::{Contexts, Offers};
@@ -172,6 +172,57 @@ impl Stack {
         } else {
             self.send_unit(alloc, request, out)
         }
+    }
+
+    /// Sends a request that may be sent, as `send` does. Where it is P-DATA of one string that goes in one packet, the octets
+    /// of the string, which end the packet, are not appended, but answered. Without memory nothing is appended, and nothing
+    /// has changed.
+    pub fn send_front<'a>(
+        &mut self,
+        alloc: Global,
+        request: &'a Request,
+        out: &mut Vec<u8>,
+    ) -> Result<Option<&'a Octets>, NoMemory>
+        requires { MaySend self.old request.now }
+        // Of every association that the stack represents.
+        ensures whole { (a : Association) → Represents self.old a → IfOk result (λ string. IfNone string (Sends (side_of self.old) a request.now out.old.items self.new out.new.items)) }
+        ensures front { (a : Association) → Represents self.old a → IfOk result (λ string. IfSome string (λ octets. Sends (side_of self.old) a request.now out.old.items self.new (out.new.items ++ octets.now))) }
+        ensures end { IsSame self.old.exchange self.new.exchange }
+        ensures err { OnErr result ((self.new ≡ self.old) × (out.new.items ≡ out.old.items)) }
+    {
+        let string = self.send_before(alloc, request, out)?;
+        if string.is_none() {
+            self.send(alloc, request, out)?;
+        }
+        Ok(string)
+    }
+
+    /// Sends a request that is P-DATA of one string, where that goes in one packet: appends what stands before the string, and
+    /// answers the string.
+    fn send_before<'a>(
+        &mut self,
+        alloc: Global,
+        request: &'a Request,
+        out: &mut Vec<u8>,
+    ) -> Result<Option<&'a Octets>, NoMemory>
+        requires { MaySend self.old request.now }
+        ensures front { (a : Association) → Represents self.old a → IfOk result (λ string. IfSome string (λ octets. Sends (side_of self.old) a request.now out.old.items self.new (out.new.items ++ octets.now))) }
+        ensures not { IfOk result (λ string. IfNone string ((self.new ≡ self.old) × (out.new.items ≡ out.old.items))) }
+        ensures end { IsSame self.old.exchange self.new.exchange }
+        ensures err { OnErr result ((self.new ≡ self.old) × (out.new.items ≡ out.old.items)) }
+    {
+        let mut head = Vec::new(alloc);
+        let Some(string) = self.exchange.put_before(request, &mut head)? else {
+            return Ok(None);
+        };
+        if !self
+            .transport
+            .wrap_front(head.as_slice(), string.len(), out)?
+        {
+            return Ok(None);
+        }
+        self.exchange.join_data();
+        Ok(Some(string))
     }
 
     /// Sends a request by its unit.

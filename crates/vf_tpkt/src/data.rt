@@ -1,5 +1,5 @@
 //! TSDUs as DT TPDUs.
-ghost use Rattle.std.specs.Prelude.{◌≡◌, ◌≤◌, ◌+◌, ◌++◌, ◌∷◌, length, OnOk, OnErr};
+ghost use Rattle.std.specs.Prelude.{◌≡◌, ◌≤◌, ◌+◌, ◌++◌, ◌∷◌, IfOk, List, OnErr, OnOk, false, length, nat_le, true, ℕ};
 ghost use Rattle.vf_tpkt.specs.Pieces.{Extends};
 ghost use Rattle.vf_tpkt.specs.Sending.{sent};
 ghost use Rattle.vf_tpkt.specs.Tpdu.{packet};
@@ -67,10 +67,41 @@ fn write_two(mark: u8, head: &[u8], tail: &[u8], out: &mut Vec<u8>) -> Result<()
     ensures ok { OnOk result (out.new.items ≡ out.old.items ++ packet (2 ∷ 240 ∷ mark ∷ (head.now ++ tail.now))) }
     ensures err { OnErr result (Extends out.old.items out.new.items) }
 {
-    let size = head.len() + tail.len() + 7;
+    write_before(mark, head, tail.len(), out)?;
+    out.extend_from_slice(tail)?;
+    Ok(())
+}
+
+/// Appends what stands before the last octets of a TSDU of these and so many more, where it goes in one DT; says whether it
+/// does.
+pub(crate) fn write_front(
+    most: usize,
+    head: &[u8],
+    count: usize,
+    out: &mut Vec<u8>,
+) -> Result<bool, NoMemory>
+    requires fits { most ≤ 65528 }
+    ensures one { IfOk result (λ one. one ≡ nat_le (length head.now + count) most) }
+    ensures front { IfOk result (λ one. one ≡ true → (tail : List ℕ) → length tail ≡ count → out.new.items ++ tail ≡ out.old.items ++ sent most (head.now ++ tail)) }
+    ensures other { IfOk result (λ one. one ≡ false → out.new.items ≡ out.old.items) }
+    ensures err { OnErr result (Extends out.old.items out.new.items) }
+{
+    if head.len() > most || count > most - head.len() {
+        return Ok(false);
+    }
+    write_before(LAST, head, count, out)?;
+    Ok(true)
+}
+
+/// Appends what stands before the last octets of a DT of these and so many more.
+fn write_before(mark: u8, head: &[u8], count: usize, out: &mut Vec<u8>) -> Result<(), NoMemory>
+    requires { length head.now + count ≤ 65528 }
+    ensures ok { OnOk result ((tail : List ℕ) → length tail ≡ count → out.new.items ++ tail ≡ out.old.items ++ packet (2 ∷ 240 ∷ mark ∷ (head.now ++ tail))) }
+    ensures more { Extends out.old.items out.new.items }
+{
+    let size = head.len() + count + 7;
     out.extend_from_slice(&[3, 0, (size / 256) as u8, (size % 256) as u8, 2, 0xF0, mark])?;
     out.extend_from_slice(head)?;
-    out.extend_from_slice(tail)?;
     Ok(())
 }
 

@@ -1,5 +1,5 @@
 //! The transport's user end: what was received, and what is sent.
-ghost use Rattle.std.specs.Prelude.{◌≡◌, ◌+◌, ◌≤◌, ◌<◌, ◌++◌, [], length, List, ℕ, IsTrue, IfOk, OnOk, OnErr, None};
+ghost use Rattle.std.specs.Prelude.{◌≡◌, ◌+◌, ◌≤◌, ◌<◌, ◌++◌, [], length, List, ℕ, IsTrue, IfOk, OnOk, OnErr, None, false, nat_le, true};
 ghost use Rattle.vf_tpkt.specs.Receiving.{first_packet, onward, part};
 ghost use Rattle.vf_tpkt.specs.Stream.{HasReceived};
 ghost use Rattle.vf_tpkt.specs.Wanting.{TellsOnce, lacking};
@@ -10,7 +10,7 @@ ghost use Rattle.vf_tpkt.specs.Tpdu.{packet, request};
 ghost use Rattle.vf_tpkt.specs.declared.limits.TheConstants.{MOST_PACKET_OCTETS};
 
 use crate::connection::Connection;
-use crate::data::write_joined;
+use crate::data::{write_front, write_joined};
 use crate::packet::{HEADER, wanted};
 use crate::{Side, TpktError, Unit};
 use std::alloc::Global;
@@ -154,6 +154,25 @@ impl Tpkt {
             Ok(()) => Ok(()),
             Err(wanting) => {
                 out.truncate(before);
+                Err(wanting)
+            }
+        }
+    }
+
+    /// Appends what stands before the last octets of a TSDU of these and so many more, where it goes in one packet, and says
+    /// whether it does: followed by so many octets, it is what `wrap` appends. Else nothing is appended, nor without memory.
+    pub fn wrap_front(&self, head: &[u8], count: usize, out: &mut Vec<u8>) -> Result<bool, NoMemory>
+        requires { IsTrue (stands_now self.now) }
+        ensures one { IfOk result (λ one. one ≡ nat_le (length head.now + count) (most_of self.now.connection.phase)) }
+        ensures front { IfOk result (λ one. one ≡ true → (tail : List ℕ) → length tail ≡ count → out.new.items ++ tail ≡ out.old.items ++ sent (most_of self.now.connection.phase) (head.now ++ tail)) }
+        ensures other { IfOk result (λ one. one ≡ false → out.new.items ≡ out.old.items) }
+        ensures err { OnErr result (out.new.items ≡ out.old.items) }
+    {
+        let stood = out.len();
+        match write_front(self.connection.most(), head, count, out) {
+            Ok(one) => Ok(one),
+            Err(wanting) => {
+                out.truncate(stood);
                 Err(wanting)
             }
         }

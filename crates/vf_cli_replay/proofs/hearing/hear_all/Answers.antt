@@ -17,8 +17,7 @@ loop-place-preserved c = λ ends are.
     let reply = c.index-replies-place.result in
     let place = c.loop-place.place in
     let at : drop place replies ≡ reply ∷ drop (place + 1) replies = reply_at replies place reply (omega (arith, c.loop-place-test.true)) c.index-replies-place.is in
-    let octets : c.extend_from_slice.new.self.items ≡ c.loop-place.octets.items ++ reply.octets =
-    c.in_ok-extend_from_slice.ensures.items ∙ ap (λ (l : List ℕ). c.loop-place.octets.items ++ l) c.as_slice.ensures in
+    let octets : c.append_to.new.out.items ≡ c.loop-place.octets.items ++ reply.octets = c.in_ok-append_to.ensures in
     let rest : take (length replies - (place + 1)) (drop (place + 1) replies) ≡ drop (place + 1) replies =
     take_all (length replies - (place + 1)) (drop (place + 1) replies) (omega (arith, length-drop (place + 1) replies)) in
     let goes : c.goes_on.result ≡ goes_on reply (drop (place + 1) replies) = c.goes_on.ensures ∙ ap (goes_on reply) rest in
@@ -26,7 +25,7 @@ loop-place-preserved c = λ ends are.
     elim c.if-not-goes_on.branch [
       | then-not-goes_on+in_ok-hear_on w ↦
           (let heard = w.in_ok-hear_on.ensures hears.now hears.are in
-          let all : w.as_slice-then-not-goes_on.result.now ≡ c.loop-place.octets.items ++ reply.octets = w.as_slice-then-not-goes_on.ensures.value ∙ octets in
+          let all : w.as_slice.result.now ≡ c.loop-place.octets.items ++ reply.octets = w.as_slice.ensures.value ∙ octets in
           let it : HasHeard (heard_on (behind c.loop-place.octets.items reply) hears.now) c.loop-place.text.items w.hear_on.new.callers.entries w.hear_on.new.text.items =
           subst (λ (l : List ℕ). HasHeard (heard_on (record { link = reply.link; octets = l; shut = reply.shut }) hears.now) c.loop-place.text.items w.hear_on.new.callers.entries w.hear_on.new.text.items) all heard in
           hears_by replies ends c.args.text.now.items (place + 1) [] c.if-not-goes_on.octets.items w.hear_on.new.callers.entries c.if-not-goes_on.callers.entries w.hear_on.new.text.items c.if-not-goes_on.text.items

@@ -1,4 +1,4 @@
-use Rattle.std.proofs.Common.{ℕ, List, subst, sym, take}
+use Rattle.std.proofs.Common.{ℕ, List, subst, sym, take, ◌∙◌}
 use Rattle.vf_session.specs.declared.units.TokenSide.TheVariants.{Initiator}
 use Rattle.vf_stack.specs.Association.{Association}
 use Rattle.vf_stack.specs.Receiving.{octets_received}
@@ -18,6 +18,6 @@ loop-reply-preserved c =
           let heard : IsCalling c.feed.new.self (octets_received Initiator before c.as_slice.result.now).association =
           hears_octets c.loop-reply.self.stack c.feed.new.self before c.as_slice.result.now _ _ _ _ stands c.in_ok-feed.ensures.end (c.in_ok-feed.ensures.received before stands.represents) in
           subst (λ (a : Association). IsCalling c.feed.new.self a) (sym (hears_more calling replies place reply c.loop-reply-test.true c.reply-item.is))
-          (subst (λ (octets : List ℕ). IsCalling c.feed.new.self (octets_received Initiator before octets).association) c.as_slice.ensures heard);
+          (subst (λ (octets : List ℕ). IsCalling c.feed.new.self (octets_received Initiator before octets).association) (c.as_slice.ensures.value ∙ c.in_ok-octets.ensures) heard);
       link = c.loop-reply.invariant.link;
     }

@@ -12,7 +12,7 @@ pub returns-then-len-ge-MOST_LINKS-clause-answers : goal.returns-then-len-ge-MOS
 returns-then-len-ge-MOST_LINKS-clause-answers g c = λ serving represents.
     let full : 64 ≤ length c.args.self.now.links.entries = omega (arith, c.len.ensures.len) in
     arrived-full c.args.number (kept_of c.args.self.now) serving c.args.replies.now.items represents c.speak.new.replies.items (sym c.contains_key.ensures ∙ c.if-contains_key.false) full
-    (c.in_ok-speak.ensures.said ∙ ap (λ (o : List ℕ). c.args.replies.now.items ++ speaking c.args.number o true) c.new.ensures.items)
+    (c.in_ok-speak.ensures.said ∙ ap (λ (o : List ℕ). c.args.replies.now.items ++ speaking c.args.number o true) c.new.ensures)
 
 pub returns-clause-answers : goal.returns-clause-answers
 returns-clause-answers g c = λ serving represents.
