@@ -2,7 +2,8 @@
 #![tactic(auto)]
 
 use std::env;
-use std::io::ErrorKind;
+use std::fs::File;
+use std::io::{self, ErrorKind};
 use std::process::ExitCode;
 use vf_base::{ReadSource, WriteSink};
 use vf_cli::{Wanted, WordsError, ftam, wanted};
@@ -13,6 +14,9 @@ use vf_disk::FileDisk;
 const NO_MEMORY: u8 = 9;
 
 fn main(rt: HostRuntime) -> ExitCode {
+    // A standard stream that was closed would else have its number taken by the store, which what is printed would then
+    // overwrite. There are three such streams.
+    let (_first, _second, _third) = (folder(&rt), folder(&rt), folder(&rt));
     let mut words = Vec::new(rt.alloc());
     match env::args(&rt) {
         Ok(args) => {
@@ -26,7 +30,7 @@ fn main(rt: HostRuntime) -> ExitCode {
         // Words that are no text are outside the grammar, as no words are.
         Err(_) => {}
     }
-    // What the words want of the outside is opened here; standard input and output stand open.
+    // What the words want of the outside is opened here.
     let wanted = match wanted(rt.alloc(), &words) {
         Ok(wanted) => Some(wanted),
         Err(WordsError::Usage) => None,
@@ -47,6 +51,11 @@ fn main(rt: HostRuntime) -> ExitCode {
         &mut out,
     );
     ExitCode::from(status)
+}
+
+/// A folder, which can be neither read nor written, as a closed stream can't. It has the least number that is free.
+fn folder(rt: &HostRuntime) -> io::Result<File> {
+    File::open(rt, "/")
 }
 
 /// The disk of the store that the words want, or one over no file.
