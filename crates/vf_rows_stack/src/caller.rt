@@ -60,6 +60,8 @@ struct Conversation {
     /// How many octets come at a time.
     pieces: usize,
     lines: Vec<u8>,
+    /// The rows so far.
+    text: String,
 }
 
 /// The messages of words of digits.
@@ -93,6 +95,7 @@ fn say(alloc: Global, caller: &mut Caller, words: &str, octets: &mut Vec<u8>) ->
 impl Conversation {
     /// The called end has the CR, and its CC isn't heard yet.
     fn begin(alloc: Global, pieces: usize) -> Result<Conversation, Fail> {
+        let text = String::from_str(alloc, "\n")?;
         let mut octets = Vec::new(alloc);
         let caller = Caller::new(alloc, true, &mut octets)?;
         let mut called = End::new(alloc, "called")?;
@@ -102,6 +105,7 @@ impl Conversation {
             called,
             pieces,
             lines: Vec::new(alloc),
+            text,
         })
     }
 
@@ -128,54 +132,54 @@ impl Conversation {
         self.hear(alloc)
     }
 
-    /// Appends a row with what it tells.
-    fn put_row(&mut self, alloc: Global, row: &str, text: &mut String) -> Result<(), Fail> {
-        self.take(alloc, row)?;
-        text.push_str(format!(in alloc; "{row} = {}", self.called.told)?.as_str())?;
+    /// Appends the words of a row with what they tell.
+    fn put_words(&mut self, alloc: Global, words: &str) -> Result<(), Fail> {
+        self.take(alloc, words)?;
+        self.text.push_str(format!(in alloc; "{words} = {}", self.called.told)?.as_str())?;
         for octet in &self.lines {
-            text.push(if *octet == b'\n' {
+            self.text.push(if *octet == b'\n' {
                 ';'
             } else {
                 char::from(*octet)
             })?;
         }
-        text.push('\n')?;
+        self.text.push('\n')?;
         self.called.told.clear();
         self.lines.clear();
         Ok(())
     }
+
+    /// Appends a row with what it tells.
+    fn put_row(&mut self, alloc: Global, row: &str) -> Result<(), Fail> {
+        match row.split_once(" = ") {
+            Some((words, _)) => self.put_words(alloc, words),
+            None => Ok(()),
+        }
+    }
 }
 
-/// Appends rows with what they tell, once the CC is heard.
-fn put_rows(
-    alloc: Global,
-    talk: &mut Conversation,
-    rows: &str,
-    text: &mut String,
-) -> Result<(), Fail> {
-    talk.hear(alloc)?;
+/// Appends rows with what they tell.
+fn put_rows(alloc: Global, talk: &mut Conversation, rows: &str) -> Result<(), Fail> {
     for row in rows.lines() {
-        if let Some((words, _)) = row.split_once(" = ") {
-            talk.put_row(alloc, words, text)?;
-        }
+        talk.put_row(alloc, row)?;
     }
     Ok(())
 }
 
-/// Rows with what they tell.
-fn lines_of(alloc: Global, rows: &str, pieces: usize) -> Result<String, Fail> {
-    let mut text = String::from_str(alloc, "\n")?;
+/// The conversation of rows, once the CC is heard.
+fn talked(alloc: Global, rows: &str, pieces: usize) -> Result<Conversation, Fail> {
     let mut talk = Conversation::begin(alloc, pieces)?;
-    put_rows(alloc, &mut talk, rows, &mut text)?;
-    Ok(text)
+    talk.hear(alloc)?;
+    put_rows(alloc, &mut talk, rows)?;
+    Ok(talk)
 }
 
 #[test]
 fn calling_ends_say_and_hear(rt: HostRuntime) -> Result<(), Fail> {
     for rows in [WRITE, READ, RECOVERED] {
         for pieces in [1, 7, 100_000] {
-            let found = lines_of(rt.alloc(), rows, pieces)?;
-            assert_eq!(rt; found.as_str(), rows, "{pieces} octets at a time");
+            let talk = talked(rt.alloc(), rows, pieces)?;
+            assert_eq!(rt; talk.text.as_str(), rows, "{pieces} octets at a time");
         }
     }
     Ok(())

@@ -62,12 +62,14 @@ const READ: &str = "
 > Abort:A403800107 = Abort 4
 ";
 
-/// The two ends of an association, and how many octets each takes at a time.
+/// The two ends of an association, how many octets each takes at a time, and the rows with what they tell.
 #[derive(Drop)]
 struct Ends {
     calling: End,
     called: End,
     pieces: usize,
+    /// The rows so far.
+    text: String,
 }
 
 /// One end takes what the other has sent.
@@ -91,12 +93,14 @@ fn tell(
 
 impl Ends {
     fn new(alloc: Global, name: &str, pieces: usize) -> Result<Ends, Fail> {
+        let text = String::from_str(alloc, "\n")?;
         let calling = End::new(alloc, name)?;
         let called = End::new(alloc, "called")?;
         Ok(Ends {
             calling,
             called,
             pieces,
+            text,
         })
     }
 
@@ -129,50 +133,49 @@ impl Ends {
         Ok(())
     }
 
-    /// Appends a row with what it tells both ends.
-    fn put_row(&mut self, alloc: Global, row: &str, text: &mut String) -> Result<(), Fail> {
-        self.take(alloc, row)?;
+    /// Appends the request of a row with what it tells both ends.
+    fn put_request(&mut self, alloc: Global, request: &str) -> Result<(), Fail> {
+        self.take(alloc, request)?;
         let (calling, called) = (self.calling.told.as_str(), self.called.told.as_str());
-        text.push_str(format!(in alloc; "{row} = {calling}{called}\n")?.as_str())?;
+        let row = format!(in alloc; "{request} = {calling}{called}\n")?;
+        self.text.push_str(row.as_str())?;
         self.calling.told.clear();
         self.called.told.clear();
         Ok(())
     }
-}
 
-/// Appends rows with what they tell the two ends, once these are connected.
-fn put_rows(alloc: Global, ends: &mut Ends, rows: &str, text: &mut String) -> Result<(), Fail> {
-    ends.connect(alloc)?;
-    for row in rows.lines() {
-        if let Some((request, _)) = row.split_once(" = ") {
-            ends.put_row(alloc, request, text)?;
+    /// Appends a row with what it tells both ends.
+    fn put_row(&mut self, alloc: Global, row: &str) -> Result<(), Fail> {
+        match row.split_once(" = ") {
+            Some((request, _)) => self.put_request(alloc, request),
+            None => Ok(()),
         }
     }
-    Ok(())
 }
 
-/// Rows with what they tell the two ends, of which the calling one has this name.
-fn dialogue(alloc: Global, name: &str, rows: &str, pieces: usize) -> Result<String, Fail> {
-    let mut text = String::from_str(alloc, "\n")?;
-    let mut ends = Ends::new(alloc, name, pieces)?;
-    put_rows(alloc, &mut ends, rows, &mut text)?;
-    Ok(text)
-}
-
-#[test]
-fn a_write_is_told(rt: HostRuntime) -> Result<(), Fail> {
-    for pieces in [1, 7, 64, 100_000] {
-        let found = dialogue(rt.alloc(), "sync", WRITE, pieces)?;
-        assert_eq!(rt; found.as_str(), WRITE, "{pieces} octets at a time");
+/// Appends rows with what they tell the two ends.
+fn put_rows(alloc: Global, ends: &mut Ends, rows: &str) -> Result<(), Fail> {
+    for row in rows.lines() {
+        ends.put_row(alloc, row)?;
     }
     Ok(())
 }
 
+/// The two ends after these rows, of which the calling one has this name, once they are connected.
+fn dialogue(alloc: Global, name: &str, rows: &str, pieces: usize) -> Result<Ends, Fail> {
+    let mut ends = Ends::new(alloc, name, pieces)?;
+    ends.connect(alloc)?;
+    put_rows(alloc, &mut ends, rows)?;
+    Ok(ends)
+}
+
 #[test]
-fn a_read_is_told(rt: HostRuntime) -> Result<(), Fail> {
-    for pieces in [1, 7, 64, 100_000] {
-        let found = dialogue(rt.alloc(), "plain", READ, pieces)?;
-        assert_eq!(rt; found.as_str(), READ, "{pieces} octets at a time");
+fn a_write_and_a_read_are_told(rt: HostRuntime) -> Result<(), Fail> {
+    for (name, rows) in [("sync", WRITE), ("plain", READ)] {
+        for pieces in [1, 7, 64, 100_000] {
+            let ends = dialogue(rt.alloc(), name, rows, pieces)?;
+            assert_eq!(rt; ends.text.as_str(), rows, "{pieces} octets at a time");
+        }
     }
     Ok(())
 }

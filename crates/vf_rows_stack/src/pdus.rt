@@ -15,9 +15,14 @@ fn out_of_range(number: u8) -> Pdu {
     }
 }
 
+/// Whether it is known to be out of range.
+fn is_refused(number: u8) -> bool {
+    !is_in_range(&out_of_range(number))
+}
+
 #[test]
 fn tells_what_is_out_of_range(rt: HostRuntime) {
     for number in 0..4 {
-        assert!(rt; !is_in_range(&out_of_range(number)), "{number}");
+        assert!(rt; is_refused(number), "{number}");
     }
 }

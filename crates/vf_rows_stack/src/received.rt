@@ -1,7 +1,9 @@
 //! Octets that come to one end and what it sends, with what they tell and all that is sent.
 use crate::end::End;
 use crate::octets::show_all;
+use crate::shown::put_comma;
 use std::alloc::Global;
+use std::process::Abort;
 use std::test::Fail;
 
 /// An end, the octets that come to it, and the requests that it sends, each after `>`; then what they tell. All octets that
@@ -31,7 +33,8 @@ called 0300000B06E00000000100 0300005F02F0800D5614020002C150314EA003800101A247A4
 fn shown(alloc: Global, end: &End) -> Result<String, Fail> {
     let mut text = String::from_str(alloc, end.told.as_str())?;
     if end.stack.ended() {
-        text.push_str(if text.is_empty() { "ended" } else { ", ended" })?;
+        put_comma(&mut text)?;
+        text.push_str("ended")?;
     }
     if !end.sent.is_empty() {
         text.push_str(" > ")?;
@@ -56,18 +59,23 @@ fn answer(alloc: Global, name: &str, steps: &str, pieces: usize) -> Result<Strin
     shown_after(alloc, &mut end, steps, pieces)
 }
 
+/// A row holds, its octets so many at a time.
+fn assert_row(rt: &impl Abort, alloc: Global, given: &str, expected: &str) -> Result<(), Fail> {
+    let (name, steps) = given.split_once(' ').unwrap_or((given, ""));
+    for pieces in [1, 5, 1000] {
+        let found = answer(alloc, name, steps, pieces)?;
+        assert_eq!(rt; found.as_str().trim(), expected.trim(), "{given}");
+    }
+    Ok(())
+}
+
 #[test]
 fn octets_are_received(rt: HostRuntime) -> Result<(), Fail> {
     let mut count = 0_u32;
     for row in ROWS.lines() {
         if let Some((given, expected)) = row.split_once(" =") {
-            if let Some((name, steps)) = given.split_once(' ') {
-                for pieces in [1, 5, 1000] {
-                    let found = answer(rt.alloc(), name, steps, pieces)?;
-                    assert_eq!(rt; found.as_str().trim(), expected.trim(), "{given}");
-                }
-                count = count.saturating_add(1);
-            }
+            assert_row(&rt, rt.alloc(), given, expected)?;
+            count = count.saturating_add(1);
         }
     }
     assert_eq!(rt; count, 18);

@@ -9,17 +9,13 @@ use vf_stack::{Item, Request};
 
 fn value_of(alloc: Global, digits: &str) -> Result<Value, Fail> {
     let octets = octets_of(alloc, digits)?;
-    match read(alloc, octets.as_slice()) {
-        Ok((value, _)) => Ok(value),
-        Err(fault) => Err(Fail::from(fault)),
-    }
+    let (value, _) = read(alloc, octets.as_slice())?;
+    Ok(value)
 }
 
 fn pdu_in(alloc: Global, value: &Value) -> Result<Boxed<Pdu>, Fail> {
-    match vf_pdu::of_value(alloc, value) {
-        Ok(pdu) => Ok(Boxed::new(alloc, pdu)?),
-        Err(fault) => Err(Fail::from(fault)),
-    }
+    let pdu = vf_pdu::of_value(alloc, value)?;
+    Ok(Boxed::new(alloc, pdu)?)
 }
 
 fn pdu_of(alloc: Global, digits: &str) -> Result<Boxed<Pdu>, Fail> {
@@ -32,10 +28,8 @@ fn item_in(alloc: Global, value: &Value) -> Result<Item, Fail> {
     if value.tag().class == 2 {
         return Ok(Item::Pdu(pdu_in(alloc, value)?));
     }
-    match vf_elements::of_value(alloc, value) {
-        Ok(element) => Ok(Item::Element(element)),
-        Err(fault) => Err(Fail::from(fault)),
-    }
+    let element = vf_elements::of_value(alloc, value)?;
+    Ok(Item::Element(element))
 }
 
 fn item_of(alloc: Global, digits: &str) -> Result<Request, Fail> {
@@ -54,10 +48,11 @@ fn abort_of(alloc: Global, digits: &str) -> Result<Request, Fail> {
 /// The letters of a name, and the number after them, which is 0 where there is none.
 fn name_and_number(name: &str) -> Result<(&str, u32), Fail> {
     let letters = name.trim_end_matches(['0', '1', '2', '3', '4', '5', '6', '7', '8', '9']);
-    match name.strip_prefix(letters) {
-        None | Some("") => Ok((letters, 0)),
-        Some(digits) => Ok((letters, digits.parse::<u32>()?)),
+    let digits = name.strip_prefix(letters).unwrap_or("");
+    if digits.is_empty() {
+        return Ok((letters, 0));
     }
+    Ok((letters, digits.parse::<u32>()?))
 }
 
 /// The request with one PDU that a name stands for.
