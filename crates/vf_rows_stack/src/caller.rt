@@ -1,7 +1,9 @@
 //! A calling end that a script keeps on its link, and the called end that it talks with: the lines of what it hears.
 use crate::end::End;
 use crate::octets::octets_of;
+use crate::rows::{Rows, put_rows};
 use std::alloc::Global;
+use std::process::Abort;
 use std::test::Fail;
 use vf_base::Sequence;
 use vf_ber::read;
@@ -92,20 +94,25 @@ fn say(alloc: Global, caller: &mut Caller, words: &str, octets: &mut Vec<u8>) ->
     Ok(())
 }
 
+/// A called end to which these octets came.
+fn called_with(alloc: Global, octets: &[u8], pieces: usize) -> Result<End, Fail> {
+    let mut called = End::new(alloc, "called")?;
+    called.take(alloc, octets, pieces)?;
+    Ok(called)
+}
+
 impl Conversation {
     /// The called end has the CR, and its CC isn't heard yet.
     fn begin(alloc: Global, pieces: usize) -> Result<Conversation, Fail> {
-        let text = String::from_str(alloc, "\n")?;
         let mut octets = Vec::new(alloc);
         let caller = Caller::new(alloc, true, &mut octets)?;
-        let mut called = End::new(alloc, "called")?;
-        called.take(alloc, octets.as_slice(), pieces)?;
+        let called = called_with(alloc, octets.as_slice(), pieces)?;
         Ok(Conversation {
             caller,
             called,
             pieces,
             lines: Vec::new(alloc),
-            text,
+            text: String::new(alloc),
         })
     }
 
@@ -148,8 +155,9 @@ impl Conversation {
         self.lines.clear();
         Ok(())
     }
+}
 
-    /// Appends a row with what it tells.
+impl Rows for Conversation {
     fn put_row(&mut self, alloc: Global, row: &str) -> Result<(), Fail> {
         match row.split_once(" = ") {
             Some((words, _)) => self.put_words(alloc, words),
@@ -158,28 +166,31 @@ impl Conversation {
     }
 }
 
-/// Appends rows with what they tell.
-fn put_rows(alloc: Global, talk: &mut Conversation, rows: &str) -> Result<(), Fail> {
-    for row in rows.lines() {
-        talk.put_row(alloc, row)?;
-    }
+/// Rows tell what stands in them, once the CC is heard.
+fn go_on(rt: &impl Abort, alloc: Global, talk: &mut Conversation, rows: &str) -> Result<(), Fail> {
+    talk.text.push('\n')?;
+    talk.hear(alloc)?;
+    put_rows(alloc, talk, rows)?;
+    assert_eq!(rt;
+        talk.text.as_str(),
+        rows,
+        "{} octets at a time",
+        talk.pieces
+    );
     Ok(())
 }
 
-/// The conversation of rows, once the CC is heard.
-fn talked(alloc: Global, rows: &str, pieces: usize) -> Result<Conversation, Fail> {
+/// The same of a new conversation, which is lent, so that there is one way on which it is dropped.
+fn assert_rows(rt: &impl Abort, alloc: Global, rows: &str, pieces: usize) -> Result<(), Fail> {
     let mut talk = Conversation::begin(alloc, pieces)?;
-    talk.hear(alloc)?;
-    put_rows(alloc, &mut talk, rows)?;
-    Ok(talk)
+    go_on(rt, alloc, &mut talk, rows)
 }
 
 #[test]
 fn calling_ends_say_and_hear(rt: HostRuntime) -> Result<(), Fail> {
     for rows in [WRITE, READ, RECOVERED] {
         for pieces in [1, 7, 100_000] {
-            let talk = talked(rt.alloc(), rows, pieces)?;
-            assert_eq!(rt; talk.text.as_str(), rows, "{pieces} octets at a time");
+            assert_rows(&rt, rt.alloc(), rows, pieces)?;
         }
     }
     Ok(())

@@ -109,28 +109,36 @@ fn has_exit(sent: &Said) -> bool {
     }
 }
 
-/// A message, made by itself, since a function that sees what it drops is slow to prove.
+/// That message.
 fn restart() -> Message {
     Message::Pdu(Pdu::RestartRequest { point: 7 })
 }
 
-/// Something that is sent, made by itself too.
+/// That end.
 fn exit() -> Said {
     Said::Element(Element::Exit)
 }
 
-/// Whether a copy of that message is one.
-fn copies_message(alloc: Global) -> Result<bool, NoMemory> {
-    let message = restart();
+/// Whether a copy of that message is one. It is lent, since a function that owns two messages is slow to prove.
+fn copies_restart(alloc: Global, message: &Message) -> Result<bool, NoMemory> {
     let copied = message.copy(alloc)?;
     Ok(has_restart(&copied))
 }
 
-/// Whether a copy of what is sent is the same.
-fn copies_sent(alloc: Global) -> Result<bool, NoMemory> {
-    let sent = exit();
+/// Whether a copy of that end is one.
+fn copies_exit(alloc: Global, sent: &Said) -> Result<bool, NoMemory> {
     let copied = sent.copy(alloc)?;
     Ok(has_exit(&copied))
+}
+
+fn copies_message(alloc: Global) -> Result<bool, NoMemory> {
+    let message = restart();
+    copies_restart(alloc, &message)
+}
+
+fn copies_sent(alloc: Global) -> Result<bool, NoMemory> {
+    let sent = exit();
+    copies_exit(alloc, &sent)
 }
 
 #[test]

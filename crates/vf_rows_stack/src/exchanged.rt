@@ -1,6 +1,8 @@
 //! Two ends that send each other the messages of a dialogue: what each tells, in whatever pieces the packets come.
 use crate::end::End;
+use crate::rows::{Rows, put_rows};
 use std::alloc::Global;
+use std::process::Abort;
 use std::test::Fail;
 
 /// A write with checks, acknowledgements and a restart: requests of the calling end (`>`) and of the called one (`<`), and
@@ -93,14 +95,13 @@ fn tell(
 
 impl Ends {
     fn new(alloc: Global, name: &str, pieces: usize) -> Result<Ends, Fail> {
-        let text = String::from_str(alloc, "\n")?;
         let calling = End::new(alloc, name)?;
         let called = End::new(alloc, "called")?;
         Ok(Ends {
             calling,
             called,
             pieces,
-            text,
+            text: String::new(alloc),
         })
     }
 
@@ -143,8 +144,9 @@ impl Ends {
         self.called.told.clear();
         Ok(())
     }
+}
 
-    /// Appends a row with what it tells both ends.
+impl Rows for Ends {
     fn put_row(&mut self, alloc: Global, row: &str) -> Result<(), Fail> {
         match row.split_once(" = ") {
             Some((request, _)) => self.put_request(alloc, request),
@@ -153,28 +155,37 @@ impl Ends {
     }
 }
 
-/// Appends rows with what they tell the two ends.
-fn put_rows(alloc: Global, ends: &mut Ends, rows: &str) -> Result<(), Fail> {
-    for row in rows.lines() {
-        ends.put_row(alloc, row)?;
-    }
+/// Rows tell what stands in them, once the ends are connected.
+fn go_on(rt: &impl Abort, alloc: Global, ends: &mut Ends, rows: &str) -> Result<(), Fail> {
+    ends.text.push('\n')?;
+    ends.connect(alloc)?;
+    put_rows(alloc, ends, rows)?;
+    assert_eq!(rt;
+        ends.text.as_str(),
+        rows,
+        "{} octets at a time",
+        ends.pieces
+    );
     Ok(())
 }
 
-/// The two ends after these rows, of which the calling one has this name, once they are connected.
-fn dialogue(alloc: Global, name: &str, rows: &str, pieces: usize) -> Result<Ends, Fail> {
+/// The same of new ends, of which the calling one has this name. They are lent, so that there is one way on which they are dropped.
+fn assert_rows(
+    rt: &impl Abort,
+    alloc: Global,
+    name: &str,
+    rows: &str,
+    pieces: usize,
+) -> Result<(), Fail> {
     let mut ends = Ends::new(alloc, name, pieces)?;
-    ends.connect(alloc)?;
-    put_rows(alloc, &mut ends, rows)?;
-    Ok(ends)
+    go_on(rt, alloc, &mut ends, rows)
 }
 
 #[test]
 fn a_write_and_a_read_are_told(rt: HostRuntime) -> Result<(), Fail> {
     for (name, rows) in [("sync", WRITE), ("plain", READ)] {
         for pieces in [1, 7, 64, 100_000] {
-            let ends = dialogue(rt.alloc(), name, rows, pieces)?;
-            assert_eq!(rt; ends.text.as_str(), rows, "{pieces} octets at a time");
+            assert_rows(&rt, rt.alloc(), name, rows, pieces)?;
         }
     }
     Ok(())

@@ -20,4 +20,6 @@ mod received;
 #[cfg(test)]
 mod requests;
 #[cfg(test)]
+mod rows;
+#[cfg(test)]
 mod shown;

@@ -114,12 +114,17 @@ pub(crate) fn put_comma(text: &mut String) -> Result<(), Fail> {
     Ok(())
 }
 
-/// Appends what is told, as copies of the indications show it.
+/// Appends an indication, as its copy shows it.
+fn put_copy(alloc: Global, told: &Indication, text: &mut String) -> Result<(), Fail> {
+    let copied = told.copy(alloc)?;
+    put_indication(alloc, &copied, text)
+}
+
+/// Appends what is told.
 pub(crate) fn show_told(alloc: Global, told: &[Indication], text: &mut String) -> Result<(), Fail> {
     for indication in told {
         put_comma(text)?;
-        let copied = indication.copy(alloc)?;
-        put_indication(alloc, &copied, text)?;
+        put_copy(alloc, indication, text)?;
     }
     Ok(())
 }
