@@ -16,6 +16,10 @@ abbrev pub hex_of : List ℕ → List ℕ
 hex_of [] = []
 hex_of (octet ∷ octets) = digit_of (octet / 16) ∷ digit_of (octet % 16) ∷ hex_of octets
 
+-- the digits of so many octets
+abbrev pub first_digits : ℕ → List ℕ → List ℕ
+first_digits count octets = hex_of (take count octets)
+
 -- an octet of two halves, before the octets after it
 abbrev pub octet_before : Option ℕ → Option ℕ → Option (List ℕ) → Option (List ℕ)
 octet_before (Some high) (Some low) (Some octets) = Some ((high * 16 + low) ∷ octets)

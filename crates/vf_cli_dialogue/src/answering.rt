@@ -99,14 +99,17 @@ fn converse<I: Source, O: Sink>(
         piece: Vec::new(alloc),
         replies: Replies::new(alloc),
     };
-    converse_with(
+    let answered = converse_with(
         alloc,
         &mut reader,
         &mut conversation,
         &mut buffers,
         input,
         out,
-    )
+    );
+    // By a call, since a drop at the end of this function would make its proof long.
+    drop(conversation);
+    answered
 }
 
 /// The same, by a reader and in a conversation that have just begun.

@@ -1,6 +1,6 @@
 //! Octets as text in hexadecimal: two digits an octet, the high half first, each 0 to 9 or A to F.
-ghost use Rattle.std.specs.Prelude.{◌≡◌, ◌+◌, ◌*◌, ◌/◌, ◌≤◌, ◌<◌, ◌++◌, [], length, take, vec_len, vec_capacity, slice_index, IfOk, IfSome, OnOk, OnErr};
-ghost use Rattle.vf_cli_dialogue.specs.Hex.{IsHalfOf, Spells, Takes, TakesOctets, TakesPairs, digit_of, first_half_of, half_of, hex_of};
+ghost use Rattle.std.specs.Prelude.{◌≡◌, ◌+◌, ◌*◌, ◌/◌, ◌≤◌, ◌<◌, ◌++◌, [], length, vec_len, vec_capacity, slice_index, IfOk, IfSome, OnOk, OnErr};
+ghost use Rattle.vf_cli_dialogue.specs.Hex.{IsHalfOf, Spells, Takes, TakesOctets, TakesPairs, digit_of, first_digits, first_half_of, half_of, hex_of};
 ghost use Rattle.vf_cli_dialogue.specs.Lines.{IsInLine, hex_line};
 
 use std::alloc::Global;
@@ -29,7 +29,7 @@ pub(crate) fn put_hex_line(octets: &[u8], text: &mut Vec<u8>)
 /// Appends the digits of the octets that stand in whole runs, and says how many these are.
 fn put_runs(octets: &[u8], text: &mut Vec<u8>) -> usize
     requires { vec_len text.old + 2 * length octets.now ≤ vec_capacity text.old }
-    ensures items { text.new.items ≡ text.old.items ++ hex_of (take result octets.now) }
+    ensures items { text.new.items ≡ text.old.items ++ first_digits result octets.now }
     ensures within { result ≤ length octets.now }
     ensures len { vec_len text.new ≡ vec_len text.old + 2 * result }
     ensures capacity { vec_capacity text.old ≤ vec_capacity text.new }
