@@ -1,4 +1,4 @@
-use Rattle.std.proofs.Common.{◌≡◌, ◌∙◌, ◌+◌, ◌%◌, ◌++◌, ℕ, List, [], ◌∷◌, ap, arith, length, sym}
+use Rattle.std.proofs.Common.{◌≡◌, ◌∙◌, ◌%◌, ◌++◌, ℕ, List, [], ◌∷◌, ap, arith, length, sym}
 use Rattle.vf_cli_generate.proofs.Drawn.{last_more, octets_length, octets_more}
 use Rattle.vf_cli_generate.specs.Drawing.{next, octets_after}
 use Rattle.vf_cli_generate.proofs.contents.draw.Goals as goal

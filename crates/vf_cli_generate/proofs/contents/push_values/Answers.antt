@@ -1,4 +1,4 @@
-use Rattle.std.proofs.Common.{◌∙◌, ◌+◌, ◌++◌, ℕ, List, [], ◌∷◌, append_assoc, ap, map, sym}
+use Rattle.std.proofs.Common.{◌∙◌, ◌++◌, ℕ, List, [], ◌∷◌, append_assoc, ap, map, sym}
 use Rattle.vf_cli_generate.proofs.Drawn.{rest_more, values_more}
 use Rattle.vf_cli_generate.specs.Drawing.{strings}
 use Rattle.vf_cli_generate.specs.Requests.{value}

@@ -1,4 +1,4 @@
-use Rattle.std.proofs.Common.{◌≡◌, ◌∙◌, ℕ, List, [], ◌∷◌, OnOk, false, subst, sym}
+use Rattle.std.proofs.Common.{◌≡◌, ◌∙◌, ℕ, List, [], ◌∷◌, OnOk, subst, sym}
 use Rattle.vf_disk.specs.Disk.{LeavesOnly}
 use Rattle.vf_journal.specs.declared.error.JournalError.TheVariants.{NoMemory}
 use Rattle.vf_responder.specs.Along.{RepresentsAlong}
