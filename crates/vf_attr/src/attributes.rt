@@ -1,5 +1,5 @@
 ghost use Rattle.std.specs.Prelude.{◌≡◌};
-ghost use Rattle.vf_attr.specs.Attributes.{attributes_of, with_attributes};
+ghost use Rattle.vf_attr.specs.Attributes.{with_attributes};
 
 use crate::{File, Stamp};
 use vf_base::{Actions, Contents, Name, Terms};
@@ -18,23 +18,6 @@ pub struct Attributes {
 }
 
 impl File {
-    /// The name and the other attributes; the contents go.
-    pub fn into_attributes(self) -> (Name, Attributes)
-        ensures { result ≡ (self.name, attributes_of self) }
-    {
-        let attributes = Attributes {
-            permitted: self.permitted,
-            contents: self.contents,
-            terms: self.terms,
-            created: self.created,
-            modified: self.modified,
-            read: self.read,
-            changed: self.changed,
-            version: self.version,
-        };
-        (self.name, attributes)
-    }
-
     /// Puts attributes in the place of the file's own. Its name and its contents stay.
     pub fn set_attributes(&mut self, attributes: Attributes)
         ensures { self.new ≡ with_attributes attributes self.old }

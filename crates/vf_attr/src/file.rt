@@ -1,12 +1,12 @@
 ghost use Rattle.std.specs.Prelude.{◌≡◌, IfOk};
+ghost use Rattle.vf_attr.specs.Attributes.{attributes_of};
 
-use crate::Stamp;
+use crate::{Attributes, Stamp};
 use std::alloc::Global;
 use vf_base::{Actions, Contents, Name, NoMemory, Terms, copy_option};
 use vf_tree::Tree;
 
 /// A file with its attributes (ISO 8571-2, file attributes).
-#[derive(Drop)]
 pub struct File {
     pub name: Name,
     /// What may be done to the file at all.
@@ -24,6 +24,31 @@ pub struct File {
     /// 1 at the creation, and one more with each change of the contents (profile).
     pub version: u32,
     pub tree: Tree,
+}
+
+impl Drop for File {
+    fn drop(self) {
+        let File {
+            name,
+            permitted: _,
+            contents,
+            terms,
+            created,
+            modified,
+            read,
+            changed,
+            version: _,
+            tree,
+        } = self;
+        drop(name);
+        drop(contents);
+        drop(terms);
+        drop(created);
+        drop(modified);
+        drop(read);
+        drop(changed);
+        drop(tree);
+    }
 }
 
 impl File {
@@ -51,5 +76,35 @@ impl File {
             version: self.version,
             tree,
         })
+    }
+
+    /// The name and the other attributes; the contents go.
+    pub fn into_attributes(self) -> (Name, Attributes)
+        ensures { result ≡ (self.name, attributes_of self) }
+    {
+        let File {
+            name,
+            permitted,
+            contents,
+            terms,
+            created,
+            modified,
+            read,
+            changed,
+            version,
+            tree,
+        } = self;
+        drop(tree);
+        let attributes = Attributes {
+            permitted,
+            contents,
+            terms,
+            created,
+            modified,
+            read,
+            changed,
+            version,
+        };
+        (name, attributes)
     }
 }

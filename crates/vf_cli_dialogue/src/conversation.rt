@@ -31,12 +31,24 @@ use vf_pdu::Pdu;
 use vf_tables::{Changes, Doubled, Tables};
 
 /// A filestore with one party.
-#[derive(Drop)]
 pub(crate) struct Filestore {
     /// One that has just arrived where the party is gone.
     pub(crate) party: Party,
     pub(crate) tables: Doubled,
     pub(crate) locks: Locks,
+}
+
+impl Drop for Filestore {
+    fn drop(self) {
+        let Filestore {
+            party,
+            tables,
+            locks,
+        } = self;
+        drop(party);
+        drop(tables);
+        drop(locks);
+    }
 }
 
 impl Filestore {
@@ -66,12 +78,24 @@ pub(crate) enum Stream {
 }
 
 /// A conversation with one party over a filestore that starts empty. What is large stays where it is.
-#[derive(Drop)]
 pub(crate) struct Conversation {
     filestore: Filestore,
     stream: Stream,
     /// Of the octets that wait.
     scan: Scan,
+}
+
+impl Drop for Conversation {
+    fn drop(self) {
+        let Conversation {
+            filestore,
+            stream,
+            scan,
+        } = self;
+        drop(filestore);
+        drop(stream);
+        drop(scan);
+    }
 }
 
 impl Conversation {

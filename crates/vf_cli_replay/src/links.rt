@@ -17,11 +17,18 @@ use vf_disk::MemoryDisk;
 use vf_responder::{Event, Responder};
 
 /// The links of an incarnation.
-#[derive(Drop)]
 pub(crate) struct Links {
     pub(crate) responder: Responder<MemoryDisk>,
     /// The calling ends, by their links.
     pub(crate) callers: IndexMap<u32, Caller>,
+}
+
+impl Drop for Links {
+    fn drop(self) {
+        let Links { responder, callers } = self;
+        drop(responder);
+        drop(callers);
+    }
 }
 
 /// The first moment.

@@ -17,7 +17,6 @@ use vf_tables::{MOST_USERS, User, Users};
 const USUAL_LIMIT: u64 = 1_073_741_824;
 
 /// What the lines so far have told.
-#[derive(Drop)]
 pub(crate) struct Reading {
     users: Users,
     /// The incarnations that are over.
@@ -30,6 +29,23 @@ pub(crate) struct Reading {
     arrivals: IndexMap<u32, LinkKind>,
     /// The last link that has arrived in the incarnation, or 0.
     last: u32,
+}
+
+impl Drop for Reading {
+    fn drop(self) {
+        let Reading {
+            users,
+            lives,
+            life,
+            limit: _,
+            arrivals,
+            last: _,
+        } = self;
+        drop(users);
+        drop(lives);
+        drop(life);
+        drop(arrivals);
+    }
 }
 
 impl Reading {
@@ -74,10 +90,17 @@ impl Reading {
         ensures { IfOk result (λ script. script ≡ script_of (progress_of self)) }
     {
         self.end_life()?;
-        Ok(Script {
-            users: self.users,
-            lives: self.lives,
-        })
+        let Reading {
+            users,
+            lives,
+            life,
+            limit: _,
+            arrivals,
+            last: _,
+        } = self;
+        drop(life);
+        drop(arrivals);
+        Ok(Script { users, lives })
     }
 
     fn add_user(&mut self, user: User) -> Result<bool, NoMemory>

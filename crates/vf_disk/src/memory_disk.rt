@@ -21,7 +21,6 @@ use std::marker::Model;
 use vf_base::{Failed, NoMemory, Octets};
 
 /// A disk in memory, which keeps its calls. Calls fail by a plan, or for want of memory.
-#[derive(Drop)]
 pub struct MemoryDisk {
     alloc: Global,
     first: Octets,
@@ -30,6 +29,24 @@ pub struct MemoryDisk {
     plan: Plan,
     faults: u64,
     lacks: u64,
+}
+
+impl Drop for MemoryDisk {
+    fn drop(self) {
+        let MemoryDisk {
+            alloc: _,
+            first,
+            steps,
+            octets,
+            plan,
+            faults: _,
+            lacks: _,
+        } = self;
+        drop(first);
+        drop(steps);
+        drop(octets);
+        drop(plan);
+    }
 }
 
 impl Model for MemoryDisk {

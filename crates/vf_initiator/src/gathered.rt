@@ -14,7 +14,6 @@ const MOST_PIECES: usize = 4_294_967_294;
 
 /// The elements of a get: pieces, each of which a checkpoint or the end of the data has ended, and those after the last
 /// piece. Seen so; places count from 0.
-#[derive(Drop)]
 pub(crate) struct Gathered {
     elements: Elements,
     /// For each piece, how many elements stand before its end.
@@ -25,6 +24,21 @@ pub(crate) struct Gathered {
     standing: usize,
     /// The pieces at `mark`, once some of them were cut; empty as long as none was.
     before: Vec<Elements>,
+}
+
+impl Drop for Gathered {
+    fn drop(self) {
+        let Gathered {
+            elements,
+            marks,
+            octets: _,
+            standing: _,
+            before,
+        } = self;
+        drop(elements);
+        drop(marks);
+        drop(before);
+    }
 }
 
 impl Model for Gathered {

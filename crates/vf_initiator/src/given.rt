@@ -9,12 +9,24 @@ use vf_base::{Element, Elements, NoMemory, Sequence};
 use vf_tables::{Task as KeptTask, Way};
 
 /// What an initiator is given: the plan, which it hands back in the end, and what it makes of it with the kept task.
-#[derive(Drop)]
 pub(crate) struct Given {
     pub(crate) plan: Plan,
     pub(crate) assignment: Assignment,
     /// The values of a put that is kept, which stand for those of the plan.
     pub(crate) kept_values: Option<Elements>,
+}
+
+impl Drop for Given {
+    fn drop(self) {
+        let Given {
+            plan,
+            assignment,
+            kept_values,
+        } = self;
+        drop(plan);
+        drop(assignment);
+        drop(kept_values);
+    }
 }
 
 impl Given {
@@ -28,6 +40,20 @@ impl Given {
             assignment,
             kept_values,
         })
+    }
+
+    /// The plan that it was made of.
+    pub(crate) fn into_plan(self) -> Plan
+        ensures { result ≡ self.plan }
+    {
+        let Given {
+            plan,
+            assignment,
+            kept_values,
+        } = self;
+        drop(assignment);
+        drop(kept_values);
+        plan
     }
 
     /// What a put is to send.

@@ -43,7 +43,6 @@ const AROUND_ELEMENT: usize = 64;
 const AROUND_PDU: usize = 64;
 
 /// The initiator of one connection: it says what its task wants (ISO 8571-3), and takes what the other end says to it.
-#[derive(Drop)]
 pub struct Initiator {
     given: Given,
     stack: Stack,
@@ -54,6 +53,24 @@ pub struct Initiator {
     waiting: VecDeque<Request>,
     /// How many octets the connection gave.
     octets: u64,
+}
+
+impl Drop for Initiator {
+    fn drop(self) {
+        let Initiator {
+            given,
+            stack,
+            greeting,
+            conduct,
+            waiting,
+            octets: _,
+        } = self;
+        drop(given);
+        drop(stack);
+        drop(greeting);
+        drop(conduct);
+        drop(waiting);
+    }
 }
 
 impl Initiator {
@@ -171,7 +188,19 @@ impl Initiator {
     pub fn broke(self) -> Plan
         ensures { result ≡ self.given.plan }
     {
-        self.given.plan
+        let Initiator {
+            given,
+            stack,
+            greeting,
+            conduct,
+            waiting,
+            octets: _,
+        } = self;
+        drop(stack);
+        drop(greeting);
+        drop(conduct);
+        drop(waiting);
+        given.into_plan()
     }
 
     /// What a get has received; nothing is what a put has.

@@ -17,9 +17,15 @@ use vf_base::{Controls, Name, NoMemory};
 const MOST_EMPTY: usize = 16;
 
 /// The holders of all files with their controls.
-#[derive(Drop)]
 pub struct Locks {
     by_file: IndexMap<Name, FileHolders>,
+}
+
+impl Drop for Locks {
+    fn drop(self) {
+        let Locks { by_file } = self;
+        drop(by_file);
+    }
 }
 
 impl Model for Locks {

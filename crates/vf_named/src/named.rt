@@ -20,10 +20,17 @@ pub trait HasName {
 
 /// A list of what has names, in the order in which it was made, which is changed in place. As long as no two names are
 /// equal, an entry is found by its name in a time that doesn't grow with the list. Places count from 0.
-#[derive(Drop)]
 pub struct Named<T: HasName> {
     items: Vec<T>,
     names: Names,
+}
+
+impl<T: HasName + Drop> Drop for Named<T> {
+    fn drop(self) {
+        let Named { items, names } = self;
+        drop(items);
+        drop(names);
+    }
 }
 
 impl<T: HasName> Model for Named<T> {

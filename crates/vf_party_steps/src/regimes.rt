@@ -86,13 +86,11 @@ fn fields_after(
     let Some(number) = regime.done.checked_add(1) else {
         return Err(NoMemory);
     };
-    let Some(before) = fields else {
+    let Some(mut fields) = fields else {
         return Ok(None);
     };
-    Ok(Some(Regime {
-        position: regime.position,
-        number,
-        last: regime.last,
-        ..before
-    }))
+    fields.position = regime.position;
+    fields.number = number;
+    fields.last = regime.last;
+    Ok(Some(fields))
 }

@@ -30,12 +30,23 @@ use vf_stack::{Indication, Stack};
 use vf_tables::Tables;
 
 /// What its lower layers have received and sent, and the party on it.
-#[derive(Drop)]
 pub(crate) struct Link {
     pub(crate) number: u32,
     pub(crate) stack: Stack,
     /// One that has just arrived where it is gone.
     pub(crate) party: Party,
+}
+
+impl Drop for Link {
+    fn drop(self) {
+        let Link {
+            number: _,
+            stack,
+            party,
+        } = self;
+        drop(stack);
+        drop(party);
+    }
 }
 
 impl Link {

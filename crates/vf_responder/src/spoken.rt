@@ -28,11 +28,18 @@ pub(crate) struct Part {
 }
 
 /// The octets that are spoken on a link, in parts: long strings are shared with the files that have them.
-#[derive(Drop)]
 pub struct Spoken {
     pub(crate) parts: Vec<Part>,
     /// What stands after all parts.
     pub(crate) last: Vec<u8>,
+}
+
+impl Drop for Spoken {
+    fn drop(self) {
+        let Spoken { parts, last } = self;
+        drop(parts);
+        drop(last);
+    }
 }
 
 impl Model for Spoken {

@@ -28,11 +28,22 @@ use vf_upper::{Contexts, Offers};
 
 /// One end of an association over its four lower layers: transport class 0 (ISO 8073) over RFC 1006, session (ISO 8327),
 /// presentation (ISO 8823) with ACSE (ISO 8650), and PDUs and data elements of FTAM in their values (ISO 8571-4).
-#[derive(Drop)]
 pub struct Stack {
     transport: Tpkt,
     exchange: KeptExchange,
     alloc: Global,
+}
+
+impl Drop for Stack {
+    fn drop(self) {
+        let Stack {
+            transport,
+            exchange,
+            alloc: _,
+        } = self;
+        drop(transport);
+        drop(exchange);
+    }
 }
 
 impl Model for Stack {

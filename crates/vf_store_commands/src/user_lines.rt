@@ -60,12 +60,19 @@ impl From<NoMemory> for ReadError {
 }
 
 /// Lines as their octets come.
-#[derive(Drop)]
 struct UserLines {
     /// The users of the lines that have ended.
     users: Users,
     /// The octets of the line that hasn't.
     line: Vec<u8>,
+}
+
+impl Drop for UserLines {
+    fn drop(self) {
+        let UserLines { users, line } = self;
+        drop(users);
+        drop(line);
+    }
 }
 
 impl Model for UserLines {

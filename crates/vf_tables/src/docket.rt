@@ -22,7 +22,6 @@ pub enum Direction {
 
 /// What is kept of a recoverable open regime while it stands and after it broke (ISO 8571-3, docket; which fields it
 /// has is profile). Where no transfer is under way, and for what the one under way keeps no value of, a field is 0.
-#[derive(Drop)]
 pub struct Regime {
     /// Who opened it.
     pub identity: Name,
@@ -57,6 +56,33 @@ pub struct Regime {
     pub ended: bool,
     /// The version of the file that a read under way shows.
     pub version: u32,
+}
+
+impl Drop for Regime {
+    fn drop(self) {
+        let Regime {
+            identity,
+            activity: _,
+            file,
+            requested: _,
+            controls: _,
+            mode: _,
+            password,
+            position: _,
+            number: _,
+            last: _,
+            window: _,
+            direction: _,
+            fadu: _,
+            refused: _,
+            point: _,
+            ended: _,
+            version: _,
+        } = self;
+        drop(identity);
+        drop(file);
+        drop(password);
+    }
 }
 
 impl Regime {

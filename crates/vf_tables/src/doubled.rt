@@ -12,13 +12,24 @@ use vf_base::NoMemory;
 
 /// Tables, and the same a second time: changes are made in the second, which takes the place of the first once all of
 /// them are made. So all or none are made, and the tables aren't copied.
-#[derive(Drop)]
 pub struct Doubled {
     tables: Tables,
     /// The same tables; none where memory was wanting for them, or changes of them were given up.
     second: Option<Tables>,
     /// They are known to be valid.
     are_valid: bool,
+}
+
+impl Drop for Doubled {
+    fn drop(self) {
+        let Doubled {
+            tables,
+            second,
+            are_valid: _,
+        } = self;
+        drop(tables);
+        drop(second);
+    }
 }
 
 impl Model for Doubled {

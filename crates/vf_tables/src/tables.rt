@@ -18,12 +18,26 @@ pub type Dockets = Entries<Docket>;
 pub type Tasks = Entries<Task>;
 
 /// What a filestore keeps.
-#[derive(Drop)]
 pub struct Tables {
     pub users: Users,
     pub files: Files,
     pub dockets: Dockets,
     pub tasks: Tasks,
+}
+
+impl Drop for Tables {
+    fn drop(self) {
+        let Tables {
+            users,
+            files,
+            dockets,
+            tasks,
+        } = self;
+        drop(users);
+        drop(files);
+        drop(dockets);
+        drop(tasks);
+    }
 }
 
 impl Tables {
