@@ -7,7 +7,7 @@ const MOST_SERIAL: u64 = 999_999;
 
 /// What a transfer began with: the number that the next check had, and the point at which it went on, 0 where it is a new one. The
 /// check after that point has that number.
-#[derive(Clone, Copy, Debug, PartialEq, Eq)]
+#[derive(Clone, Copy)]
 pub(crate) struct Base {
     pub(crate) next: u32,
     pub(crate) point: u32,

@@ -16,7 +16,7 @@ use vf_base::{NoMemory, Sink, Source};
 use vf_cli_printing::{BAD_LINE, INPUT_FAULT, NO_MEMORY, OUTPUT_FAULT, append_bad_line};
 
 /// What kept a command from its end.
-#[derive(Clone, Copy, Debug, PartialEq, Eq)]
+#[derive(Clone, Copy)]
 pub(crate) enum Interruption {
     /// The input failed.
     Input,

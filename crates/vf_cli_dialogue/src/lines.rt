@@ -17,7 +17,7 @@ const INPUT_LIMIT: usize = 67_108_864;
 const BLOCK: usize = 65_536;
 
 /// What comes next in an input.
-#[derive(Clone, Copy, Debug, PartialEq, Eq)]
+#[derive(Clone, Copy)]
 pub(crate) enum NextLine {
     /// The piece that a good line spells.
     Piece,
@@ -28,7 +28,7 @@ pub(crate) enum NextLine {
 }
 
 /// Why no line could be read.
-#[derive(Clone, Copy, Debug, PartialEq, Eq)]
+#[derive(Clone, Copy)]
 pub(crate) enum LineError {
     /// The source failed.
     Failed,

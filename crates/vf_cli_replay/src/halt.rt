@@ -8,7 +8,7 @@ use vf_cli_script::Stop;
 use vf_responder::RespondError;
 
 /// How it ends.
-#[derive(Clone, Copy, Debug, PartialEq, Eq)]
+#[derive(Clone, Copy)]
 pub(crate) enum Halt {
     /// The disk stopped.
     Stopped,

@@ -52,7 +52,7 @@ pub struct Range {
 }
 
 /// Whether a command has an option.
-#[derive(Clone, Copy, Debug, PartialEq, Eq)]
+#[derive(Clone, Copy)]
 pub(crate) enum Use {
     Required,
     Optional,

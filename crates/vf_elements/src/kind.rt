@@ -6,7 +6,7 @@ ghost use Rattle.vf_elements.specs.Kinds.{kind_of};
 use crate::Stage;
 
 /// What a message is: a PDU by the number of its tag (ISO 8571-4), or what isn't a PDU.
-#[derive(Clone, Copy, Debug, PartialEq, Eq)]
+#[derive(Clone, Copy)]
 pub(crate) enum Kind {
     Pdu(u16),
     Element,

@@ -16,7 +16,7 @@ pub(crate) struct Conduct {
 }
 
 /// What an accepted association agreed (ISO 8571-3, F-INITIALIZE).
-#[derive(Clone, Copy, Debug, PartialEq, Eq)]
+#[derive(Clone, Copy)]
 pub(crate) struct Agreed {
     /// Checkpoints may be sent: the task has an activity, and restart or recovery is agreed.
     pub(crate) checks: bool,
@@ -25,7 +25,7 @@ pub(crate) struct Agreed {
 }
 
 /// What session says of a connection as a message comes (ISO 8327).
-#[derive(Clone, Copy, Debug, PartialEq, Eq)]
+#[derive(Clone, Copy)]
 pub(crate) struct Setting {
     /// The serial number of the next check.
     pub(crate) serial: u32,

@@ -5,7 +5,7 @@ ghost use Rattle.std.specs.Option.{option_map};
 use vf_tables::{Phase, Task as KeptTask};
 
 /// How far a task has come: what may differ between two times at which it is kept.
-#[derive(Clone, Copy, Debug, PartialEq, Eq)]
+#[derive(Clone, Copy, PartialEq, Eq)]
 pub(crate) struct Progress {
     /// The number of the transfer, from 1 on.
     pub(crate) number: u32,

@@ -19,7 +19,7 @@ use vf_tables::MOST_POINT;
 const LAST_SERIAL: u32 = 999_999;
 
 /// By what the values of a put are sent.
-#[derive(Clone, Copy, Debug, PartialEq, Eq)]
+#[derive(Clone, Copy)]
 pub(crate) struct Pace {
     /// Checks may be sent.
     pub(crate) checks: bool,
@@ -143,7 +143,7 @@ fn open_check(sent: Sent, acknowledged: u32, serial: u32) -> Option<u32>
 }
 
 /// What is sent, and the serial number of the next check.
-#[derive(Clone, Copy, Debug, PartialEq, Eq)]
+#[derive(Clone, Copy)]
 pub(crate) struct Outbox {
     pub(crate) sent: Sent,
     pub(crate) serial: u32,

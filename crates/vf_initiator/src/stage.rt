@@ -2,7 +2,7 @@ use crate::Doing;
 use vf_base::Diagnostic;
 
 /// What the initiator waits for (ISO 8571-4, by the regimes).
-#[derive(Clone, Copy, Debug, PartialEq, Eq)]
+#[derive(Clone, Copy)]
 pub(crate) enum Stage {
     /// The answer to F-INITIALIZE.
     Associating,
@@ -27,7 +27,7 @@ pub(crate) enum Stage {
 }
 
 /// What a put has sent.
-#[derive(Clone, Copy, Debug, PartialEq, Eq)]
+#[derive(Clone, Copy)]
 pub(crate) struct Sent {
     /// The checkpoint from which it is sent, and the serial number of the one after it.
     pub(crate) start: u32,

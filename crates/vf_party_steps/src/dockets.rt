@@ -12,7 +12,7 @@ use vf_regime_refusals::joined;
 use vf_tables::{Change, Changes, Direction, Regime};
 
 /// What a docket has of the transfer that is under way in its open; where there is none, each field is as `none` has it.
-#[derive(Clone, Copy, Debug, PartialEq, Eq)]
+#[derive(Clone, Copy)]
 pub(crate) struct Underway {
     pub(crate) direction: Direction,
     pub(crate) fadu: FaduId,

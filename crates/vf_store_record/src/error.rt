@@ -5,7 +5,7 @@ use std::alloc::{AllocError, AllocFailed};
 use vf_base::NoMemory;
 
 /// Why octets aren't read.
-#[derive(Clone, Copy, Debug, PartialEq, Eq)]
+#[derive(Clone, Copy)]
 pub(crate) enum ReadError {
     /// They aren't of the grammar.
     Foreign,

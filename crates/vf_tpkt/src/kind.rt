@@ -2,7 +2,7 @@ ghost use Rattle.std.specs.Prelude.{◌≡◌};
 ghost use Rattle.vf_tpkt.specs.Tpdu.{kind_of as kind_by_code};
 
 /// The TPDUs of class 0 (ISO 8073, 13).
-#[derive(Clone, Copy, Debug, PartialEq, Eq)]
+#[derive(Clone, Copy)]
 pub(crate) enum Kind {
     /// Connection request.
     Cr,

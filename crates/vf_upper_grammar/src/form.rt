@@ -2,7 +2,7 @@
 use crate::labels::{NameLabel, NumberLabel};
 
 /// A type with fields.
-#[derive(Clone, Copy, Debug, PartialEq, Eq)]
+#[derive(Clone, Copy)]
 pub(crate) enum TypeName {
     /// The mode selector of a CP or CPA.
     Mode,
@@ -42,14 +42,14 @@ pub(crate) enum TypeName {
 }
 
 /// A SET of two fields.
-#[derive(Clone, Copy, Debug, PartialEq, Eq)]
+#[derive(Clone, Copy)]
 pub(crate) enum Pair {
     Cp,
     Cpa,
 }
 
 /// A SEQUENCE OF.
-#[derive(Clone, Copy, Debug, PartialEq, Eq)]
+#[derive(Clone, Copy)]
 pub(crate) enum Listing {
     /// The context definition list.
     Proposals,
@@ -62,7 +62,7 @@ pub(crate) enum Listing {
 }
 
 /// What stands within the [0] or [1] of a PDV-list or an EXTERNAL.
-#[derive(Clone, Copy, Debug, PartialEq, Eq)]
+#[derive(Clone, Copy)]
 pub(crate) enum DataValues {
     /// One value.
     One,
@@ -73,7 +73,7 @@ pub(crate) enum DataValues {
 }
 
 /// How a part is read.
-#[derive(Clone, Copy, Debug, PartialEq, Eq)]
+#[derive(Clone, Copy)]
 pub(crate) enum Form {
     /// An integer, which is the number that is demanded, if one is.
     Number(Option<u8>, NumberLabel),
@@ -95,7 +95,7 @@ pub(crate) enum Form {
 }
 
 /// A field: its class, its number or its numbers, whether it is required, and how it is read.
-#[derive(Clone, Copy, Debug, PartialEq, Eq)]
+#[derive(Clone, Copy)]
 pub(crate) struct Field {
     pub class: u8,
     pub from: u8,
