@@ -1,4 +1,4 @@
-"""Peers of a responder, and lines for bench/responders: those that stand in crates/bench_responder, with the worked
+"""Peers of a responder, and lines for bench/responders: those that stand in crates/bench_lines, with the worked
 conversations of responder_conversations.py and responder_refusals.py in them, and lines at random.
 """
 
@@ -220,7 +220,7 @@ def stop_rows():
 
 
 def rows():
-    """The lines that stand in crates/bench_responder, with headings."""
+    """The lines that stand in crates/bench_lines, with headings."""
     yield heading("worked conversations, cut anywhere")
     lines = {name: line_of(text) for name, text in CONVERSATIONS.items()}
     yield from (f"cut {line}" for line in lines.values())

@@ -2,7 +2,7 @@
 
 Each link has the called end of an association, with its whole stream and trace, and the filestore has a party for it. What an
 end is told becomes a message of the party, and what the party sends a request of the end. Beside it stand the lives of a
-store: which changes a stop leaves, what `serve` sends where a send fails, and the words of crates/bench_responder.
+store: which changes a stop leaves, what `serve` sends where a send fails, and the words of crates/bench_lines.
 """
 
 import copy

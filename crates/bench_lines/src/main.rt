@@ -1,5 +1,5 @@
-//! Answers lines, each by one layer: its values, its PDUs, its data elements, its user data, its sessions, its streams, or
-//! the stack of them all. For what stands in bench/, and for the gate, which compares the answers to the lines of its file stdin.
+//! Answers lines, each by one layer: its values, its PDUs, its data elements, its user data, its sessions, its streams, the
+//! stack of them all, or the responder above it. For what stands in bench/, and for the gate, which compares the answers to the lines of its file stdin.
 //!
 //! A line begins with the name of its layer and a space; one that begins with `#` is a heading, and is answered by itself. The
 //! files of the layers say what a line has and what is answered to it, which is one line too.
@@ -7,6 +7,7 @@
 
 mod element;
 mod pdu;
+mod responder;
 mod session;
 mod spelling;
 mod stack;
@@ -39,6 +40,7 @@ fn put_answer(alloc: Global, line: &[u8], ends: &mut Ends, out: &mut Text) -> Re
         b"session" => ends.put_line(alloc, line, out),
         b"transport" => transport::put_line(alloc, line, out),
         b"stack" => stack::put_line(alloc, line, out),
+        b"responder" => responder::put_line(alloc, line, out),
         b"#" => {
             put_heading(line, out);
             Ok(())

@@ -3,10 +3,10 @@
 //! The first life begins with its way, `deliver` or `serve`. Each later one begins with what the crash leaves of the disk
 //! after the one before, `keep`, `lose` or `fill`, goes by `deliver`, and first tells the tables of the store as it is opened.
 //! A life through `deliver` that has events ends with `=` and the tables, where the responder goes on to its end.
-use crate::deliver::{deliver_all, put_error};
-use crate::life::{Life, Plan, broken_after, listed, octets_in_all, users_in};
-use crate::served::{links_of, put_served};
-use crate::tables::put_tables;
+use crate::responder::deliver::{deliver_all, put_error};
+use crate::responder::life::{Life, Plan, broken_after, listed, octets_in_all, users_in};
+use crate::responder::served::{links_of, put_served};
+use crate::responder::tables::put_tables;
 use bench_base::{Fault, Text};
 use std::alloc::Global;
 use vf_base::ScriptLinks;

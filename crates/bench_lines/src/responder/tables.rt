@@ -6,7 +6,7 @@
 //! `(guest 7 a q5 k10100000 o5 z0 n1 l0 write:Replace:Begin:0:1 [4:6869])`, identity, activity, file, requested actions,
 //! controls, mode, position, next number, last outcome, and the transfer with its FADU, its diagnostic and its point, of a
 //! read with its version; a password stands after `s`.
-use crate::deliver::put_octets;
+use crate::responder::deliver::put_octets;
 use bench_base::Text;
 use std::alloc::Global;
 use vf_attr::{File, Stamp};

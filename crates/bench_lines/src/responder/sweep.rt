@@ -4,7 +4,7 @@
 //! first that doesn't stands before what it tells. `fronts` breaks the first life after each number of its octets, and `each
 //! send` lets each send fail in turn, so also `next`, `disk` and `stop`, until a run is as without; both answer how many runs
 //! there were and a digest of what they tell.
-use crate::run::{Change, octets_of_first, told_by};
+use crate::responder::run::{Change, octets_of_first, told_by};
 use bench_base::{Fault, NO_OCTETS, Text, digest};
 use std::alloc::Global;
 
