@@ -31,82 +31,76 @@ pub(crate) struct Piece {
 }
 
 #[tactic(auto, unfolding(crate::specs::Records::docketed))]
-fn docketed_at(alloc: Global, octets: Rest<'_>) -> Result<(Docketed, Rest<'_>), ReadError>
-    ensures { Gives (λ found. found) result (docketed.read octets.entry) }
+fn docketed_at(alloc: Global, rest: &mut Rest<'_>) -> Result<Docketed, ReadError>
+    ensures { Gives (λ found. (found, rest.new)) result (docketed.read rest.old) }
 {
-    let (identity, rest) = name_at(alloc, octets)?;
-    let (activity, rest) = u32_at(rest)?;
-    Ok((Docketed { identity, activity }, rest))
+    let identity = name_at(alloc, rest)?;
+    let activity = u32_at(rest)?;
+    Ok(Docketed { identity, activity })
 }
 
 #[tactic(auto, unfolding(crate::specs::Records::piece))]
-fn piece_at(alloc: Global, octets: Rest<'_>) -> Result<(Piece, Rest<'_>), ReadError>
-    ensures { Gives (λ found. found) result (piece.read octets.entry) }
+fn piece_at(alloc: Global, rest: &mut Rest<'_>) -> Result<Piece, ReadError>
+    ensures { Gives (λ found. (found, rest.new)) result (piece.read rest.old) }
 {
-    let (first, rest) = u32_at(octets)?;
-    let (last, rest) = u32_at(rest)?;
-    let (elements, rest) = elements_at(alloc, rest)?;
-    Ok((
-        Piece {
-            first,
-            last,
-            elements,
-        },
-        rest,
-    ))
+    let first = u32_at(rest)?;
+    let last = u32_at(rest)?;
+    let elements = elements_at(alloc, rest)?;
+    Ok(Piece {
+        first,
+        last,
+        elements,
+    })
 }
 
-fn put_user_at(alloc: Global, octets: Rest<'_>) -> Result<(Change, Rest<'_>), ReadError>
-    ensures { Gives (λ found. found) result (change_after 1 octets.entry) }
+fn put_user_at(alloc: Global, rest: &mut Rest<'_>) -> Result<Change, ReadError>
+    ensures { Gives (λ found. (found, rest.new)) result (change_after 1 rest.old) }
 {
-    let (user, rest) = user_at(alloc, octets)?;
-    Ok((Change::PutUser { user }, rest))
+    let user = user_at(alloc, rest)?;
+    Ok(Change::PutUser { user })
 }
 
-fn put_file_at(alloc: Global, octets: Rest<'_>) -> Result<(Change, Rest<'_>), ReadError>
-    ensures { Gives (λ found. found) result (change_after 2 octets.entry) }
+fn put_file_at(alloc: Global, rest: &mut Rest<'_>) -> Result<Change, ReadError>
+    ensures { Gives (λ found. (found, rest.new)) result (change_after 2 rest.old) }
 {
-    let (file, rest) = file_at(alloc, octets)?;
-    Ok((Change::PutFile { file }, rest))
+    let file = file_at(alloc, rest)?;
+    Ok(Change::PutFile { file })
 }
 
 #[tactic(auto, unfolding(crate::specs::Records::renaming))]
-fn put_attributes_at(alloc: Global, octets: Rest<'_>) -> Result<(Change, Rest<'_>), ReadError>
-    ensures { Gives (λ found. found) result (change_after 3 octets.entry) }
+fn put_attributes_at(alloc: Global, rest: &mut Rest<'_>) -> Result<Change, ReadError>
+    ensures { Gives (λ found. (found, rest.new)) result (change_after 3 rest.old) }
 {
-    let (old, rest) = name_at(alloc, octets)?;
-    let (name, rest) = name_at(alloc, rest)?;
-    let (attributes, rest) = attributes_at(alloc, rest)?;
-    Ok((
-        Change::PutAttributes {
-            old,
-            name,
-            attributes,
-        },
-        rest,
-    ))
+    let old = name_at(alloc, rest)?;
+    let name = name_at(alloc, rest)?;
+    let attributes = attributes_at(alloc, rest)?;
+    Ok(Change::PutAttributes {
+        old,
+        name,
+        attributes,
+    })
 }
 
-fn drop_file_at(alloc: Global, octets: Rest<'_>) -> Result<(Change, Rest<'_>), ReadError>
-    ensures { Gives (λ found. found) result (change_after 4 octets.entry) }
+fn drop_file_at(alloc: Global, rest: &mut Rest<'_>) -> Result<Change, ReadError>
+    ensures { Gives (λ found. (found, rest.new)) result (change_after 4 rest.old) }
 {
-    let (name, rest) = name_at(alloc, octets)?;
-    Ok((Change::DropFile { name }, rest))
+    let name = name_at(alloc, rest)?;
+    Ok(Change::DropFile { name })
 }
 
-fn put_docket_at(alloc: Global, octets: Rest<'_>) -> Result<(Change, Rest<'_>), ReadError>
-    ensures { Gives (λ found. found) result (change_after 5 octets.entry) }
+fn put_docket_at(alloc: Global, rest: &mut Rest<'_>) -> Result<Change, ReadError>
+    ensures { Gives (λ found. (found, rest.new)) result (change_after 5 rest.old) }
 {
-    let (regime, rest) = regime_at(alloc, octets)?;
-    Ok((Change::PutDocket { regime }, rest))
+    let regime = regime_at(alloc, rest)?;
+    Ok(Change::PutDocket { regime })
 }
 
 #[tactic(auto, unfolding(crate::specs::Records::staging))]
-fn stage_at(alloc: Global, octets: Rest<'_>) -> Result<(Change, Rest<'_>), ReadError>
-    ensures { Gives (λ found. found) result (change_after 6 octets.entry) }
+fn stage_at(alloc: Global, rest: &mut Rest<'_>) -> Result<Change, ReadError>
+    ensures { Gives (λ found. (found, rest.new)) result (change_after 6 rest.old) }
 {
-    let (docket, rest) = docketed_at(alloc, octets)?;
-    let (piece, rest) = piece_at(alloc, rest)?;
+    let docket = docketed_at(alloc, rest)?;
+    let piece = piece_at(alloc, rest)?;
     let change = Change::Stage {
         identity: docket.identity,
         activity: docket.activity,
@@ -114,122 +108,118 @@ fn stage_at(alloc: Global, octets: Rest<'_>) -> Result<(Change, Rest<'_>), ReadE
         last: piece.last,
         elements: piece.elements,
     };
-    Ok((change, rest))
+    Ok(change)
 }
 
 #[tactic(auto, unfolding(crate::specs::Records::cutting))]
-fn cut_stage_at(alloc: Global, octets: Rest<'_>) -> Result<(Change, Rest<'_>), ReadError>
-    ensures { Gives (λ found. found) result (change_after 7 octets.entry) }
+fn cut_stage_at(alloc: Global, rest: &mut Rest<'_>) -> Result<Change, ReadError>
+    ensures { Gives (λ found. (found, rest.new)) result (change_after 7 rest.old) }
 {
-    let (docket, rest) = docketed_at(alloc, octets)?;
-    let (point, rest) = u32_at(rest)?;
+    let docket = docketed_at(alloc, rest)?;
+    let point = u32_at(rest)?;
     let change = Change::CutStage {
         identity: docket.identity,
         activity: docket.activity,
         point,
     };
-    Ok((change, rest))
+    Ok(change)
 }
 
-fn drop_docket_at(alloc: Global, octets: Rest<'_>) -> Result<(Change, Rest<'_>), ReadError>
-    ensures { Gives (λ found. found) result (change_after 8 octets.entry) }
+fn drop_docket_at(alloc: Global, rest: &mut Rest<'_>) -> Result<Change, ReadError>
+    ensures { Gives (λ found. (found, rest.new)) result (change_after 8 rest.old) }
 {
-    let (docket, rest) = docketed_at(alloc, octets)?;
+    let docket = docketed_at(alloc, rest)?;
     let change = Change::DropDocket {
         identity: docket.identity,
         activity: docket.activity,
     };
-    Ok((change, rest))
+    Ok(change)
 }
 
-fn put_task_at(alloc: Global, octets: Rest<'_>) -> Result<(Change, Rest<'_>), ReadError>
-    ensures { Gives (λ found. found) result (change_after 9 octets.entry) }
+fn put_task_at(alloc: Global, rest: &mut Rest<'_>) -> Result<Change, ReadError>
+    ensures { Gives (λ found. (found, rest.new)) result (change_after 9 rest.old) }
 {
-    let (plan, rest) = plan_at(alloc, octets)?;
-    Ok((Change::PutTask { plan }, rest))
+    let plan = plan_at(alloc, rest)?;
+    Ok(Change::PutTask { plan })
 }
 
 #[tactic(auto, unfolding(crate::specs::Records::task_staging))]
-fn stage_task_at(alloc: Global, octets: Rest<'_>) -> Result<(Change, Rest<'_>), ReadError>
-    ensures { Gives (λ found. found) result (change_after 10 octets.entry) }
+fn stage_task_at(alloc: Global, rest: &mut Rest<'_>) -> Result<Change, ReadError>
+    ensures { Gives (λ found. (found, rest.new)) result (change_after 10 rest.old) }
 {
-    let (activity, rest) = u32_at(octets)?;
-    let (point, rest) = u32_at(rest)?;
-    let (elements, rest) = elements_at(alloc, rest)?;
-    Ok((
-        Change::StageTask {
-            activity,
-            point,
-            elements,
-        },
-        rest,
-    ))
+    let activity = u32_at(rest)?;
+    let point = u32_at(rest)?;
+    let elements = elements_at(alloc, rest)?;
+    Ok(Change::StageTask {
+        activity,
+        point,
+        elements,
+    })
 }
 
 #[tactic(auto, unfolding(crate::specs::Records::task_cutting))]
-fn cut_task_at(octets: Rest<'_>) -> Result<(Change, Rest<'_>), ReadError>
-    ensures { Gives (λ found. found) result (change_after 11 octets.entry) }
+fn cut_task_at(rest: &mut Rest<'_>) -> Result<Change, ReadError>
+    ensures { Gives (λ found. (found, rest.new)) result (change_after 11 rest.old) }
 {
-    let (activity, rest) = u32_at(octets)?;
-    let (point, rest) = u32_at(rest)?;
-    Ok((Change::CutTask { activity, point }, rest))
+    let activity = u32_at(rest)?;
+    let point = u32_at(rest)?;
+    Ok(Change::CutTask { activity, point })
 }
 
-fn drop_task_at(octets: Rest<'_>) -> Result<(Change, Rest<'_>), ReadError>
-    ensures { Gives (λ found. found) result (change_after 12 octets.entry) }
+fn drop_task_at(rest: &mut Rest<'_>) -> Result<Change, ReadError>
+    ensures { Gives (λ found. (found, rest.new)) result (change_after 12 rest.old) }
 {
-    let (activity, rest) = u32_at(octets)?;
-    Ok((Change::DropTask { activity }, rest))
+    let activity = u32_at(rest)?;
+    Ok(Change::DropTask { activity })
 }
 
 /// A change whose kind was read.
-fn change_of(alloc: Global, kind: u8, octets: Rest<'_>) -> Result<(Change, Rest<'_>), ReadError>
-    ensures { Gives (λ found. found) result (change_after kind octets.entry) }
+fn change_of(alloc: Global, kind: u8, rest: &mut Rest<'_>) -> Result<Change, ReadError>
+    ensures { Gives (λ found. (found, rest.new)) result (change_after kind rest.old) }
 {
     match kind {
-        1 => put_user_at(alloc, octets),
-        2 => put_file_at(alloc, octets),
-        3 => put_attributes_at(alloc, octets),
-        4 => drop_file_at(alloc, octets),
-        5 => put_docket_at(alloc, octets),
-        6 => stage_at(alloc, octets),
-        7 => cut_stage_at(alloc, octets),
-        8 => drop_docket_at(alloc, octets),
-        9 => put_task_at(alloc, octets),
-        10 => stage_task_at(alloc, octets),
-        11 => cut_task_at(octets),
-        12 => drop_task_at(octets),
+        1 => put_user_at(alloc, rest),
+        2 => put_file_at(alloc, rest),
+        3 => put_attributes_at(alloc, rest),
+        4 => drop_file_at(alloc, rest),
+        5 => put_docket_at(alloc, rest),
+        6 => stage_at(alloc, rest),
+        7 => cut_stage_at(alloc, rest),
+        8 => drop_docket_at(alloc, rest),
+        9 => put_task_at(alloc, rest),
+        10 => stage_task_at(alloc, rest),
+        11 => cut_task_at(rest),
+        12 => drop_task_at(rest),
         _ => Err(ReadError::Foreign),
     }
 }
 
 #[tactic(auto, unfolding(crate::specs::Records::change))]
-fn change_at(alloc: Global, octets: Rest<'_>) -> Result<(Change, Rest<'_>), ReadError>
-    ensures { Gives (λ found. found) result (change.read octets.entry) }
+fn change_at(alloc: Global, rest: &mut Rest<'_>) -> Result<Change, ReadError>
+    ensures { Gives (λ found. (found, rest.new)) result (change.read rest.old) }
 {
-    let (kind, rest) = octet_at(octets)?;
+    let kind = octet_at(rest)?;
     change_of(alloc, kind, rest)
 }
 
-fn changes_in(alloc: Global, count: u32, octets: Rest<'_>) -> Result<(Changes, Rest<'_>), ReadError>
-    ensures { Gives (λ found. found) result (repeated_read change count octets.entry) }
+fn changes_in(alloc: Global, count: u32, rest: &mut Rest<'_>) -> Result<Changes, ReadError>
+    ensures { Gives (λ found. (found, rest.new)) result (repeated_read change count rest.old) }
 {
     let mut changes = Sequence::new(alloc);
-    let mut rest = octets;
     for _ in 0..count {
-        let (change, after) = change_at(alloc, rest)?;
+        let change = change_at(alloc, rest)?;
         changes.push(change)?;
-        rest = after;
     }
-    Ok((changes, rest))
+    Ok(changes)
 }
 
 #[tactic(auto, unfolding(crate::specs::Records::changes, crate::specs::Fields::number32))]
 fn whole(alloc: Global, octets: &Octets) -> Result<Changes, ReadError>
     ensures { Gives (λ found. found) result (changes_of octets.now) }
 {
-    let (count, rest) = u32_at(Rest::of(octets))?;
-    let (changes, rest) = changes_in(alloc, count, rest)?;
+    let mut rest = Rest::of(octets);
+    let count = u32_at(&mut rest)?;
+    let changes = changes_in(alloc, count, &mut rest)?;
     if !rest.is_empty() {
         return Err(ReadError::Foreign);
     }

@@ -52,74 +52,62 @@ fn constraint_for(contents: &Contents) -> Constraint
 }
 
 #[tactic(auto, unfolding(crate::specs::Entries::string_in))]
-fn element_in<'a>(
-    alloc: Global,
-    contents: &Contents,
-    octets: Rest<'a>,
-) -> Result<(Element, Rest<'a>), ReadError>
-    ensures { Gives (λ found. found) result ((string_in contents.now).read octets.entry) }
+fn element_in(alloc: Global, contents: &Contents, rest: &mut Rest<'_>) -> Result<Element, ReadError>
+    ensures { Gives (λ found. (found, rest.new)) result ((string_in contents.now).read rest.old) }
 {
-    let (string, rest) = string_at(alloc, octets)?;
-    Ok((string_of(contents, string), rest))
+    let string = string_at(alloc, rest)?;
+    Ok(string_of(contents, string))
 }
 
-fn strings_in<'a>(
+fn strings_in(
     alloc: Global,
     contents: &Contents,
     count: u32,
-    octets: Rest<'a>,
-) -> Result<(DataUnit, Rest<'a>), ReadError>
-    ensures { Gives (λ found. found) result (repeated_read (string_in contents.now) count octets.entry) }
+    rest: &mut Rest<'_>,
+) -> Result<DataUnit, ReadError>
+    ensures { Gives (λ found. (found, rest.new)) result (repeated_read (string_in contents.now) count rest.old) }
 {
     let mut unit = Sequence::new(alloc);
-    let mut rest = octets;
     for _ in 0..count {
-        let (element, after) = element_in(alloc, contents, rest)?;
+        let element = element_in(alloc, contents, rest)?;
         unit.push(element)?;
-        rest = after;
     }
-    Ok((unit, rest))
+    Ok(unit)
 }
 
 #[tactic(auto, unfolding(crate::specs::Entries::unit_in, crate::specs::Fields::number32))]
-fn unit_at<'a>(
-    alloc: Global,
-    contents: &Contents,
-    octets: Rest<'a>,
-) -> Result<(DataUnit, Rest<'a>), ReadError>
-    ensures { Gives (λ found. found) result ((unit_in contents.now).read octets.entry) }
+fn unit_at(alloc: Global, contents: &Contents, rest: &mut Rest<'_>) -> Result<DataUnit, ReadError>
+    ensures { Gives (λ found. (found, rest.new)) result ((unit_in contents.now).read rest.old) }
 {
-    let (count, rest) = u32_at(octets)?;
+    let count = u32_at(rest)?;
     strings_in(alloc, contents, count, rest)
 }
 
-fn units_of<'a>(
+fn units_of(
     alloc: Global,
     contents: &Contents,
     count: u32,
-    octets: Rest<'a>,
-) -> Result<(Vec<DataUnit>, Rest<'a>), ReadError>
-    ensures { Gives (λ found. (found.0.items, found.1)) result (repeated_read (unit_in contents.now) count octets.entry) }
+    rest: &mut Rest<'_>,
+) -> Result<Vec<DataUnit>, ReadError>
+    ensures { Gives (λ found. (found.items, rest.new)) result (repeated_read (unit_in contents.now) count rest.old) }
 {
     let mut units = Vec::new(alloc);
-    let mut rest = octets;
     for _ in 0..count {
-        let (unit, after) = unit_at(alloc, contents, rest)?;
+        let unit = unit_at(alloc, contents, rest)?;
         units.push(unit)?;
-        rest = after;
     }
-    Ok((units, rest))
+    Ok(units)
 }
 
 #[tactic(auto, unfolding(crate::specs::Entries::units_in, crate::specs::Fields::number32))]
-fn units_at<'a>(
+fn units_at(
     alloc: Global,
     contents: &Contents,
-    octets: Rest<'a>,
-) -> Result<(Vec<DataUnit>, Rest<'a>), ReadError>
-    ensures { Gives (λ found. (found.0.items, found.1)) result ((units_in contents.now).read octets.entry) }
+    rest: &mut Rest<'_>,
+) -> Result<Vec<DataUnit>, ReadError>
+    ensures { Gives (λ found. (found.items, rest.new)) result ((units_in contents.now).read rest.old) }
 {
-    let (count, rest) = u32_at(octets)?;
+    let count = u32_at(rest)?;
     units_of(alloc, contents, count, rest)
 }
 
@@ -232,16 +220,16 @@ fn joined(name: Name, attributes: Attributes, tree: Tree) -> File
 }
 
 #[tactic(auto, unfolding(crate::specs::Records::file))]
-pub(crate) fn file_at(alloc: Global, octets: Rest<'_>) -> Result<(File, Rest<'_>), ReadError>
-    ensures { Gives (λ found. found) result (file.read octets.entry) }
+pub(crate) fn file_at(alloc: Global, rest: &mut Rest<'_>) -> Result<File, ReadError>
+    ensures { Gives (λ found. (found, rest.new)) result (file.read rest.old) }
 {
-    let (name, rest) = name_at(alloc, octets)?;
-    let (attributes, rest) = attributes_at(alloc, rest)?;
-    let (units, rest) = units_at(alloc, &attributes.contents, rest)?;
+    let name = name_at(alloc, rest)?;
+    let attributes = attributes_at(alloc, rest)?;
+    let units = units_at(alloc, &attributes.contents, rest)?;
     let constraint = constraint_for(&attributes.contents);
     if !is_tree(constraint, &units) {
         return Err(ReadError::Foreign);
     }
     let tree = tree_of(alloc, constraint, units)?;
-    Ok((joined(name, attributes, tree), rest))
+    Ok(joined(name, attributes, tree))
 }

@@ -14,12 +14,12 @@ use vf_base::{Element, Elements, Sequence};
 use vf_tables::User;
 
 #[tactic(auto, unfolding(crate::specs::Entries::user))]
-pub(crate) fn user_at(alloc: Global, octets: Rest<'_>) -> Result<(User, Rest<'_>), ReadError>
-    ensures { Gives (λ found. found) result (user.read octets.entry) }
+pub(crate) fn user_at(alloc: Global, rest: &mut Rest<'_>) -> Result<User, ReadError>
+    ensures { Gives (λ found. (found, rest.new)) result (user.read rest.old) }
 {
-    let (identity, rest) = name_at(alloc, octets)?;
-    let (password, rest) = optional_text_at(alloc, rest)?;
-    Ok((User { identity, password }, rest))
+    let identity = name_at(alloc, rest)?;
+    let password = optional_text_at(alloc, rest)?;
+    Ok(User { identity, password })
 }
 
 fn is_class(kind: u8) -> bool
@@ -29,66 +29,57 @@ fn is_class(kind: u8) -> bool
 }
 
 #[tactic(auto, unfolding(crate::specs::Entries::descriptor))]
-fn descriptor_at(alloc: Global, octets: Rest<'_>) -> Result<(Element, Rest<'_>), ReadError>
-    ensures { Gives (λ found. found) result (element_after 0 octets.entry) }
+fn descriptor_at(alloc: Global, rest: &mut Rest<'_>) -> Result<Element, ReadError>
+    ensures { Gives (λ found. (found, rest.new)) result (element_after 0 rest.old) }
 {
-    let (name, rest) = optional_name_at(alloc, octets)?;
-    let (filled, rest) = truth_at(rest)?;
-    Ok((Element::Descriptor { name, filled }, rest))
+    let name = optional_name_at(alloc, rest)?;
+    let filled = truth_at(rest)?;
+    Ok(Element::Descriptor { name, filled })
 }
 
 /// An element whose kind was read.
-fn element_of(alloc: Global, kind: u8, octets: Rest<'_>) -> Result<(Element, Rest<'_>), ReadError>
-    ensures { Gives (λ found. found) result (element_after kind octets.entry) }
+fn element_of(alloc: Global, kind: u8, rest: &mut Rest<'_>) -> Result<Element, ReadError>
+    ensures { Gives (λ found. (found, rest.new)) result (element_after kind rest.old) }
 {
     match kind {
-        0 => descriptor_at(alloc, octets),
-        1 => Ok((Element::Enter, octets)),
-        2 => Ok((Element::Exit, octets)),
+        0 => descriptor_at(alloc, rest),
+        1 => Ok(Element::Enter),
+        2 => Ok(Element::Exit),
         4 => {
-            let (octets, rest) = string_at(alloc, octets)?;
-            Ok((Element::Binary { octets }, rest))
+            let octets = string_at(alloc, rest)?;
+            Ok(Element::Binary { octets })
         }
         class if is_class(class) => {
-            let (octets, rest) = string_at(alloc, octets)?;
-            Ok((Element::Text { class, octets }, rest))
+            let octets = string_at(alloc, rest)?;
+            Ok(Element::Text { class, octets })
         }
         _ => Err(ReadError::Foreign),
     }
 }
 
 #[tactic(auto, unfolding(crate::specs::Entries::element))]
-fn element_at(alloc: Global, octets: Rest<'_>) -> Result<(Element, Rest<'_>), ReadError>
-    ensures { Gives (λ found. found) result (element.read octets.entry) }
+fn element_at(alloc: Global, rest: &mut Rest<'_>) -> Result<Element, ReadError>
+    ensures { Gives (λ found. (found, rest.new)) result (element.read rest.old) }
 {
-    let (kind, rest) = octet_at(octets)?;
+    let kind = octet_at(rest)?;
     element_of(alloc, kind, rest)
 }
 
-fn elements_of(
-    alloc: Global,
-    count: u32,
-    octets: Rest<'_>,
-) -> Result<(Elements, Rest<'_>), ReadError>
-    ensures { Gives (λ found. found) result (repeated_read element count octets.entry) }
+fn elements_of(alloc: Global, count: u32, rest: &mut Rest<'_>) -> Result<Elements, ReadError>
+    ensures { Gives (λ found. (found, rest.new)) result (repeated_read element count rest.old) }
 {
     let mut elements = Sequence::new(alloc);
-    let mut rest = octets;
     for _ in 0..count {
-        let (element, after) = element_at(alloc, rest)?;
+        let element = element_at(alloc, rest)?;
         elements.push(element)?;
-        rest = after;
     }
-    Ok((elements, rest))
+    Ok(elements)
 }
 
 #[tactic(auto, unfolding(crate::specs::Entries::elements, crate::specs::Fields::number32))]
-pub(crate) fn elements_at(
-    alloc: Global,
-    octets: Rest<'_>,
-) -> Result<(Elements, Rest<'_>), ReadError>
-    ensures { Gives (λ found. found) result (elements.read octets.entry) }
+pub(crate) fn elements_at(alloc: Global, rest: &mut Rest<'_>) -> Result<Elements, ReadError>
+    ensures { Gives (λ found. (found, rest.new)) result (elements.read rest.old) }
 {
-    let (count, rest) = u32_at(octets)?;
+    let count = u32_at(rest)?;
     elements_of(alloc, count, rest)
 }

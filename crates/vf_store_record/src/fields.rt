@@ -9,161 +9,159 @@ use std::alloc::Global;
 use vf_attr::Stamp;
 use vf_base::{Actions, BaseError, Control, Moment, Name, Octets, Term};
 
-pub(crate) fn octet_at(octets: Rest<'_>) -> Result<(u8, Rest<'_>), ReadError>
-    ensures { Gives (λ found. found) result (first octets.entry) }
+pub(crate) fn octet_at(rest: &mut Rest<'_>) -> Result<u8, ReadError>
+    ensures { Gives (λ found. (found, rest.new)) result (first rest.old) }
 {
-    if octets.is_empty() {
+    if rest.is_empty() {
         return Err(ReadError::Foreign);
     }
-    let (octet, rest) = octets.split_at(1);
-    Ok((octet[0], rest))
+    let octet = rest.take(1);
+    Ok(octet[0])
 }
 
 #[tactic(auto, unfolding(crate::specs::Fields::number16))]
-pub(crate) fn u16_at(octets: Rest<'_>) -> Result<(u16, Rest<'_>), ReadError>
-    ensures { Gives (λ found. found) result (number16.read octets.entry) }
+pub(crate) fn u16_at(rest: &mut Rest<'_>) -> Result<u16, ReadError>
+    ensures { Gives (λ found. (found, rest.new)) result (number16.read rest.old) }
 {
-    if octets.len() < 2 {
+    if rest.len() < 2 {
         return Err(ReadError::Foreign);
     }
-    let (number, rest) = octets.split_at(2);
+    let number = rest.take(2);
     let number = u16::from_be_bytes([number[0], number[1]]);
-    Ok((number, rest))
+    Ok(number)
 }
 
 #[tactic(auto, unfolding(crate::specs::Fields::number32))]
-pub(crate) fn u32_at(octets: Rest<'_>) -> Result<(u32, Rest<'_>), ReadError>
-    ensures { Gives (λ found. found) result (number32.read octets.entry) }
+pub(crate) fn u32_at(rest: &mut Rest<'_>) -> Result<u32, ReadError>
+    ensures { Gives (λ found. (found, rest.new)) result (number32.read rest.old) }
 {
-    if octets.len() < 4 {
+    if rest.len() < 4 {
         return Err(ReadError::Foreign);
     }
-    let (number, rest) = octets.split_at(4);
+    let number = rest.take(4);
     let number = u32::from_be_bytes([number[0], number[1], number[2], number[3]]);
-    Ok((number, rest))
+    Ok(number)
 }
 
 #[tactic(auto, unfolding(crate::specs::Fields::number64))]
-pub(crate) fn u64_at(octets: Rest<'_>) -> Result<(u64, Rest<'_>), ReadError>
-    ensures { Gives (λ found. found) result (number64.read octets.entry) }
+pub(crate) fn u64_at(rest: &mut Rest<'_>) -> Result<u64, ReadError>
+    ensures { Gives (λ found. (found, rest.new)) result (number64.read rest.old) }
 {
-    if octets.len() < 8 {
+    if rest.len() < 8 {
         return Err(ReadError::Foreign);
     }
-    let (number, rest) = octets.split_at(8);
+    let number = rest.take(8);
     let number = u64::from_be_bytes([
         number[0], number[1], number[2], number[3], number[4], number[5], number[6], number[7],
     ]);
-    Ok((number, rest))
+    Ok(number)
 }
 
 /// So many octets.
-fn these_at(octets: Rest<'_>, count: usize) -> Result<(&[u8], Rest<'_>), ReadError>
-    ensures { Gives (λ found. (found.0.now, found.1)) result (these count octets.entry) }
+fn these_at<'a>(rest: &mut Rest<'a>, count: usize) -> Result<&'a [u8], ReadError>
+    ensures { Gives (λ found. (found.now, rest.new)) result (these count rest.old) }
 {
-    if octets.len() < count {
+    if rest.len() < count {
         return Err(ReadError::Foreign);
     }
-    let (these, rest) = octets.split_at(count);
-    Ok((these, rest))
+    Ok(rest.take(count))
 }
 
 #[tactic(auto, unfolding(crate::specs::Fields::text, crate::specs::Fields::number16))]
-pub(crate) fn text_at(alloc: Global, octets: Rest<'_>) -> Result<(Octets, Rest<'_>), ReadError>
-    ensures { Gives (λ found. found) result (text.read octets.entry) }
+pub(crate) fn text_at(alloc: Global, rest: &mut Rest<'_>) -> Result<Octets, ReadError>
+    ensures { Gives (λ found. (found, rest.new)) result (text.read rest.old) }
 {
-    let (count, rest) = u16_at(octets)?;
-    let (text, rest) = these_at(rest, count as usize)?;
-    let text = Octets::of(alloc, text)?;
-    Ok((text, rest))
+    let count = u16_at(rest)?;
+    let text = these_at(rest, count as usize)?;
+    Ok(Octets::of(alloc, text)?)
 }
 
 #[tactic(auto, unfolding(crate::specs::Fields::string, crate::specs::Fields::number32))]
-pub(crate) fn string_at(alloc: Global, octets: Rest<'_>) -> Result<(Octets, Rest<'_>), ReadError>
-    ensures { Gives (λ found. found) result (string.read octets.entry) }
+pub(crate) fn string_at(alloc: Global, rest: &mut Rest<'_>) -> Result<Octets, ReadError>
+    ensures { Gives (λ found. (found, rest.new)) result (string.read rest.old) }
 {
-    let (count, rest) = u32_at(octets)?;
+    let count = u32_at(rest)?;
     let count = count as usize;
     if rest.len() < count {
         return Err(ReadError::Foreign);
     }
     let string = rest.string(alloc, count)?;
-    let (_, rest) = rest.split_at(count);
-    Ok((string, rest))
+    rest.take(count);
+    Ok(string)
 }
 
 #[tactic(auto, unfolding(crate::specs::Fields::name, crate::specs::Fields::text, crate::specs::Fields::number16))]
-pub(crate) fn name_at(alloc: Global, octets: Rest<'_>) -> Result<(Name, Rest<'_>), ReadError>
-    ensures { Gives (λ found. found) result (name.read octets.entry) }
+pub(crate) fn name_at(alloc: Global, rest: &mut Rest<'_>) -> Result<Name, ReadError>
+    ensures { Gives (λ found. (found, rest.new)) result (name.read rest.old) }
 {
-    let (count, rest) = u16_at(octets)?;
-    let (text, rest) = these_at(rest, count as usize)?;
+    let count = u16_at(rest)?;
+    let text = these_at(rest, count as usize)?;
     match Name::of(alloc, text) {
-        Ok(name) => Ok((name, rest)),
+        Ok(name) => Ok(name),
         Err(BaseError::NoMemory) => Err(ReadError::NoMemory),
         Err(_) => Err(ReadError::Foreign),
     }
 }
 
 #[tactic(auto, unfolding(crate::specs::Fields::truth))]
-pub(crate) fn truth_at(octets: Rest<'_>) -> Result<(bool, Rest<'_>), ReadError>
-    ensures { Gives (λ found. found) result (truth.read octets.entry) }
+pub(crate) fn truth_at(rest: &mut Rest<'_>) -> Result<bool, ReadError>
+    ensures { Gives (λ found. (found, rest.new)) result (truth.read rest.old) }
 {
-    let (octet, rest) = octet_at(octets)?;
+    let octet = octet_at(rest)?;
     match octet {
-        0 => Ok((false, rest)),
-        1 => Ok((true, rest)),
+        0 => Ok(false),
+        1 => Ok(true),
         _ => Err(ReadError::Foreign),
     }
 }
 
 #[tactic(auto, unfolding(crate::specs::Fields::actions))]
-pub(crate) fn actions_at(octets: Rest<'_>) -> Result<(Actions, Rest<'_>), ReadError>
-    ensures { Gives (λ found. found) result (actions.read octets.entry) }
+pub(crate) fn actions_at(rest: &mut Rest<'_>) -> Result<Actions, ReadError>
+    ensures { Gives (λ found. (found, rest.new)) result (actions.read rest.old) }
 {
-    let (value, rest) = octet_at(octets)?;
-    Ok((Actions { value }, rest))
+    let value = octet_at(rest)?;
+    Ok(Actions { value })
 }
 
 #[tactic(auto, unfolding(crate::specs::Fields::control))]
-pub(crate) fn control_at(octets: Rest<'_>) -> Result<(Control, Rest<'_>), ReadError>
-    ensures { Gives (λ found. found) result (control.read octets.entry) }
+pub(crate) fn control_at(rest: &mut Rest<'_>) -> Result<Control, ReadError>
+    ensures { Gives (λ found. (found, rest.new)) result (control.read rest.old) }
 {
-    let (octet, rest) = octet_at(octets)?;
+    let octet = octet_at(rest)?;
     match octet {
-        0 => Ok((Control::NotRequired, rest)),
-        1 => Ok((Control::Shared, rest)),
-        2 => Ok((Control::Exclusive, rest)),
-        3 => Ok((Control::NoAccess, rest)),
+        0 => Ok(Control::NotRequired),
+        1 => Ok(Control::Shared),
+        2 => Ok(Control::Exclusive),
+        3 => Ok(Control::NoAccess),
         _ => Err(ReadError::Foreign),
     }
 }
 
 #[tactic(auto, unfolding(crate::specs::Fields::stamp, crate::specs::Fields::moment))]
-pub(crate) fn stamp_at(alloc: Global, octets: Rest<'_>) -> Result<(Stamp, Rest<'_>), ReadError>
-    ensures { Gives (λ found. found) result (stamp.read octets.entry) }
+pub(crate) fn stamp_at(alloc: Global, rest: &mut Rest<'_>) -> Result<Stamp, ReadError>
+    ensures { Gives (λ found. (found, rest.new)) result (stamp.read rest.old) }
 {
-    let (seconds, rest) = u64_at(octets)?;
+    let seconds = u64_at(rest)?;
     let Ok(moment) = Moment::of(seconds) else {
         return Err(ReadError::Foreign);
     };
-    let (identity, rest) = name_at(alloc, rest)?;
-    Ok((Stamp { moment, identity }, rest))
+    let identity = name_at(alloc, rest)?;
+    Ok(Stamp { moment, identity })
 }
 
 #[tactic(auto, unfolding(crate::specs::Fields::optional_stamp))]
 pub(crate) fn optional_stamp_at(
     alloc: Global,
-    octets: Rest<'_>,
-) -> Result<(Option<Stamp>, Rest<'_>), ReadError>
-    ensures { Gives (λ found. found) result (optional_stamp.read octets.entry) }
+    rest: &mut Rest<'_>,
+) -> Result<Option<Stamp>, ReadError>
+    ensures { Gives (λ found. (found, rest.new)) result (optional_stamp.read rest.old) }
 {
-    let (octet, rest) = octet_at(octets)?;
+    let octet = octet_at(rest)?;
     match octet {
-        0 => Ok((None, rest)),
+        0 => Ok(None),
         1 => {
-            let (stamp, rest) = stamp_at(alloc, rest)?;
-            Ok((Some(stamp), rest))
+            let stamp = stamp_at(alloc, rest)?;
+            Ok(Some(stamp))
         }
         _ => Err(ReadError::Foreign),
     }
@@ -172,16 +170,16 @@ pub(crate) fn optional_stamp_at(
 #[tactic(auto, unfolding(crate::specs::Fields::optional_name))]
 pub(crate) fn optional_name_at(
     alloc: Global,
-    octets: Rest<'_>,
-) -> Result<(Option<Name>, Rest<'_>), ReadError>
-    ensures { Gives (λ found. found) result (optional_name.read octets.entry) }
+    rest: &mut Rest<'_>,
+) -> Result<Option<Name>, ReadError>
+    ensures { Gives (λ found. (found, rest.new)) result (optional_name.read rest.old) }
 {
-    let (octet, rest) = octet_at(octets)?;
+    let octet = octet_at(rest)?;
     match octet {
-        0 => Ok((None, rest)),
+        0 => Ok(None),
         1 => {
-            let (name, rest) = name_at(alloc, rest)?;
-            Ok((Some(name), rest))
+            let name = name_at(alloc, rest)?;
+            Ok(Some(name))
         }
         _ => Err(ReadError::Foreign),
     }
@@ -190,34 +188,31 @@ pub(crate) fn optional_name_at(
 #[tactic(auto, unfolding(crate::specs::Fields::optional_text))]
 pub(crate) fn optional_text_at(
     alloc: Global,
-    octets: Rest<'_>,
-) -> Result<(Option<Octets>, Rest<'_>), ReadError>
-    ensures { Gives (λ found. found) result (optional_text.read octets.entry) }
+    rest: &mut Rest<'_>,
+) -> Result<Option<Octets>, ReadError>
+    ensures { Gives (λ found. (found, rest.new)) result (optional_text.read rest.old) }
 {
-    let (octet, rest) = octet_at(octets)?;
+    let octet = octet_at(rest)?;
     match octet {
-        0 => Ok((None, rest)),
+        0 => Ok(None),
         1 => {
-            let (text, rest) = text_at(alloc, rest)?;
-            Ok((Some(text), rest))
+            let text = text_at(alloc, rest)?;
+            Ok(Some(text))
         }
         _ => Err(ReadError::Foreign),
     }
 }
 
 #[tactic(auto, unfolding(crate::specs::Fields::term))]
-pub(crate) fn term_at(alloc: Global, octets: Rest<'_>) -> Result<(Term, Rest<'_>), ReadError>
-    ensures { Gives (λ found. found) result (term.read octets.entry) }
+pub(crate) fn term_at(alloc: Global, rest: &mut Rest<'_>) -> Result<Term, ReadError>
+    ensures { Gives (λ found. (found, rest.new)) result (term.read rest.old) }
 {
-    let (identity, rest) = optional_name_at(alloc, octets)?;
-    let (actions, rest) = actions_at(rest)?;
-    let (password, rest) = optional_text_at(alloc, rest)?;
-    Ok((
-        Term {
-            identity,
-            actions,
-            password,
-        },
-        rest,
-    ))
+    let identity = optional_name_at(alloc, rest)?;
+    let actions = actions_at(rest)?;
+    let password = optional_text_at(alloc, rest)?;
+    Ok(Term {
+        identity,
+        actions,
+        password,
+    })
 }

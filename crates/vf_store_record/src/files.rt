@@ -51,100 +51,86 @@ fn kind_named(alloc: Global, number: u8) -> Result<Oid, ReadError>
 }
 
 #[tactic(auto, unfolding(crate::specs::Entries::kind))]
-fn kind_at(alloc: Global, octets: Rest<'_>) -> Result<(Oid, Rest<'_>), ReadError>
-    ensures { Gives (λ found. found) result (kind.read octets.entry) }
+fn kind_at(alloc: Global, rest: &mut Rest<'_>) -> Result<Oid, ReadError>
+    ensures { Gives (λ found. (found, rest.new)) result (kind.read rest.old) }
 {
-    let (number, rest) = octet_at(octets)?;
+    let number = octet_at(rest)?;
     let kind = kind_named(alloc, number)?;
-    Ok((kind, rest))
+    Ok(kind)
 }
 
 #[tactic(auto, unfolding(crate::specs::Entries::contents))]
-fn contents_at(alloc: Global, octets: Rest<'_>) -> Result<(Contents, Rest<'_>), ReadError>
-    ensures { Gives (λ found. found) result (contents.read octets.entry) }
+fn contents_at(alloc: Global, rest: &mut Rest<'_>) -> Result<Contents, ReadError>
+    ensures { Gives (λ found. (found, rest.new)) result (contents.read rest.old) }
 {
-    let (kind, rest) = kind_at(alloc, octets)?;
-    let (class, rest) = octet_at(rest)?;
-    let (longest, rest) = u32_at(rest)?;
-    let (significance, rest) = octet_at(rest)?;
-    Ok((
-        Contents {
-            kind,
-            class,
-            longest,
-            significance,
-        },
-        rest,
-    ))
+    let kind = kind_at(alloc, rest)?;
+    let class = octet_at(rest)?;
+    let longest = u32_at(rest)?;
+    let significance = octet_at(rest)?;
+    Ok(Contents {
+        kind,
+        class,
+        longest,
+        significance,
+    })
 }
 
-fn terms_of(alloc: Global, count: u32, octets: Rest<'_>) -> Result<(Terms, Rest<'_>), ReadError>
-    ensures { Gives (λ found. found) result (repeated_read term count octets.entry) }
+fn terms_of(alloc: Global, count: u32, rest: &mut Rest<'_>) -> Result<Terms, ReadError>
+    ensures { Gives (λ found. (found, rest.new)) result (repeated_read term count rest.old) }
 {
     let mut terms = Sequence::new(alloc);
-    let mut rest = octets;
     for _ in 0..count {
-        let (term, after) = term_at(alloc, rest)?;
+        let term = term_at(alloc, rest)?;
         terms.push(term)?;
-        rest = after;
     }
-    Ok((terms, rest))
+    Ok(terms)
 }
 
 #[tactic(auto, unfolding(crate::specs::Fields::terms, crate::specs::Fields::number32))]
-fn terms_at(alloc: Global, octets: Rest<'_>) -> Result<(Terms, Rest<'_>), ReadError>
-    ensures { Gives (λ found. found) result (terms.read octets.entry) }
+fn terms_at(alloc: Global, rest: &mut Rest<'_>) -> Result<Terms, ReadError>
+    ensures { Gives (λ found. (found, rest.new)) result (terms.read rest.old) }
 {
-    let (count, rest) = u32_at(octets)?;
+    let count = u32_at(rest)?;
     terms_of(alloc, count, rest)
 }
 
 #[tactic(auto, unfolding(crate::specs::Entries::settings))]
-fn settings_at(alloc: Global, octets: Rest<'_>) -> Result<(Settings, Rest<'_>), ReadError>
-    ensures { Gives (λ found. found) result (settings.read octets.entry) }
+fn settings_at(alloc: Global, rest: &mut Rest<'_>) -> Result<Settings, ReadError>
+    ensures { Gives (λ found. (found, rest.new)) result (settings.read rest.old) }
 {
-    let (permitted, rest) = actions_at(octets)?;
-    let (contents, rest) = contents_at(alloc, rest)?;
-    let (terms, rest) = terms_at(alloc, rest)?;
-    Ok((
-        Settings {
-            permitted,
-            contents,
-            terms,
-        },
-        rest,
-    ))
+    let permitted = actions_at(rest)?;
+    let contents = contents_at(alloc, rest)?;
+    let terms = terms_at(alloc, rest)?;
+    Ok(Settings {
+        permitted,
+        contents,
+        terms,
+    })
 }
 
 #[tactic(auto, unfolding(crate::specs::Entries::stamps))]
-fn stamps_at(alloc: Global, octets: Rest<'_>) -> Result<(Stamps, Rest<'_>), ReadError>
-    ensures { Gives (λ found. found) result (stamps.read octets.entry) }
+fn stamps_at(alloc: Global, rest: &mut Rest<'_>) -> Result<Stamps, ReadError>
+    ensures { Gives (λ found. (found, rest.new)) result (stamps.read rest.old) }
 {
-    let (created, rest) = stamp_at(alloc, octets)?;
-    let (modified, rest) = optional_stamp_at(alloc, rest)?;
-    let (read, rest) = optional_stamp_at(alloc, rest)?;
-    let (changed, rest) = optional_stamp_at(alloc, rest)?;
-    Ok((
-        Stamps {
-            created,
-            modified,
-            read,
-            changed,
-        },
-        rest,
-    ))
+    let created = stamp_at(alloc, rest)?;
+    let modified = optional_stamp_at(alloc, rest)?;
+    let read = optional_stamp_at(alloc, rest)?;
+    let changed = optional_stamp_at(alloc, rest)?;
+    Ok(Stamps {
+        created,
+        modified,
+        read,
+        changed,
+    })
 }
 
 #[tactic(auto, unfolding(crate::specs::Entries::attributes))]
-pub(crate) fn attributes_at(
-    alloc: Global,
-    octets: Rest<'_>,
-) -> Result<(Attributes, Rest<'_>), ReadError>
-    ensures { Gives (λ found. found) result (attributes.read octets.entry) }
+pub(crate) fn attributes_at(alloc: Global, rest: &mut Rest<'_>) -> Result<Attributes, ReadError>
+    ensures { Gives (λ found. (found, rest.new)) result (attributes.read rest.old) }
 {
-    let (settings, rest) = settings_at(alloc, octets)?;
-    let (stamps, rest) = stamps_at(alloc, rest)?;
-    let (version, rest) = u32_at(rest)?;
+    let settings = settings_at(alloc, rest)?;
+    let stamps = stamps_at(alloc, rest)?;
+    let version = u32_at(rest)?;
     let attributes = Attributes {
         permitted: settings.permitted,
         contents: settings.contents,
@@ -155,5 +141,5 @@ pub(crate) fn attributes_at(
         changed: stamps.changed,
         version,
     };
-    Ok((attributes, rest))
+    Ok(attributes)
 }

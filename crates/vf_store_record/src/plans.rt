@@ -27,77 +27,71 @@ pub(crate) struct Course {
 }
 
 #[tactic(auto, unfolding(crate::specs::Entries::way))]
-fn way_at(octets: Rest<'_>) -> Result<(Way, Rest<'_>), ReadError>
-    ensures { Gives (λ found. found) result (way.read octets.entry) }
+fn way_at(rest: &mut Rest<'_>) -> Result<Way, ReadError>
+    ensures { Gives (λ found. (found, rest.new)) result (way.read rest.old) }
 {
-    let (octet, rest) = octet_at(octets)?;
+    let octet = octet_at(rest)?;
     match octet {
-        1 => Ok((Way::Get, rest)),
-        2 => Ok((Way::Put, rest)),
+        1 => Ok(Way::Get),
+        2 => Ok(Way::Put),
         _ => Err(ReadError::Foreign),
     }
 }
 
 #[tactic(auto, unfolding(crate::specs::Entries::phase))]
-fn phase_at(octets: Rest<'_>) -> Result<(Phase, Rest<'_>), ReadError>
-    ensures { Gives (λ found. found) result (phase.read octets.entry) }
+fn phase_at(rest: &mut Rest<'_>) -> Result<Phase, ReadError>
+    ensures { Gives (λ found. (found, rest.new)) result (phase.read rest.old) }
 {
-    let (octet, rest) = octet_at(octets)?;
+    let octet = octet_at(rest)?;
     match octet {
-        0 => Ok((Phase::New, rest)),
-        1 => Ok((Phase::Open, rest)),
-        2 => Ok((Phase::Whole, rest)),
-        3 => Ok((Phase::Concluded, rest)),
+        0 => Ok(Phase::New),
+        1 => Ok(Phase::Open),
+        2 => Ok(Phase::Whole),
+        3 => Ok(Phase::Concluded),
         _ => Err(ReadError::Foreign),
     }
 }
 
 #[tactic(auto, unfolding(crate::specs::Entries::purpose))]
-fn purpose_at(octets: Rest<'_>) -> Result<(Purpose, Rest<'_>), ReadError>
-    ensures { Gives (λ found. found) result (purpose.read octets.entry) }
+fn purpose_at(rest: &mut Rest<'_>) -> Result<Purpose, ReadError>
+    ensures { Gives (λ found. (found, rest.new)) result (purpose.read rest.old) }
 {
-    let (activity, rest) = u32_at(octets)?;
-    let (way, rest) = way_at(rest)?;
-    let (kind, rest) = octet_at(rest)?;
-    let (every, rest) = u32_at(rest)?;
-    Ok((
-        Purpose {
-            activity,
-            way,
-            kind,
-            every,
-        },
-        rest,
-    ))
+    let activity = u32_at(rest)?;
+    let way = way_at(rest)?;
+    let kind = octet_at(rest)?;
+    let every = u32_at(rest)?;
+    Ok(Purpose {
+        activity,
+        way,
+        kind,
+        every,
+    })
 }
 
 #[tactic(auto, unfolding(crate::specs::Entries::course))]
-fn course_at(octets: Rest<'_>) -> Result<(Course, Rest<'_>), ReadError>
-    ensures { Gives (λ found. found) result (course.read octets.entry) }
+fn course_at(rest: &mut Rest<'_>) -> Result<Course, ReadError>
+    ensures { Gives (λ found. (found, rest.new)) result (course.read rest.old) }
 {
-    let (number, rest) = u32_at(octets)?;
-    let (point, rest) = u32_at(rest)?;
-    let (phase, rest) = phase_at(rest)?;
-    let (outcome, rest) = u16_at(rest)?;
-    Ok((
-        Course {
-            number,
-            point,
-            phase,
-            outcome,
-        },
-        rest,
-    ))
+    let number = u32_at(rest)?;
+    let point = u32_at(rest)?;
+    let phase = phase_at(rest)?;
+    let outcome = u16_at(rest)?;
+    Ok(Course {
+        number,
+        point,
+        phase,
+        outcome,
+    })
 }
 
 #[tactic(auto, unfolding(crate::specs::Entries::plan))]
-pub(crate) fn plan_at(alloc: Global, octets: Rest<'_>) -> Result<(Plan, Rest<'_>), ReadError>
-    ensures { Gives (λ found. found) result (plan.read octets.entry) }
+pub(crate) fn plan_at(alloc: Global, rest: &mut Rest<'_>) -> Result<Plan, ReadError>
+    ensures { Gives (λ found. (found, rest.new)) result (plan.read rest.old) }
 {
-    let (purpose, rest) = purpose_at(octets)?;
-    let (file, rest) = name_at(alloc, rest)?;
-    let (identity, rest) = name_at(alloc, rest)?;
-    let (course, rest) = course_at(rest)?;
+    let purpose = purpose_at(rest)?;
+    let file = name_at(alloc, rest)?;
+    let identity = name_at(alloc, rest)?;
+    let course = course_at(rest)?;
     let plan = Plan {
         activity: purpose.activity,
         way: purpose.way,
@@ -110,5 +104,5 @@ pub(crate) fn plan_at(alloc: Global, octets: Rest<'_>) -> Result<(Plan, Rest<'_>
         phase: course.phase,
         outcome: course.outcome,
     };
-    Ok((plan, rest))
+    Ok(plan)
 }

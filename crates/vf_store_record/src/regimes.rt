@@ -55,34 +55,31 @@ pub(crate) struct Standing {
 }
 
 #[tactic(auto, unfolding(crate::specs::Entries::ownership))]
-fn ownership_at(alloc: Global, octets: Rest<'_>) -> Result<(Ownership, Rest<'_>), ReadError>
-    ensures { Gives (λ found. found) result (ownership.read octets.entry) }
+fn ownership_at(alloc: Global, rest: &mut Rest<'_>) -> Result<Ownership, ReadError>
+    ensures { Gives (λ found. (found, rest.new)) result (ownership.read rest.old) }
 {
-    let (identity, rest) = name_at(alloc, octets)?;
-    let (activity, rest) = u32_at(rest)?;
-    let (file, rest) = name_at(alloc, rest)?;
-    Ok((
-        Ownership {
-            identity,
-            activity,
-            file,
-        },
-        rest,
-    ))
+    let identity = name_at(alloc, rest)?;
+    let activity = u32_at(rest)?;
+    let file = name_at(alloc, rest)?;
+    Ok(Ownership {
+        identity,
+        activity,
+        file,
+    })
 }
 
 #[tactic(auto, unfolding(crate::specs::Fields::controls))]
-fn controls_at(octets: Rest<'_>) -> Result<(Controls, Rest<'_>), ReadError>
-    ensures { Gives (λ found. found) result (controls.read octets.entry) }
+fn controls_at(rest: &mut Rest<'_>) -> Result<Controls, ReadError>
+    ensures { Gives (λ found. (found, rest.new)) result (controls.read rest.old) }
 {
-    let (read, rest) = control_at(octets)?;
-    let (insert, rest) = control_at(rest)?;
-    let (replace, rest) = control_at(rest)?;
-    let (extend, rest) = control_at(rest)?;
-    let (erase, rest) = control_at(rest)?;
-    let (read_attribute, rest) = control_at(rest)?;
-    let (change_attribute, rest) = control_at(rest)?;
-    let (delete, rest) = control_at(rest)?;
+    let read = control_at(rest)?;
+    let insert = control_at(rest)?;
+    let replace = control_at(rest)?;
+    let extend = control_at(rest)?;
+    let erase = control_at(rest)?;
+    let read_attribute = control_at(rest)?;
+    let change_attribute = control_at(rest)?;
+    let delete = control_at(rest)?;
     let each = [
         read,
         insert,
@@ -93,64 +90,55 @@ fn controls_at(octets: Rest<'_>) -> Result<(Controls, Rest<'_>), ReadError>
         change_attribute,
         delete,
     ];
-    Ok((Controls { each }, rest))
+    Ok(Controls { each })
 }
 
 #[tactic(auto, unfolding(crate::specs::Entries::permission))]
-fn permission_at(alloc: Global, octets: Rest<'_>) -> Result<(Permission, Rest<'_>), ReadError>
-    ensures { Gives (λ found. found) result (permission.read octets.entry) }
+fn permission_at(alloc: Global, rest: &mut Rest<'_>) -> Result<Permission, ReadError>
+    ensures { Gives (λ found. (found, rest.new)) result (permission.read rest.old) }
 {
-    let (requested, rest) = actions_at(octets)?;
-    let (controls, rest) = controls_at(rest)?;
-    let (mode, rest) = actions_at(rest)?;
-    let (password, rest) = optional_text_at(alloc, rest)?;
-    Ok((
-        Permission {
-            requested,
-            controls,
-            mode,
-            password,
-        },
-        rest,
-    ))
+    let requested = actions_at(rest)?;
+    let controls = controls_at(rest)?;
+    let mode = actions_at(rest)?;
+    let password = optional_text_at(alloc, rest)?;
+    Ok(Permission {
+        requested,
+        controls,
+        mode,
+        password,
+    })
 }
 
 #[tactic(auto, unfolding(crate::specs::Entries::progress))]
-fn progress_at(octets: Rest<'_>) -> Result<(Progress, Rest<'_>), ReadError>
-    ensures { Gives (λ found. found) result (progress.read octets.entry) }
+fn progress_at(rest: &mut Rest<'_>) -> Result<Progress, ReadError>
+    ensures { Gives (λ found. (found, rest.new)) result (progress.read rest.old) }
 {
-    let (position, rest) = u32_at(octets)?;
-    let (number, rest) = u32_at(rest)?;
-    let (last, rest) = u16_at(rest)?;
-    let (window, rest) = u16_at(rest)?;
-    Ok((
-        Progress {
-            position,
-            number,
-            last,
-            window,
-        },
-        rest,
-    ))
+    let position = u32_at(rest)?;
+    let number = u32_at(rest)?;
+    let last = u16_at(rest)?;
+    let window = u16_at(rest)?;
+    Ok(Progress {
+        position,
+        number,
+        last,
+        window,
+    })
 }
 
 #[tactic(auto, unfolding(crate::specs::Entries::standing))]
-fn standing_at(octets: Rest<'_>) -> Result<(Standing, Rest<'_>), ReadError>
-    ensures { Gives (λ found. found) result (standing.read octets.entry) }
+fn standing_at(rest: &mut Rest<'_>) -> Result<Standing, ReadError>
+    ensures { Gives (λ found. (found, rest.new)) result (standing.read rest.old) }
 {
-    let (refused, rest) = u16_at(octets)?;
-    let (point, rest) = u32_at(rest)?;
-    let (ended, rest) = truth_at(rest)?;
-    let (version, rest) = u32_at(rest)?;
-    Ok((
-        Standing {
-            refused,
-            point,
-            ended,
-            version,
-        },
-        rest,
-    ))
+    let refused = u16_at(rest)?;
+    let point = u32_at(rest)?;
+    let ended = truth_at(rest)?;
+    let version = u32_at(rest)?;
+    Ok(Standing {
+        refused,
+        point,
+        ended,
+        version,
+    })
 }
 
 fn reading_of(method: u8) -> Option<Direction>
@@ -207,25 +195,25 @@ fn fadu_of(number: u64) -> Option<FaduId>
 }
 
 #[tactic(auto, unfolding(crate::specs::Fields::fadu))]
-fn fadu_at(octets: Rest<'_>) -> Result<(FaduId, Rest<'_>), ReadError>
-    ensures { Gives (λ found. found) result (fadu.read octets.entry) }
+fn fadu_at(rest: &mut Rest<'_>) -> Result<FaduId, ReadError>
+    ensures { Gives (λ found. (found, rest.new)) result (fadu.read rest.old) }
 {
-    let (number, rest) = u64_at(octets)?;
+    let number = u64_at(rest)?;
     match fadu_of(number) {
-        Some(fadu) => Ok((fadu, rest)),
+        Some(fadu) => Ok(fadu),
         None => Err(ReadError::Foreign),
     }
 }
 
 #[tactic(auto, unfolding(crate::specs::Entries::transfer))]
-fn transfer_at(octets: Rest<'_>) -> Result<(Transfer, Rest<'_>), ReadError>
-    ensures { Gives (λ found. found) result (transfer.read octets.entry) }
+fn transfer_at(rest: &mut Rest<'_>) -> Result<Transfer, ReadError>
+    ensures { Gives (λ found. (found, rest.new)) result (transfer.read rest.old) }
 {
-    let (direction, rest) = octet_at(octets)?;
-    let (fadu, rest) = fadu_at(rest)?;
-    let (method, rest) = octet_at(rest)?;
+    let direction = octet_at(rest)?;
+    let fadu = fadu_at(rest)?;
+    let method = octet_at(rest)?;
     match direction_of(direction, method) {
-        Some(direction) => Ok((Transfer { direction, fadu }, rest)),
+        Some(direction) => Ok(Transfer { direction, fadu }),
         None => Err(ReadError::Foreign),
     }
 }
@@ -261,14 +249,14 @@ fn joined(
 }
 
 #[tactic(auto, unfolding(crate::specs::Entries::regime))]
-pub(crate) fn regime_at(alloc: Global, octets: Rest<'_>) -> Result<(Regime, Rest<'_>), ReadError>
-    ensures { Gives (λ found. found) result (regime.read octets.entry) }
+pub(crate) fn regime_at(alloc: Global, rest: &mut Rest<'_>) -> Result<Regime, ReadError>
+    ensures { Gives (λ found. (found, rest.new)) result (regime.read rest.old) }
 {
-    let (ownership, rest) = ownership_at(alloc, octets)?;
-    let (permission, rest) = permission_at(alloc, rest)?;
-    let (progress, rest) = progress_at(rest)?;
-    let (transfer, rest) = transfer_at(rest)?;
-    let (standing, rest) = standing_at(rest)?;
+    let ownership = ownership_at(alloc, rest)?;
+    let permission = permission_at(alloc, rest)?;
+    let progress = progress_at(rest)?;
+    let transfer = transfer_at(rest)?;
+    let standing = standing_at(rest)?;
     let regime = joined(ownership, permission, progress, transfer, standing);
-    Ok((regime, rest))
+    Ok(regime)
 }

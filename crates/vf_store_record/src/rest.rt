@@ -49,15 +49,15 @@ impl<'a> Rest<'a> {
         self.octets.is_empty()
     }
 
-    /// The first so many octets, and those after them.
-    pub(crate) fn split_at(self, count: usize) -> (&'a [u8], Rest<'a>)
-        requires { count ≤ length self }
-        ensures first { result.0.now ≡ take count self.entry }
-        ensures rest { result.1 ≡ drop count self.entry }
+    /// The first so many octets; those after them are left.
+    pub(crate) fn take(&mut self, count: usize) -> &'a [u8]
+        requires { count ≤ length self.old }
+        ensures first { result.now ≡ take count self.old }
+        ensures rest { self.new ≡ drop count self.old }
     {
-        let Rest { whole, octets } = self;
-        let (first, octets) = octets.split_at(count);
-        (first, Rest { whole, octets })
+        let (first, octets) = self.octets.split_at(count);
+        self.octets = octets;
+        first
     }
 
     /// The first so many octets as a string: a long one is a part of the record, and a short one is copied.
