@@ -23,7 +23,7 @@ use Rattle.vf_tree.specs.FileTree as trees
 use Rattle.vf_tree.specs.declared.limits.TheConstants.{MOST_FILE_OCTETS, MOST_FILE_PARTS}
 use Rattle.vf_store_record.specs.Entries.{attributes, kind_number, octets_of, string_of, units_in}
 use Rattle.vf_store_record.specs.Fields.{name, term}
-use Rattle.vf_store_record.specs.Records.{constraint_for, file, file_if, file_read, is_tree}
+use Rattle.vf_store_record.specs.Records.{constraint_for, file, file_from, file_read, is_tree}
 use Rattle.vf_store_record.specs.Writing.{Always, AreSettings, AreStrings, AreUnits, IsString, IsWholeFile, Writes}
 use Rattle.vf_store_record.proofs.Again.{after_both}
 use Rattle.vf_store_record.proofs.Changed.{terms_shorter}
@@ -139,9 +139,8 @@ shaped_tree SequentialFlat units is =
     let parts : nat_le (parts_in units) MOST_FILE_PARTS ≡ true = grind (arith, nat_tests, is.1.1) in
     rw (octets, parts) refl
 
-file_again : (value : File) (constraint : Constraint) → constraint_for value.contents ≡ constraint → constraint ≡ value.tree.constraint → is_tree constraint value.tree.units ≡ true
-    → file_if value.name (attributes_of value) value.tree.units ≡ Some value
-file_again value constraint e f is = rw (e, is, f) refl
+file_again : (value : File) → constraint_for value.contents ≡ value.tree.constraint → file_from value.name (attributes_of value) value.tree.units ≡ value
+file_again value e = rw e refl
 
 kind_there : (option : Option Kind) (test : Kind → Bool) → option_map_or test option false ≡ true → (kind : Kind) × (option ≡ Some kind) × (test kind ≡ true)
 kind_there None test is = absurd cc
@@ -150,7 +149,8 @@ kind_there (Some kind) test is = (kind, refl, is)
 pub record IsMadeAgain (value : File) : Type 0 where
   pub settings : AreSettings value.contents value.terms
   pub units : AreUnits value.contents value.tree.units
-  pub made : file_if value.name (attributes_of value) value.tree.units ≡ Some value
+  pub shape : is_tree (constraint_for value.contents) value.tree.units ≡ true
+  pub made : file_from value.name (attributes_of value) value.tree.units ≡ value
 
 whole : (value : File) → IsFile value.tree → IsWholeFile value → IsMadeAgain value
 whole value is taken =
@@ -159,10 +159,12 @@ whole value is taken =
     let n = numbered value.contents.kind k.0 k.1 in
     let u = both_true (is_constraint (constraint_of k.0) value.tree.constraint) (list_all (λ (unit : List Element). list_all (is_string_of k.0 value.contents.class) unit) value.tree.units) k.2 in
     let few = units_few value.tree.units in
+    let same : constraint_for value.contents ≡ value.tree.constraint = constraint_known value.contents k.0 value.tree.constraint n u.0 in
     record {
       settings = record { kind = ap is_some k.1; terms = record { in_range = h.0; short = terms_of_file value taken } };
       units = record { each = units_each value.contents k.0 value.tree.units n u.1 (omega (arith, is.1.0)) (omega (arith, is.1.1)); few = omega (arith, is.1.1) };
-      made = file_again value value.tree.constraint (constraint_known value.contents k.0 value.tree.constraint n u.0) refl (shaped_tree value.tree.constraint value.tree.units is);
+      shape = rw same (shaped_tree value.tree.constraint value.tree.units is);
+      made = file_again value same;
     }
 
 pub file_writes : {a b c d : List ℕ} (value : File) → IsFile value.tree → Writes name value.name Always a b → Writes attributes (attributes_of value) (AreSettings value.contents value.terms) b c
@@ -177,5 +179,5 @@ file_writes {a = a} {b = b} {c = c} {d = d} value is v w u =
       again = λ taken rest.
           let made = whole value is taken in
           ap file_read (append_assoc first (second ++ third) rest ∙ ap (λ (l : List ℕ). first ++ l) (append_assoc second third rest))
-          ∙ rw (v.again tt (second ++ (third ++ rest)), w.again made.settings (third ++ rest), u.again made.units rest, made.made) refl;
+          ∙ rw (v.again tt (second ++ (third ++ rest)), w.again made.settings (third ++ rest), u.again made.units rest, made.shape, made.made) refl;
     }

@@ -1,5 +1,5 @@
 -- The rows of a record (profile): what is kept of a user, of a file, of a recoverable regime and of a task.
-use Rattle.std.specs.Prelude.{ℕ, ◌==◌, Bool, ◌&&◌, nat_eq, List, [], ◌∷◌, Option, Some, None, if◌then◌else◌}
+use Rattle.std.specs.Prelude.{ℕ, ◌==◌, Bool, nat_eq, List, [], ◌∷◌, Option, Some, None, if◌then◌else◌}
 use Rattle.std.specs.Option.{option_map}
 use Rattle.std.specs.Str.{bytes_eq}
 use Rattle.vf_attr.specs.declared.attributes.Attributes.{Attributes}

@@ -1,5 +1,5 @@
 -- What a function of reading answers: what the format has, unless memory is wanting.
-use Rattle.std.specs.Prelude.{◌≡◌, ℕ, Option, Some, None, Result, Ok, Err}
+use Rattle.std.specs.Prelude.{◌≡◌, Option, Some, None, Result, Ok, Err}
 use Rattle.vf_store_record.specs.declared.error.ReadError.{ReadError}
 use Rattle.vf_store_record.specs.declared.error.ReadError.TheVariants as errors
 

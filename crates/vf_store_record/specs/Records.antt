@@ -1,5 +1,5 @@
 -- The record of changes (profile): their number, and for each the octet of its kind and the fields of its row.
-use Rattle.std.specs.Prelude.{ℕ, ◌==◌, Bool, true, ◌&&◌, ◌++◌, nat_eq, nat_le, List, [], ◌∷◌, length, Option, Some, None, if◌then◌else◌}
+use Rattle.std.specs.Prelude.{ℕ, ◌==◌, Bool, true, ◌&&◌, ◌++◌, nat_eq, nat_le, List, ◌∷◌, length, Option, Some, None, if◌then◌else◌}
 use Rattle.vf_attr.specs.Attributes.{attributes_of}
 use Rattle.vf_attr.specs.declared.attributes.Attributes.{Attributes}
 use Rattle.vf_attr.specs.declared.file.File.{File}
@@ -43,14 +43,15 @@ file_from called told units = record {
   tree = record { constraint = constraint_for told.contents; units = units };
 }
 
-abbrev pub file_if : List ℕ → Attributes → List (List Element) → Option File
-file_if called told units = if is_tree (constraint_for told.contents) units then Some (file_from called told units) else None
+-- the units of a tree that a file of this contents type may have
+abbrev pub tree_read : Contents → List ℕ → Option (List (List Element) × List ℕ)
+tree_read contents octets = (units_in contents).read octets >>= λ units. if is_tree (constraint_for contents) units.0 then Some units else None
 
 -- a file: its name, its attributes, and its units as lists of strings
 abbrev pub file_read : List ℕ → Option (File × List ℕ)
 file_read octets =
-    name.read octets >>= λ called. attributes.read called.1 >>= λ told. (units_in told.0.contents).read told.1
-    >>= λ units. file_if called.0 told.0 units.0 >>= λ made. Some (made, units.1)
+    (both name attributes).read octets >>= λ head. tree_read head.0.1.contents head.1
+    >>= λ units. Some (file_from head.0.0 head.0.1 units.0, units.1)
 
 abbrev pub file_spelled : File → List ℕ
 file_spelled given = name.spell given.name ++ (attributes.spell (attributes_of given) ++ (units_in given.contents).spell given.tree.units)

@@ -1,9 +1,10 @@
 //! Files in a record: their units as lists of strings.
 ghost use Rattle.std.specs.Prelude.{◌≡◌, ◌+◌, ◌<◌, ◌≤◌, ◌↔◌, true, length, IfOk, IsTrue, MatchOption};
-ghost use Rattle.vf_store_record.specs.Entries.{kind_number as number_meant, string_in, string_of as string_meant, unit_in, units_in};
-ghost use Rattle.vf_store_record.specs.Formats.{repeated_read};
+ghost use Rattle.vf_store_record.specs.Entries.{attributes, kind_number as number_meant, string_in, string_of as string_meant, unit_in, units_in};
+ghost use Rattle.vf_store_record.specs.Fields.{name};
+ghost use Rattle.vf_store_record.specs.Formats.{both, repeated_read};
 ghost use Rattle.vf_store_record.specs.Reading.{Gives};
-ghost use Rattle.vf_store_record.specs.Records.{constraint_for as constraint_meant, file, file_from, has_shape as shape_meant, is_tree as tree_meant};
+ghost use Rattle.vf_store_record.specs.Records.{constraint_for as constraint_meant, file, file_from, has_shape as shape_meant, is_tree as tree_meant, tree_read};
 ghost use Rattle.vf_tree.specs.FileTree.{IsWithinFile, octets_in, octets_of_unit, parts_in};
 
 use crate::fields::{name_at, string_at, u32_at};
@@ -202,34 +203,67 @@ fn tree_of(alloc: Global, constraint: Constraint, units: Vec<DataUnit>) -> Resul
     }
 }
 
-fn joined(name: Name, attributes: Attributes, tree: Tree) -> File
-    ensures { tree.constraint ≡ constraint_meant attributes.contents → result ≡ file_from name attributes tree.units }
+/// The tree of the units that follow, in a file of this contents type.
+fn tree_at(alloc: Global, contents: &Contents, rest: &mut Rest<'_>) -> Result<Tree, ReadError>
+    ensures units { Gives (λ tree. (tree.units, rest.new)) result (tree_read contents.now rest.old) }
+    ensures constraint { IfOk result (λ tree. tree.constraint ≡ constraint_meant contents.now) }
 {
-    File {
-        name,
-        permitted: attributes.permitted,
-        contents: attributes.contents,
-        terms: attributes.terms,
-        created: attributes.created,
-        modified: attributes.modified,
-        read: attributes.read,
-        changed: attributes.changed,
-        version: attributes.version,
-        tree,
+    let units = units_at(alloc, contents, rest)?;
+    let constraint = constraint_for(contents);
+    if !is_tree(constraint, &units) {
+        return Err(ReadError::Foreign);
     }
+    Ok(tree_of(alloc, constraint, units)?)
+}
+
+/// What stands of a file before its units.
+struct Head {
+    name: Name,
+    attributes: Attributes,
+}
+
+impl Drop for Head {
+    fn drop(self) {
+        let Head { name, attributes } = self;
+        drop(name);
+        drop(attributes);
+    }
+}
+
+impl Head {
+    /// The file of this tree.
+    fn with(self, tree: Tree) -> File
+        ensures { tree.constraint ≡ constraint_meant self.attributes.contents → result ≡ file_from self.name self.attributes tree.units }
+    {
+        let Head { name, attributes } = self;
+        File {
+            name,
+            permitted: attributes.permitted,
+            contents: attributes.contents,
+            terms: attributes.terms,
+            created: attributes.created,
+            modified: attributes.modified,
+            read: attributes.read,
+            changed: attributes.changed,
+            version: attributes.version,
+            tree,
+        }
+    }
+}
+
+fn head_at(alloc: Global, rest: &mut Rest<'_>) -> Result<Head, ReadError>
+    ensures { Gives (λ head. ((head.name, head.attributes), rest.new)) result ((both name attributes).read rest.old) }
+{
+    let name = name_at(alloc, rest)?;
+    let attributes = attributes_at(alloc, rest)?;
+    Ok(Head { name, attributes })
 }
 
 #[tactic(auto, unfolding(crate::specs::Records::file))]
 pub(crate) fn file_at(alloc: Global, rest: &mut Rest<'_>) -> Result<File, ReadError>
     ensures { Gives (λ found. (found, rest.new)) result (file.read rest.old) }
 {
-    let name = name_at(alloc, rest)?;
-    let attributes = attributes_at(alloc, rest)?;
-    let units = units_at(alloc, &attributes.contents, rest)?;
-    let constraint = constraint_for(&attributes.contents);
-    if !is_tree(constraint, &units) {
-        return Err(ReadError::Foreign);
-    }
-    let tree = tree_of(alloc, constraint, units)?;
-    Ok(joined(name, attributes, tree))
+    let head = head_at(alloc, rest)?;
+    let tree = tree_at(alloc, &head.attributes.contents, rest)?;
+    Ok(head.with(tree))
 }

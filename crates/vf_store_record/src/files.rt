@@ -1,9 +1,9 @@
 //! Attributes and contents of files in a record.
 ghost use Rattle.std.specs.Prelude.{◌≡◌, IfOk};
 ghost use Rattle.vf_doctype.specs.DocumentTypes.{entry as entry_meant};
-ghost use Rattle.vf_store_record.specs.Entries.{attributes, contents, kind, kind_named as kind_meant, settings, stamps};
-ghost use Rattle.vf_store_record.specs.Fields.{term, terms};
-ghost use Rattle.vf_store_record.specs.Formats.{repeated_read};
+ghost use Rattle.vf_store_record.specs.Entries.{attributes, attributes_from, contents, kind, kind_named as kind_meant, settings, stamps};
+ghost use Rattle.vf_store_record.specs.Fields.{number32, term, terms};
+ghost use Rattle.vf_store_record.specs.Formats.{both, repeated_read};
 ghost use Rattle.vf_store_record.specs.Reading.{Gives};
 
 use crate::fields::{actions_at, octet_at, optional_stamp_at, stamp_at, term_at, u32_at};
@@ -13,11 +13,45 @@ use vf_attr::{Attributes, Stamp};
 use vf_base::{Actions, Contents, NoMemory, Oid, Sequence, Terms};
 
 /// What is set at the creation or by a change of attributes.
-#[derive(Drop)]
 pub(crate) struct Settings {
     pub(crate) permitted: Actions,
     pub(crate) contents: Contents,
     pub(crate) terms: Terms,
+}
+
+impl Drop for Settings {
+    fn drop(self) {
+        let Settings {
+            permitted: _,
+            contents,
+            terms,
+        } = self;
+        drop(contents);
+        drop(terms);
+    }
+}
+
+impl Settings {
+    /// All of a file's attributes.
+    fn with(self, past: Past) -> Attributes
+        ensures { result ≡ attributes_from (self, (past.stamps, past.version)) }
+    {
+        let Settings {
+            permitted,
+            contents,
+            terms,
+        } = self;
+        Attributes {
+            permitted,
+            contents,
+            terms,
+            created: past.stamps.created,
+            modified: past.stamps.modified,
+            read: past.stamps.read,
+            changed: past.stamps.changed,
+            version: past.version,
+        }
+    }
 }
 
 /// When something was done to the file, and by whom.
@@ -27,6 +61,13 @@ pub(crate) struct Stamps {
     pub(crate) modified: Option<Stamp>,
     pub(crate) read: Option<Stamp>,
     pub(crate) changed: Option<Stamp>,
+}
+
+/// What was done to the file, and its version.
+#[derive(Drop)]
+struct Past {
+    stamps: Stamps,
+    version: u32,
 }
 
 /// The object identifier of the document type of this number, up to 3.
@@ -124,22 +165,19 @@ fn stamps_at(alloc: Global, rest: &mut Rest<'_>) -> Result<Stamps, ReadError>
     })
 }
 
+fn past_at(alloc: Global, rest: &mut Rest<'_>) -> Result<Past, ReadError>
+    ensures { Gives (λ past. ((past.stamps, past.version), rest.new)) result ((both stamps number32).read rest.old) }
+{
+    let stamps = stamps_at(alloc, rest)?;
+    let version = u32_at(rest)?;
+    Ok(Past { stamps, version })
+}
+
 #[tactic(auto, unfolding(crate::specs::Entries::attributes))]
 pub(crate) fn attributes_at(alloc: Global, rest: &mut Rest<'_>) -> Result<Attributes, ReadError>
     ensures { Gives (λ found. (found, rest.new)) result (attributes.read rest.old) }
 {
     let settings = settings_at(alloc, rest)?;
-    let stamps = stamps_at(alloc, rest)?;
-    let version = u32_at(rest)?;
-    let attributes = Attributes {
-        permitted: settings.permitted,
-        contents: settings.contents,
-        terms: settings.terms,
-        created: stamps.created,
-        modified: stamps.modified,
-        read: stamps.read,
-        changed: stamps.changed,
-        version,
-    };
-    Ok(attributes)
+    let past = past_at(alloc, rest)?;
+    Ok(settings.with(past))
 }

@@ -6,6 +6,7 @@ ghost use Rattle.vf_store_record.specs.Reading.{Gives};
 use crate::fields::{name_at, octet_at, u16_at, u32_at};
 use crate::{ReadError, Rest};
 use std::alloc::Global;
+use vf_base::Name;
 use vf_tables::{Phase, Plan, Way};
 
 /// What the task is to do.
@@ -84,15 +85,10 @@ fn course_at(rest: &mut Rest<'_>) -> Result<Course, ReadError>
     })
 }
 
-#[tactic(auto, unfolding(crate::specs::Entries::plan))]
-pub(crate) fn plan_at(alloc: Global, rest: &mut Rest<'_>) -> Result<Plan, ReadError>
-    ensures { Gives (λ found. (found, rest.new)) result (plan.read rest.old) }
+fn joined(purpose: Purpose, file: Name, identity: Name, course: Course) -> Plan
+    ensures { result ≡ plan_from (purpose, (file, (identity, course))) }
 {
-    let purpose = purpose_at(rest)?;
-    let file = name_at(alloc, rest)?;
-    let identity = name_at(alloc, rest)?;
-    let course = course_at(rest)?;
-    let plan = Plan {
+    Plan {
         activity: purpose.activity,
         way: purpose.way,
         kind: purpose.kind,
@@ -103,6 +99,16 @@ pub(crate) fn plan_at(alloc: Global, rest: &mut Rest<'_>) -> Result<Plan, ReadEr
         point: course.point,
         phase: course.phase,
         outcome: course.outcome,
-    };
-    Ok(plan)
+    }
+}
+
+#[tactic(auto, unfolding(crate::specs::Entries::plan))]
+pub(crate) fn plan_at(alloc: Global, rest: &mut Rest<'_>) -> Result<Plan, ReadError>
+    ensures { Gives (λ found. (found, rest.new)) result (plan.read rest.old) }
+{
+    let purpose = purpose_at(rest)?;
+    let file = name_at(alloc, rest)?;
+    let identity = name_at(alloc, rest)?;
+    let course = course_at(rest)?;
+    Ok(joined(purpose, file, identity, course))
 }

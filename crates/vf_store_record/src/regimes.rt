@@ -2,6 +2,7 @@
 ghost use Rattle.std.specs.Prelude.{◌≡◌};
 ghost use Rattle.vf_store_record.specs.Entries.{direction_of as direction_meant, ownership, permission, progress, reading_of as reading_meant, regime, regime_from, standing, transfer, writing_of as writing_meant};
 ghost use Rattle.vf_store_record.specs.Fields.{controls, fadu, fadu_of as fadu_meant};
+ghost use Rattle.vf_store_record.specs.Formats.{both};
 ghost use Rattle.vf_store_record.specs.Reading.{Gives};
 
 use crate::fields::{
@@ -218,6 +219,16 @@ fn transfer_at(rest: &mut Rest<'_>) -> Result<Transfer, ReadError>
     }
 }
 
+/// What stands between transfers, and the transfer under way.
+fn state_at(rest: &mut Rest<'_>) -> Result<(Progress, Transfer, Standing), ReadError>
+    ensures { Gives (λ found. ((found.0, (found.1, found.2)), rest.new)) result ((both progress (both transfer standing)).read rest.old) }
+{
+    let progress = progress_at(rest)?;
+    let transfer = transfer_at(rest)?;
+    let standing = standing_at(rest)?;
+    Ok((progress, transfer, standing))
+}
+
 fn joined(
     ownership: Ownership,
     permission: Permission,
@@ -254,9 +265,6 @@ pub(crate) fn regime_at(alloc: Global, rest: &mut Rest<'_>) -> Result<Regime, Re
 {
     let ownership = ownership_at(alloc, rest)?;
     let permission = permission_at(alloc, rest)?;
-    let progress = progress_at(rest)?;
-    let transfer = transfer_at(rest)?;
-    let standing = standing_at(rest)?;
-    let regime = joined(ownership, permission, progress, transfer, standing);
-    Ok(regime)
+    let (progress, transfer, standing) = state_at(rest)?;
+    Ok(joined(ownership, permission, progress, transfer, standing))
 }

@@ -1,4 +1,3 @@
-use Rattle.std.proofs.Common.{◌≡◌, ◌++◌, ◌∷◌, []}
 use Rattle.std.proofs.lemmas.Result.{err_from_is_err_and}
 use Rattle.vf_store_record.specs.Entries.{unit_in}
 use Rattle.vf_store_record.specs.Formats.{repeated_read}
