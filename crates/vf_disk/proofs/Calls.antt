@@ -20,12 +20,6 @@ module _ (first : List ℕ) (steps now : List Step) where
       let sound = is_sound first steps in
       subst (λ (s : State). Follows (Torn at (length octets)) (IsImage (state_of first steps)) (IsImage s)) (sym (one_more first steps now (Wrote at octets good) more)) (wrote_follows (state_of first steps) at octets good sound (omega (arith, low, sound.shown.no_longer)))
 
-  -- with the octets as they are kept
-  pub write_kept : (at : ℕ) (octets kept : List ℕ) (good : Bool) → kept ≡ octets → at ≤ length (state_of first steps).shown → now ≡ steps ++ Wrote at kept good ∷ []
-      → Follows (Torn at (length octets)) (IsImage (state_of first steps)) (IsImage (state_of first now))
-  write_kept at octets kept good same low more =
-      subst (λ (l : List ℕ). Follows (Torn at (length l)) (IsImage (state_of first steps)) (IsImage (state_of first now))) same (write_crash at kept good low more)
-
   pub cut_crash : (to : ℕ) (good : Bool) → now ≡ steps ++ CutTo to good ∷ [] → Follows (Shortened to) (IsImage (state_of first steps)) (IsImage (state_of first now))
   cut_crash to good more =
       subst (λ (s : State). Follows (Shortened to) (IsImage (state_of first steps)) (IsImage s)) (sym (one_more first steps now (CutTo to good) more)) (cut_follows (state_of first steps) to good (is_sound first steps))

@@ -41,8 +41,3 @@ module _ (first : List ℕ) (steps now : List Step) (step : Step) (more : now �
     ];
     stays = λ moment image le left. (left.0, left.1, omega (arith, longer, left.2), subst (λ (s : List Step). IsImage (state_of first s) image) (sym (same_past left.0 left.2)) left.3);
   }
-
--- the calls without the last one
-pub cut_back : (steps now back : List Step) (step : Step) (count : ℕ) → now ≡ steps ++ step ∷ [] → count ≡ length steps → back ≡ take count now → back ≡ steps
-cut_back steps now back step count more long is =
-    is ∙ ap (λ (l : List Step). take count l) more ∙ take-append-le count steps (step ∷ []) (omega arith) ∙ take_all count steps (omega arith)

@@ -2,7 +2,7 @@ ghost use Rattle.std.specs.Prelude.{◌≡◌, ◌↔◌, ◌+◌, ◌<◌, ◌�
 ghost use Rattle.std.proofs.Common.{arith, subst, sym};
 ghost use Rattle.std.proofs.lemmas.List.{take_all};
 ghost use Rattle.vf_base.specs.Faults.{HasRisen, NeverFalls, counted};
-ghost use Rattle.vf_disk.specs.Disk.{greatest_length, Torn, Shortened, Follows, Within, LeavesShown, Gives, Writes, Cuts, length_written, length_cut, Elapses};
+ghost use Rattle.vf_disk.specs.Disk.{greatest_length, Torn, Shortened, Follows, Within, LeavesShown, Gives, Writes, Cuts, length_written, length_cut, overwritten, Elapses};
 ghost use Rattle.vf_disk.specs.Memory.{Keeps, Leaves, LeftSince, Memory, fresh, state, with_sync};
 ghost use Rattle.vf_disk.specs.State.{IsImage, left_by, state_of};
 ghost use Rattle.vf_disk.specs.Steps.{LeavesState, MakesSteps};
@@ -197,6 +197,35 @@ fn keep(steps: &mut Vec<Step>, step: Step) -> Result<(), NoMemory>
     Ok(())
 }
 
+/// Keeps a write, and makes it where it is good; without memory the calls and the octets stay as they are.
+fn keep_write(
+    alloc: Global,
+    steps: &mut Vec<Step>,
+    shown: &mut Vec<u8>,
+    at: u64,
+    octets: &[u8],
+    good: bool,
+) -> Result<(), NoMemory>
+    requires { at ≤ length shown.old.items }
+    ensures ok { OnOk result (steps.new.items ≡ steps.old.items ++ Wrote at octets.now good ∷ []) }
+    ensures shown { OnOk result (shown.new.items ≡ (if good then overwritten shown.old.items at octets.now else shown.old.items)) }
+    ensures room { OnOk result (vec_len steps.new < vec_capacity steps.new) }
+    ensures err { OnErr result ((steps.new.items ≡ steps.old.items) × (shown.new.items ≡ shown.old.items)) }
+    ensures capacity { vec_capacity steps.old ≤ vec_capacity steps.new }
+{
+    steps.reserve(2)?;
+    let kept = Octets::of(alloc, octets)?;
+    if good {
+        overwrite(shown, at as usize, octets)?;
+    }
+    steps.push_reserved(Step::Wrote {
+        at,
+        octets: kept,
+        good,
+    });
+    Ok(())
+}
+
 impl Disk for MemoryDisk {
     ghost shown = { λ disk. Some (state disk).shown };
 
@@ -288,24 +317,12 @@ impl Disk for MemoryDisk {
         if stopped || octets.len() as u64 > GREATEST_LENGTH - at {
             return Err(self.fail());
         }
-        let Ok(kept) = Octets::of(self.alloc, octets) else {
-            return Err(self.lack());
-        };
-        let before = self.steps.len();
-        let step = Step::Wrote {
-            at,
-            octets: kept,
-            good,
-        };
-        let Ok(()) = keep(&mut self.steps, step) else {
+        let (steps, shown) = (&mut self.steps, &mut self.octets);
+        let Ok(()) = keep_write(self.alloc, steps, shown, at, octets, good) else {
             return Err(self.lack());
         };
         if !good {
             return Err(self.fail());
-        }
-        if overwrite(&mut self.octets, at as usize, octets).is_err() {
-            self.steps.truncate(before);
-            return Err(self.lack());
         }
         Ok(())
     }
