@@ -26,7 +26,10 @@ pub enum StepError {
 pub fn one_said(alloc: Global, said: Said) -> Result<Vec<Said>, NoMemory>
     ensures { IfOk result (λ list. list.items ≡ said ∷ []) }
 {
-    let mut list = Vec::with_capacity(alloc, 1)?;
+    let Ok(mut list) = Vec::with_capacity(alloc, 1) else {
+        drop(said);
+        return Err(NoMemory);
+    };
     list.push_reserved(said);
     Ok(list)
 }
