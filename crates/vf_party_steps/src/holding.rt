@@ -6,10 +6,11 @@ ghost use Rattle.vf_locks.specs.Holders.{granted};
 ghost use Rattle.vf_locks.specs.Table.{IsAsBefore, IsWith, held};
 ghost use Rattle.vf_locks.specs.declared.holder.Holder.TheVariants as holders;
 
-use crate::{Associated, Said};
+use crate::{Associated, Said, Selected};
 use std::alloc::Global;
 use vf_base::NoMemory;
 use vf_locks::{GrantError, Holder, Locks};
+use vf_pdu_fields::ContentControls;
 use vf_regime_refusals::{Selection, joined, not_opened};
 
 /// The party holds the selected file with the controls of the selection, against which no other holder stands; gives room
@@ -36,4 +37,25 @@ pub(crate) fn hold_selected(
         Err(GrantError::NoMemory) => Err(NoMemory),
         Err(GrantError::Clash(_)) => unreachable!(),
     }
+}
+
+/// The party holds the selected file with these controls and those of the selection, in the place of its own. Without
+/// memory, and where another holder stands against them, each file has the holders that it had.
+pub(crate) fn hold_with(
+    alloc: Global,
+    selected: &Selected,
+    opened: ContentControls,
+    locks: &mut Locks,
+) -> Result<(), NoMemory>
+    ensures held { OnOk result (IsWith selected.now.selection.file (granted (holders.Party selected.now.associated.association.link) (joined_meant opened selected.now.selection.controls) (held selected.now.selection.file locks.old)) locks.old locks.new) }
+    ensures kept { OnErr result (IsAsBefore locks.old locks.new) }
+{
+    let holder = Holder::Party {
+        link: selected.associated.association.link,
+    };
+    let wanted = joined(opened, selected.selection.controls);
+    let Ok(()) = locks.grant(alloc, &selected.selection.file, &holder, &wanted) else {
+        return Err(NoMemory);
+    };
+    Ok(())
 }

@@ -1,7 +1,11 @@
-ghost use Rattle.std.specs.Prelude.{◌≡◌, None, IfErr, IfOk, option_map};
+ghost use Rattle.std.specs.Prelude.{◌≡◌, None, IfErr, IfOk, OnErr, OnOk, option_map};
 ghost use Rattle.vf_elements.specs.declared.message.Message.TheVariants as messages;
+ghost use Rattle.vf_filestore.specs.Controls.{joined as joined_meant, not_opened as not_opened_meant};
 ghost use Rattle.vf_filestore.specs.Files.{file_named};
 ghost use Rattle.vf_filestore.specs.Replies.{contents_of, reply};
+ghost use Rattle.vf_locks.specs.Holders.{granted};
+ghost use Rattle.vf_locks.specs.Table.{IsAsBefore, IsWith, held};
+ghost use Rattle.vf_locks.specs.declared.holder.Holder.TheVariants as holders;
 ghost use Rattle.vf_party_steps.specs.Dockets.{fields_of as fields_meant, no_transfer};
 ghost use Rattle.vf_party_steps.specs.Openings.{drop_of, put_of};
 ghost use Rattle.vf_party_steps.specs.Represents.{IsOpen, IsSelected};
@@ -10,15 +14,16 @@ ghost use Rattle.vf_pdu.specs.PduNumbers.{number_of};
 ghost use Rattle.vf_pdu.specs.declared.pdu.Pdu.TheVariants as pdus;
 
 use crate::dockets::{Underway, fields_of};
+use crate::holding::hold_with;
 use crate::states::OpenRegime;
 use crate::step::{one_change, one_said};
 use crate::{Open, Said, Selected, Step, StepError};
 use std::alloc::Global;
 use vf_base::{Actions, Contents, Moment, Name, NoMemory};
-use vf_locks::{Holder, Locks};
+use vf_locks::Locks;
 use vf_pdu::Pdu;
 use vf_regime_effects::selected;
-use vf_regime_refusals::{Opening, content_controls, joined, not_opened, refused_open};
+use vf_regime_refusals::{Opening, content_controls, not_opened, refused_open};
 use vf_tables::{Change, Changes, Files, Tables};
 
 impl Selected {
@@ -68,9 +73,6 @@ impl Selected {
         if let Some(diagnostic) = refused {
             return Err((self, StepError::Refused(diagnostic)));
         }
-        let Ok(said) = answered(alloc, &tables.files, &self.selection.file) else {
-            return Err((self, StepError::NoMemory));
-        };
         let state = Open {
             selected: self,
             regime: OpenRegime {
@@ -82,20 +84,13 @@ impl Selected {
                 last: 0,
             },
         };
-        let Ok(changes) = docket_put(alloc, &state) else {
-            return Err((state.selected, StepError::NoMemory));
-        };
-        let holder = Holder::Party {
-            link: state.selected.associated.association.link,
-        };
-        let wanted = joined(state.regime.controls, state.selected.selection.controls);
-        let Ok(()) = locks.grant(alloc, &state.selected.selection.file, &holder, &wanted) else {
+        let Ok(done) = begun(alloc, &state, &tables.files, locks) else {
             return Err((state.selected, StepError::NoMemory));
         };
         Ok(Step {
             state,
-            said,
-            changes,
+            said: done.0,
+            changes: done.1,
         })
     }
 }
@@ -123,25 +118,48 @@ impl Open {
         let Pdu::CloseRequest = request else {
             unreachable!()
         };
-        let Ok(said) = one_said(alloc, Said::Pdu(Pdu::CloseResponse { diagnostic: None })) else {
-            return Err((self, StepError::NoMemory));
-        };
-        let Ok(changes) = docket_dropped(alloc, &self) else {
-            return Err((self, StepError::NoMemory));
-        };
-        let holder = Holder::Party {
-            link: self.selected.associated.association.link,
-        };
-        let wanted = joined(not_opened(), self.selected.selection.controls);
-        let Ok(()) = locks.grant(alloc, &self.selected.selection.file, &holder, &wanted) else {
+        let Ok(done) = ended(alloc, &self, locks) else {
             return Err((self, StepError::NoMemory));
         };
         Ok(Step {
             state: self.selected,
-            said,
-            changes,
+            said: done.0,
+            changes: done.1,
         })
     }
+}
+
+/// What is said as an open begins, and what changes; the party holds its file with the controls of the open too. Without
+/// memory each file has the holders that it had.
+fn begun(
+    alloc: Global,
+    regimes: &Open,
+    files: &Files,
+    locks: &mut Locks,
+) -> Result<(Vec<Said>, Changes), NoMemory>
+    ensures said { IfOk result (λ done. done.0.items ≡ reply (pdus.OpenResponse None (option_map contents_of (file_named regimes.now.selected.selection.file files.now)))) }
+    ensures changes { IfOk result (λ done. done.1 ≡ put_of (fields_meant regimes.now no_transfer)) }
+    ensures held { OnOk result (IsWith regimes.now.selected.selection.file (granted (holders.Party regimes.now.selected.associated.association.link) (joined_meant regimes.now.regime.controls regimes.now.selected.selection.controls) (held regimes.now.selected.selection.file locks.old)) locks.old locks.new) }
+    ensures kept { OnErr result (IsAsBefore locks.old locks.new) }
+{
+    let changes = docket_put(alloc, regimes)?;
+    let said = answered(alloc, files, &regimes.selected.selection.file)?;
+    hold_with(alloc, &regimes.selected, regimes.regime.controls, locks)?;
+    Ok((said, changes))
+}
+
+/// What is said as an open ends, and what changes; the party holds its file with the controls of the selection alone.
+/// Without memory each file has the holders that it had.
+fn ended(alloc: Global, regimes: &Open, locks: &mut Locks) -> Result<(Vec<Said>, Changes), NoMemory>
+    ensures said { IfOk result (λ done. done.0.items ≡ reply (pdus.CloseResponse None)) }
+    ensures changes { IfOk result (λ done. done.1 ≡ drop_of (fields_meant regimes.now no_transfer)) }
+    ensures held { OnOk result (IsWith regimes.now.selected.selection.file (granted (holders.Party regimes.now.selected.associated.association.link) (joined_meant not_opened_meant regimes.now.selected.selection.controls) (held regimes.now.selected.selection.file locks.old)) locks.old locks.new) }
+    ensures kept { OnErr result (IsAsBefore locks.old locks.new) }
+{
+    let changes = docket_dropped(alloc, regimes)?;
+    let said = one_said(alloc, Said::Pdu(Pdu::CloseResponse { diagnostic: None }))?;
+    hold_with(alloc, &regimes.selected, not_opened(), locks)?;
+    Ok((said, changes))
 }
 
 /// The response to the open of the file of this name, which tells its contents type.

@@ -31,28 +31,26 @@ pub returns-clause-consequence : goal.returns-clause-consequence
 returns-clause-consequence c = λ state party stands represents.
     let setting : Setting = record { moment = c.args.moment; serial = c.args.serial; token = c.args.token; sync = c.args.sync } in
     let message = messages.Pdu CloseRequest in
-    let step : Step Selected = record { state = c.args.self.selected; said = c.in-Ok.said; changes = c.in-Ok-docket_dropped.changes } in
+    let step : Step Selected = record { state = c.args.self.selected; said = c.in-Ok.done.0; changes = c.in-Ok.done.1 } in
     let entry : Entry = entry_of state party setting message Nothing in
     let next = history_by state party setting message Nothing in
     let after = concluded_by state party setting message Nothing in
     let tables = c.args.tables.now in
     let old = c.args.locks.now in
-    let new = c.grant.new.self in
+    let new = c.ended.new.locks in
     let regimes = c.args.self in
     let selection = regimes.selected.selection in
     let is = represents.opened in
     let controls : Controls = joined not_opened selection.controls in
-    let wanted : c.joined-wanted.result ≡ controls = c.joined-wanted.ensures ∙ (λ i. joined (c.not_opened.ensures i) selection.controls) in
     let with_controls : IsWith selection.file (granted (Party party.link) controls (held selection.file old)) old new =
-    subst (λ (link : ℕ). IsWith selection.file (granted (Party link) controls (held selection.file old)) old new) (sym is.linked)
-    (subst (λ (all : Controls). IsWith selection.file (granted (Party regimes.selected.associated.association.link) all (held selection.file old)) old new) wanted c.in-Ok-grant.ensures.ok) in
+    subst (λ (link : ℕ). IsWith selection.file (granted (Party link) controls (held selection.file old)) old new) (sym is.linked) c.in-Ok.ensures.held in
     subst (λ (r : Pdu). takes (regime_stage party.history) (messages.Pdu r) ≡ true → Concludes IsSelected tables new state party setting (messages.Pdu r) step) (sym c.in-CloseRequest.is)
     (λ taken. record {
       given = Nothing;
       granted = refl;
-      said = c.in-Ok.ensures ∙ nothing_due party.history setting.serial entry represents.moved;
+      said = c.in-Ok.ensures.said ∙ nothing_due party.history setting.serial entry represents.moved;
       next = record { linked = is.linked; associated = is.associated; stands = is.selected; opened = refl; moved = represents.moved };
-      changes = c.in-Ok-docket_dropped.ensures ∙ sym (docket_closed tables state party next stands.sound stands.kept stands.stands refl
+      changes = c.in-Ok.ensures.changes ∙ sym (docket_closed tables state party next stands.sound stands.kept stands.stands refl
           ∙ ap (map drop) (rows_open regimes party (party_sound state party.link party stands.sound stands.stands).sound.nested represents)
           ∙ drop_with (fields_of regimes no_transfer));
       held = calls_follow old new state after selection.file (granted (Party party.link) controls) stands.held with_controls

@@ -63,19 +63,18 @@ returns-clause-consequence c = λ state party stands represents.
     let selected = c.args.self in
     let selection = selected.selection in
     let made : Open = record { selected = selected; regime = regime } in
-    let step : Step Open = record { state = made; said = c.in-Ok-answered.said; changes = c.in-Ok-docket_put.changes } in
+    let step : Step Open = record { state = made; said = c.in-Ok-begun.done.0; changes = c.in-Ok-begun.done.1 } in
     let entry : Entry = entry_of state party setting message Nothing in
     let next = history_by state party setting message Nothing in
     let after = concluded_by state party setting message Nothing in
     let tables = c.args.tables.now in
     let old = c.args.locks.now in
-    let new = c.grant.new.self in
+    let new = c.begun.new.locks in
     let contents : ContentControls = content_controls mode asks.controls in
     let controls : Controls = joined contents selection.controls in
-    let wanted : c.joined-wanted.result ≡ controls = c.joined-wanted.ensures ∙ (λ i. joined (c.content_controls.ensures i) selection.controls) in
     let with_controls : IsWith selection.file (granted (Party party.link) controls (held selection.file old)) old new =
     subst (λ (link : ℕ). IsWith selection.file (granted (Party link) controls (held selection.file old)) old new) (sym represents.linked)
-    (subst (λ (all : Controls). IsWith selection.file (granted (Party selected.associated.association.link) all (held selection.file old)) old new) wanted c.in-Ok-grant.ensures.ok) in
+    (subst (λ (opened : ContentControls). IsWith selection.file (granted (Party selected.associated.association.link) (joined opened selection.controls) (held selection.file old)) old new) c.content_controls.ensures c.in-Ok-begun.ensures.held) in
     let granting : message_decision state party setting message ≡ Grants Nothing
     = open_decided tables old state party setting stands selected represents opening asks.controls c.content_controls.ensures
     ∙ ap (λ (row : Row). granted_unless row Nothing) (sym c.in-Ok.ensures ∙ c.in_default-refused.is) in
@@ -99,11 +98,11 @@ returns-clause-consequence c = λ state party stands represents.
     record {
       given = Nothing;
       granted = granting;
-      said = c.in-Ok-answered.ensures
+      said = c.in-Ok-begun.ensures.said
           ∙ (λ i. answers.Pdu (OpenResponse None (option_map contents_of (file_named (file_in (sym represents.stands i)) (sym stands.kept i).files))) ∷ [])
           ∙ nothing_due party.history setting.serial entry represents.moved;
       next = opens;
-      changes = c.in-Ok-docket_put.ensures ∙ sym (docket_opened tables state party next stands.sound (sound_then state party setting request Nothing stands.sound stands.stands taken granting tt)
+      changes = c.in-Ok-begun.ensures.changes ∙ sym (docket_opened tables state party next stands.sound (sound_then state party setting request Nothing stands.sound stands.stands taken granting tt)
           stands.kept stands.stands nested represents.opened refl (subst (λ (left : List Docket). AllByRecursion IsBare left) (sym rows) (bare_with (fields_of made no_transfer)))
           ∙ ap (map put) rows ∙ put_with (fields_of made no_transfer));
       held = calls_follow old new state after selection.file (granted (Party party.link) controls) stands.held with_controls
