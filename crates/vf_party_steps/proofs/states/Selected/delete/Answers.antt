@@ -1,4 +1,4 @@
-use Rattle.std.proofs.Common.{◌≡◌, ℕ, true, [], ◌∷◌, Option, refl, ap, sym, subst, ◌∙◌}
+use Rattle.std.proofs.Common.{◌≡◌, ℕ, true, ◌∷◌, Option, refl, ap, sym, subst, ◌∙◌}
 use Rattle.std.specs.Prelude.{IfSome}
 use Rattle.vf_elements.specs.Stages.{takes}
 use Rattle.vf_elements.specs.declared.message.Message.TheVariants as messages
@@ -21,7 +21,6 @@ use Rattle.vf_locks.specs.Table.{IsWith, held}
 use Rattle.vf_locks.specs.declared.holder.Holder.TheVariants.{Party}
 use Rattle.vf_pdu.specs.declared.pdu.Pdu.{Pdu}
 use Rattle.vf_pdu.specs.declared.pdu.Pdu.TheVariants.{DeleteRequest}
-use Rattle.vf_tables.specs.declared.change.Change.TheVariants.{DropFile}
 use Rattle.vf_party_steps.specs.declared.states.Associated.{Associated}
 use Rattle.vf_party_steps.specs.declared.step.Step.{Step}
 use Rattle.vf_party_steps.specs.Represents.{IsAssociated}
@@ -34,7 +33,7 @@ use Rattle.vf_party_steps.proofs.states.Selected.delete.Goals as goal
 pub returns-clause-consequence : goal.returns-clause-consequence
 returns-clause-consequence c = λ state party stands represents.
     let setting : Setting = record { moment = c.args.moment; serial = c.args.serial; token = c.args.token; sync = c.args.sync } in
-    let step : Step Associated = record { state = c.args.self.associated; said = c.in-Ok.said; changes = c.in-Ok-one_change.changes } in
+    let step : Step Associated = record { state = c.args.self.associated; said = c.in-Ok.done.0; changes = c.in-Ok.done.1 } in
     let message = messages.Pdu DeleteRequest in
     let next = history_by state party setting message Nothing in
     let after = concluded_by state party setting message Nothing in
@@ -51,7 +50,7 @@ returns-clause-consequence c = λ state party stands represents.
     (λ taken. filed_step IsAssociated tables old new state party setting message Nothing left step stands taken
     (ap (λ (row : Row). granted_unless row Nothing)
     ((λ i. first_row (unit_row (units_in (represents.associated i)) limited_management ∷ delete_rows (found_is tables old state party stands i) (represents.linked i) (represents.stands i))) ∙ sym c.in_default-refused_delete.ensures))
-    c.in-Ok.ensures represents.moved
+    c.in-Ok.ensures.said represents.moved
     (record {
       linked = represents.linked;
       stands = represents.associated;
@@ -59,7 +58,7 @@ returns-clause-consequence c = λ state party stands represents.
       opened = represents.opened;
       moved = represents.moved;
     })
-    (c.in-Ok-one_change.ensures ∙ (λ i. DropFile (c.in-Ok-copy.ensures i) ∷ []) ∙ sym (changes_dropped file state.files stands.sound.filed there)
+    (c.in-Ok.ensures.changes ∙ sym (changes_dropped file state.files stands.sound.filed there)
     ∙ (λ i. file_changes (stands.kept i).files (without_file (file_in (sym represents.stands i)) state.files)))
     (tables_filed state party next left stands.stands (none_left (with_history next party) (ap activity_in represents.opened) ∙ sym (none_left party (ap activity_in represents.opened))))
     (λ after_held. calls_follow old new state after file (others (Party party.link)) stands.held released
