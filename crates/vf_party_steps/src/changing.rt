@@ -1,5 +1,6 @@
-ghost use Rattle.std.specs.Prelude.{◌≡◌, IfErr, IfOk, OnErr, OnOk};
+ghost use Rattle.std.specs.Prelude.{◌≡◌, [], ◌∷◌, IfErr, IfOk, None, OnErr, OnOk};
 ghost use Rattle.vf_elements.specs.declared.message.Message.TheVariants as messages;
+ghost use Rattle.vf_elements.specs.declared.message.Said.TheVariants as answers;
 ghost use Rattle.vf_filestore.specs.Controls.{joined as joined_meant, not_opened as not_opened_meant};
 ghost use Rattle.vf_filestore.specs.Files.{file_named};
 ghost use Rattle.vf_locks.specs.Table.{IsAsBefore};
@@ -7,6 +8,7 @@ ghost use Rattle.vf_party_steps.specs.Renames.{IsRenamed, changes_where, named_a
 ghost use Rattle.vf_party_steps.specs.Represents.{IsSelected};
 ghost use Rattle.vf_party_steps.specs.Steps.{IsStep};
 ghost use Rattle.vf_pdu.specs.PduNumbers.{number_of};
+ghost use Rattle.vf_pdu.specs.declared.pdu.Pdu.TheVariants as pdus;
 ghost use Rattle.vf_regime_refusals.specs.Asked.{stamp_by};
 
 use crate::files::attributes_change;
@@ -70,22 +72,38 @@ impl Selected {
             terms,
             others,
         };
-        let Ok(changes) = changes_of(alloc, &tables.files, &self, moment, change) else {
-            return Err((self, StepError::NoMemory));
-        };
-        let answer = Pdu::ChangeAttribResponse { diagnostic: None };
-        let Ok(said) = one_said(alloc, Said::Pdu(answer)) else {
-            return Err((self, StepError::NoMemory));
-        };
-        let Ok(()) = hold_by(alloc, &self, &new, locks) else {
+        let Ok(done) = renamed(alloc, &self, &new, moment, change, &tables.files, locks) else {
             return Err((self, StepError::NoMemory));
         };
         Ok(Step {
             state: with_name(self, new),
-            said,
-            changes,
+            said: done.0,
+            changes: done.1,
         })
     }
+}
+
+/// What is said as the selected file is changed, and what changes in the tables; the party holds it by its new name, where
+/// it has one. Without memory each file has the holders that it had.
+fn renamed(
+    alloc: Global,
+    state: &Selected,
+    name: &Option<Name>,
+    moment: Moment,
+    change: AttributeChange,
+    files: &Files,
+    locks: &mut Locks,
+) -> Result<(Vec<Said>, Changes), NoMemory>
+    ensures said { IfOk result (λ done. done.0.items ≡ answers.Pdu (pdus.ChangeAttribResponse None) ∷ []) }
+    ensures changes { IfOk result (λ done. done.1 ≡ changes_where (file_named state.now.selection.file files.now) (stamp_by state.now.associated.association moment) change) }
+    ensures held { OnOk result (IsRenamed state.now.associated.association.link state.now.selection.file name.now (joined_meant not_opened_meant state.now.selection.controls) locks.old locks.new) }
+    ensures kept { OnErr result (IsAsBefore locks.old locks.new) }
+{
+    let changes = changes_of(alloc, files, state, moment, change)?;
+    let answer = Pdu::ChangeAttribResponse { diagnostic: None };
+    let said = one_said(alloc, Said::Pdu(answer))?;
+    hold_by(alloc, state, name, locks)?;
+    Ok((said, changes))
 }
 
 /// What changes in the tables where the selected file is changed, if it is there. Its contents are as they were.

@@ -37,12 +37,12 @@ returns-clause-consequence c = λ state party stands represents.
     let request = ChangeAttribRequest asks.name asks.permitted asks.terms asks.others in
     let message = messages.Pdu request in
     let change : AttributeChange = record { name = asks.name; permitted = asks.permitted; terms = asks.terms; others = asks.others } in
-    let step : Step Selected = record { state = c.with_name.result; said = c.in-Ok-one_said.said; changes = c.in-Ok-changes_of.changes } in
+    let step : Step Selected = record { state = c.with_name.result; said = c.in-Ok-renamed.done.0; changes = c.in-Ok-renamed.done.1 } in
     let next = history_by state party setting message Nothing in
     let after = concluded_by state party setting message Nothing in
     let tables = c.args.tables.now in
     let old = c.args.locks.now in
-    let new = c.hold_by.new.locks in
+    let new = c.renamed.new.locks in
     let self = c.args.self in
     let link = self.associated.association.link in
     let file = self.selection.file in
@@ -52,12 +52,12 @@ returns-clause-consequence c = λ state party stands represents.
     let made : c.with_name.result ≡ named_as asks.name self = c.with_name.ensures ∙ ap (λ (name : Option (List ℕ)). named_as name self) c.in-Ok.ensures in
     let moved : moves.IsRenamed party.link file asks.name (joined not_opened self.selection.controls) old new =
     subst (λ (link : ℕ). moves.IsRenamed link file asks.name (joined not_opened self.selection.controls) old new) (sym represents.linked)
-    (subst (λ (name : Option (List ℕ)). moves.IsRenamed link file name (joined not_opened self.selection.controls) old new) c.in-Ok.ensures c.in-Ok-hold_by.ensures.ok) in
+    (subst (λ (name : Option (List ℕ)). moves.IsRenamed link file name (joined not_opened self.selection.controls) old new) c.in-Ok.ensures c.in-Ok-renamed.ensures.held) in
     subst (λ (r : Pdu). takes (regime_stage party.history) (messages.Pdu r) ≡ true → Concludes IsSelected tables new state party setting (messages.Pdu r) step) (sym asks.is)
     (λ taken. filed_step IsSelected tables old new state party setting message Nothing files step stands taken
     (ap (λ (row : Row). granted_unless row Nothing)
     ((λ i. first_row (unit_row (units_in (represents.associated i)) enhanced_management ∷ change_attrib_rows (found_is tables old state party stands i) (represents.linked i) (represents.stands i) (sym c.as_ref.ensures.value i) asks.others)) ∙ sym c.in_default-refused_change_attrib.ensures))
-    c.in-Ok-one_said.ensures represents.moved
+    c.in-Ok-renamed.ensures.said represents.moved
     (subst (λ (state : Selected). IsSelected state party.link next) (sym made)
     (record {
       linked = represents.linked;
@@ -66,7 +66,7 @@ returns-clause-consequence c = λ state party stands represents.
       opened = represents.opened;
       moved = represents.moved;
     }))
-    (c.in-Ok-changes_of.ensures ∙ changes_named file tables.files stamp change
+    (c.in-Ok-renamed.ensures.changes ∙ changes_named file tables.files stamp change
     ∙ (λ i. file_changes tables.files (put_where (file_in (sym represents.stands i)) (changed (file_named (file_in (sym represents.stands i)) (sym stands.kept i).files) (record { moment = c.args.moment; identity = identity_in (sym represents.associated i) }) change) (sym stands.kept i).files)))
     (tables_filed state party next files stands.stands (none_left (with_history next party) (ap activity_in represents.opened) ∙ sym (none_left party (ap activity_in represents.opened))))
     (λ after_held. renames_follow old new state after party.link one asks.name stands.held moved
