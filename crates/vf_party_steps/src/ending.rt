@@ -49,21 +49,19 @@ impl Writing {
         let Pdu::TransferEndRequest = request else {
             unreachable!()
         };
+        let Some(done) = self.regimes.regime.done.checked_add(1) else {
+            return Err((self, StepError::NoMemory));
+        };
         let Ok(ending) = self.ended_by(alloc, &tables.files, moment) else {
             return Err((self, StepError::NoMemory));
         };
-        let answer = Pdu::TransferEndResponse {
-            diagnostic: ending.refused,
-        };
-        let Ok(said) = one_said(alloc, Said::Pdu(answer)) else {
-            return Err((self, StepError::NoMemory));
-        };
-        let last = number_in(ending.refused);
+        let diagnostic = ending.refused;
+        let last = number_in(diagnostic);
         let position = ending.position;
         let Ok(changes) = self.changes_at(alloc, &tables.files, ending.file, position, last) else {
             return Err((self, StepError::NoMemory));
         };
-        let Some(done) = self.regimes.regime.done.checked_add(1) else {
+        let Ok(said) = one_said(alloc, Said::Pdu(Pdu::TransferEndResponse { diagnostic })) else {
             return Err((self, StepError::NoMemory));
         };
         Ok(Step {
@@ -94,10 +92,10 @@ impl Writing {
         let Pdu::CancelRequest { .. } = request else {
             unreachable!()
         };
-        let Ok(ending) = self.cancelled_by(alloc, &tables.files, moment) else {
+        let Some(done) = self.regimes.regime.done.checked_add(1) else {
             return Err((self, StepError::NoMemory));
         };
-        let Ok(said) = one_said(alloc, Said::Pdu(Pdu::CancelResponse)) else {
+        let Ok(ending) = self.cancelled_by(alloc, &tables.files, moment) else {
             return Err((self, StepError::NoMemory));
         };
         let position = ending.position;
@@ -105,7 +103,7 @@ impl Writing {
         else {
             return Err((self, StepError::NoMemory));
         };
-        let Some(done) = self.regimes.regime.done.checked_add(1) else {
+        let Ok(said) = one_said(alloc, Said::Pdu(Pdu::CancelResponse)) else {
             return Err((self, StepError::NoMemory));
         };
         Ok(Step {
