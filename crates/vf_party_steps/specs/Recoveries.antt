@@ -9,6 +9,7 @@ use Rattle.vf_base.specs.declared.element.Element.{Element}
 use Rattle.vf_elements.specs.Stages.{takes}
 use Rattle.vf_elements.specs.declared.message.Message.{Message}
 use Rattle.vf_elements.specs.declared.message.Message.TheVariants as messages
+use Rattle.vf_elements.specs.declared.message.Said.TheVariants as answers
 use Rattle.vf_filestore.specs.Aborts.{Setting}
 use Rattle.vf_filestore.specs.Controls.{not_opened, attribute_controls}
 use Rattle.vf_filestore.specs.Decision.{Aborts, message_decision}
@@ -24,10 +25,12 @@ use Rattle.vf_locks.specs.Holders.{controls_of}
 use Rattle.vf_locks.specs.Table.{IsAsBefore, held}
 use Rattle.vf_locks.specs.declared.holder.Holder.{Holder}
 use Rattle.vf_locks.specs.declared.holder.Holder.TheVariants as holders
-use Rattle.vf_party_steps.specs.Reads.{IsReading}
+use Rattle.vf_party_steps.specs.Dues.{Says}
+use Rattle.vf_party_steps.specs.Reads.{IsReading, dues}
 use Rattle.vf_party_steps.specs.Represents.{IsAssociated, IsOpen}
 use Rattle.vf_party_steps.specs.Steps.{Concludes, HoldersOfFiles, MeetsStep, Represents, StandsIn}
 use Rattle.vf_party_steps.specs.Writes.{IsWriting}
+use Rattle.vf_party_steps.specs.declared.due.Due.{Due}
 use Rattle.vf_party_steps.specs.declared.recovering.Recovered.{Recovered}
 use Rattle.vf_party_steps.specs.declared.recovering.Recovered.TheVariants as recovered
 use Rattle.vf_party_steps.specs.declared.states.Associated.{Associated}
@@ -36,11 +39,13 @@ use Rattle.vf_party_steps.specs.declared.states.OpenRegime.{OpenRegime}
 use Rattle.vf_party_steps.specs.declared.step.Step.{Step}
 use Rattle.vf_party_steps.specs.declared.step.StepError.{StepError}
 use Rattle.vf_party_steps.specs.declared.step.StepError.TheVariants as errors
-use Rattle.vf_pdu.specs.declared.pdu.Pdu.TheVariants.{RecoverRequest}
+use Rattle.vf_party_steps.specs.declared.writing.Writing.{Writing}
+use Rattle.vf_pdu.specs.declared.pdu.Pdu.TheVariants.{RecoverRequest, RecoverResponse}
 use Rattle.vf_pdu_fields.specs.declared.controls.AttributeControls.{AttributeControls}
 use Rattle.vf_pdu_fields.specs.declared.controls.ContentControls.{ContentControls}
 use Rattle.vf_pdu_fields.specs.declared.operation.WriteOperation.{WriteOperation}
 use Rattle.vf_pdu_fields.specs.declared.operation.WriteOperation.TheVariants as writes
+use Rattle.vf_regime_effects.specs.declared.reading.Reading as effects
 use Rattle.vf_regime_effects.specs.declared.requests.Writing as requests
 use Rattle.vf_regime_effects.specs.declared.requests.Writing.TheVariants as requested
 use Rattle.vf_regime_refusals.specs.declared.association.Association.{Association}
@@ -58,6 +63,7 @@ use Rattle.vf_tables.specs.declared.tables.Tables.{Tables}
 use Rattle.vf_transfer.specs.Checks.{Receiver, RepresentsReceived}
 use Rattle.vf_transfer.specs.Transfer.{Entry, point, standing}
 use Rattle.vf_tree.specs.Acts.{Reads, does, shown_of}
+use Rattle.vf_tree.specs.FileTree.{octets_of_unit}
 use Rattle.vf_tree.specs.TreeRefusal.{TreeRefusal}
 
 -- THE ROW. Tables have one of each docket and of each recoverable open that stands: a docket holds its file itself.
@@ -170,6 +176,19 @@ write_by operations.Extend = writes.Extend
 abbrev pub given_by : (refused : ℕ) → requests.Writing
 given_by refused = if nat_eq refused 0 then requested.Granted else requested.Refused 0 refused
 
+-- the write that goes on after this check, with what it has received once more
+abbrev pub writing_by : Associated → Regime → Operation → (check : ℕ) → Receiver → Writing
+writing_by associated regime operation check received = record {
+  regimes = open_by associated regime;
+  operation = write_by operation;
+  fadu = regime.fadu;
+  given = given_by regime.refused;
+  received = received;
+  octets = octets_of_unit received.values;
+  start = check;
+  ended = None;
+}
+
 -- of a state whose histories are such as a run has
 abbrev pub TakesUpKept : {New : Type 0} → Represents New → Tables → (before after : HoldersOfFiles)
     → Associated → Setting → (activity number : ℕ) → Message → Docket → Result (Step New) Associated → Type 0
@@ -202,6 +221,15 @@ read_by file regime context = if nat_eq regime.refused 0 then shown_in file regi
 -- the changes of a docket whose read goes on after this check
 abbrev pub put_at : Regime → (check : ℕ) → List Change
 put_at regime check = if nat_lt check regime.point then PutDocket (record regime { point = check }) ∷ [] else []
+
+-- what is said where such a read goes on after this check: the response, and what is due then
+pub record SaysAgain (association : Association) (regime : Regime) (given : effects.Reading) (check serial : ℕ) (after : Due) (shown : Bool) : Type 0 where
+  pub first : Due
+  pub said : first.said.items ≡ answers.Pdu (RecoverResponse None (Some regime.number) check true 0) ∷ []
+  pub checked : first.check ≡ check
+  pub unanswered : first.unacknowledged ≡ 0
+  pub numbered : first.serial ≡ serial
+  pub says : Says false (dues association given first) first after shown
 
 -- THE STATE that is recovered
 abbrev pub IsRecovered : Represents Recovered

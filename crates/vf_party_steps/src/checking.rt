@@ -1,5 +1,5 @@
 //! Checks and restarts of a write, by which its docket has what stands of its values.
-ghost use Rattle.std.specs.Prelude.{◌≡◌, ◌+◌, ◌≤◌, ◌++◌, IfErr, IfOk, Some};
+ghost use Rattle.std.specs.Prelude.{◌≡◌, ◌+◌, ◌≤◌, [], ◌∷◌, ◌++◌, IfErr, IfOk, Some};
 ghost use Rattle.vf_elements.specs.declared.message.Message.TheVariants as messages;
 ghost use Rattle.vf_party_steps.specs.Steps.{IsStep};
 ghost use Rattle.vf_party_steps.specs.Writes.{IsRestart, IsWriting, cut_docket as cut_meant, fields_at, restarted_docket, staged_docket};
@@ -154,31 +154,33 @@ fn stage_docket(
     let Some(regime) = fields else {
         return Ok(Changes::new(alloc));
     };
-    let stage = stage_of(alloc, &regime, stood, piece)?;
-    let mut changes = one_change(alloc, Change::PutDocket { regime })?;
-    changes.push(stage)?;
+    let changes = put_and_stage(alloc, regime, stood, piece)?;
     Ok(changes)
 }
 
-/// A docket has a piece more; octets are shared.
-fn stage_of(
+/// A docket has these fields, and then a piece more.
+fn put_and_stage(
     alloc: Global,
-    regime: &Regime,
+    regime: Regime,
     stood: u32,
     piece: &[Element],
-) -> Result<Change, NoMemory>
+) -> Result<Changes, NoMemory>
     requires { stood + 1 ≤ 4294967295 }
-    ensures { IfOk result (λ change. change ≡ Change.Stage regime.now.identity regime.now.activity stood (stood + 1) piece.now) }
+    ensures { IfOk result (λ made. made ≡ Change.PutDocket regime ∷ Change.Stage regime.identity regime.activity stood (stood + 1) piece.now ∷ []) }
 {
-    let elements = copied(alloc, piece)?;
+    let activity = regime.activity;
     let identity = regime.identity.copy(alloc)?;
-    Ok(Change::Stage {
+    let elements = copied(alloc, piece)?;
+    let mut changes = one_change(alloc, Change::PutDocket { regime })?;
+    let stage = Change::Stage {
         identity,
-        activity: regime.activity,
+        activity,
         first: stood,
         last: stood + 1,
         elements,
-    })
+    };
+    changes.push(stage)?;
+    Ok(changes)
 }
 
 fn copied(alloc: Global, elements: &[Element]) -> Result<Elements, NoMemory>
@@ -213,22 +215,24 @@ pub(crate) fn cut_docket(
 fn docket_cut(alloc: Global, regime: Regime, stood: u32, check: u32) -> Result<Changes, NoMemory>
     ensures { IfOk result (λ made. made ≡ cut_meant (Some regime) stood check) }
 {
-    let cut = cut_of(alloc, &regime, check)?;
-    let mut changes = one_change(alloc, Change::PutDocket { regime })?;
     if check < stood {
-        changes.push(cut)?;
+        return put_and_cut(alloc, regime, check);
     }
+    let changes = one_change(alloc, Change::PutDocket { regime })?;
     Ok(changes)
 }
 
-/// A docket has the pieces up to a check.
-fn cut_of(alloc: Global, regime: &Regime, check: u32) -> Result<Change, NoMemory>
-    ensures { IfOk result (λ change. change ≡ Change.CutStage regime.now.identity regime.now.activity check) }
+/// A docket has these fields, and then the pieces up to a check alone.
+pub(crate) fn put_and_cut(alloc: Global, regime: Regime, check: u32) -> Result<Changes, NoMemory>
+    ensures { IfOk result (λ made. made ≡ Change.PutDocket regime ∷ Change.CutStage regime.identity regime.activity check ∷ []) }
 {
+    let activity = regime.activity;
     let identity = regime.identity.copy(alloc)?;
-    Ok(Change::CutStage {
+    let mut changes = one_change(alloc, Change::PutDocket { regime })?;
+    changes.push(Change::CutStage {
         identity,
-        activity: regime.activity,
+        activity,
         point: check,
-    })
+    })?;
+    Ok(changes)
 }

@@ -1,7 +1,7 @@
 //! A read that goes on after a recovery (ISO 8571-3, F-RECOVER; profile).
 ghost use Rattle.std.specs.Prelude.{◌≡◌, IfErr, IfOk, Some, true, option_copied};
 ghost use Rattle.vf_elements.specs.declared.message.Message.TheVariants as messages;
-ghost use Rattle.vf_party_steps.specs.Recoveries.{TakesUpKept, again as again_meant, put_at as put_at_meant, read_by as read_by_meant, shown_as};
+ghost use Rattle.vf_party_steps.specs.Recoveries.{SaysAgain, TakesUpKept, again as again_meant, put_at as put_at_meant, read_by as read_by_meant, shown_as};
 ghost use Rattle.vf_party_steps.specs.Reads.{IsReading};
 ghost use Rattle.vf_pdu.specs.declared.pdu.Pdu.TheVariants.{RecoverRequest};
 ghost use Rattle.vf_tables.specs.declared.docket.Direction.TheVariants.{Read};
@@ -20,6 +20,7 @@ use vf_base::{Context, FaduId, Moment, NoMemory};
 use vf_locks::Locks;
 use vf_pdu::Pdu;
 use vf_regime_effects::{Reading as Given, selected};
+use vf_regime_refusals::Association;
 use vf_tables::{Change, Changes, Docket, Regime, Tables};
 use vf_tree::TreeError;
 
@@ -47,16 +48,6 @@ impl Associated {
         ensures kept { IfErr result (λ back. back ≡ self) }
     {
         let check = point.min(docket.regime.point);
-        let answer = Pdu::RecoverResponse {
-            diagnostic: None,
-            number: Some(docket.regime.number),
-            point: check,
-            moving: true,
-            last: 0,
-        };
-        let Ok(said) = one_said(alloc, Said::Pdu(answer)) else {
-            return Err(self);
-        };
         let Ok(holder) = holder_of(alloc, &self.association.identity, activity) else {
             return Err(self);
         };
@@ -64,21 +55,18 @@ impl Associated {
         let Ok(given) = read_by(alloc, file, &docket.regime, context) else {
             return Err(self);
         };
-        let mut due = Due {
-            said,
-            check,
-            unacknowledged: 0,
-            serial: u64::from(serial),
-        };
-        let Ok(shown) = due.say(alloc, &self.association, &given) else {
-            return Err(self);
-        };
-        let Ok(changes) = put_at(alloc, &docket.regime, check) else {
+        let association = &self.association;
+        let Ok(resumed) = resume(alloc, association, &docket.regime, &given, check, serial) else {
             return Err(self);
         };
         let link = self.association.link;
         let opened = reopened(alloc, self, &docket.regime)?;
         take_hold(&docket.regime.file, &holder, link, locks);
+        let Resumed {
+            due,
+            shown,
+            changes,
+        } = resumed;
         let state = Reading {
             opened,
             fadu: docket.regime.fadu,
@@ -95,6 +83,51 @@ impl Associated {
             changes,
         })
     }
+}
+
+/// What comes of a read that goes on.
+#[derive(Drop)]
+struct Resumed {
+    /// What is said, and how far the read has come with it.
+    due: Due,
+    /// The end of the values is said.
+    shown: bool,
+    changes: Changes,
+}
+
+/// What comes of a read that goes on after this check, of what its request was given.
+fn resume(
+    alloc: Global,
+    association: &Association,
+    regime: &Regime,
+    given: &Given,
+    check: u32,
+    serial: u32,
+) -> Result<Resumed, NoMemory>
+    ensures says { IfOk result (λ resumed. SaysAgain association.now regime.now given.now check serial resumed.due resumed.shown) }
+    ensures changes { IfOk result (λ resumed. resumed.changes ≡ put_at_meant regime.now check) }
+{
+    let changes = put_at(alloc, regime, check)?;
+    let answer = Pdu::RecoverResponse {
+        diagnostic: None,
+        number: Some(regime.number),
+        point: check,
+        moving: true,
+        last: 0,
+    };
+    let said = one_said(alloc, Said::Pdu(answer))?;
+    let mut due = Due {
+        said,
+        check,
+        unacknowledged: 0,
+        serial: u64::from(serial),
+    };
+    let shown = due.say(alloc, association, given)?;
+    Ok(Resumed {
+        due,
+        shown,
+        changes,
+    })
 }
 
 /// What the request of a read was given.

@@ -1,23 +1,25 @@
 //! A write that goes on after a recovery (ISO 8571-3, F-RECOVER; profile).
-ghost use Rattle.std.specs.Prelude.{◌≡◌, ◌++◌, ◌∷◌, [], List, IfErr, IfOk, OnOk, Some, take, true};
+ghost use Rattle.std.specs.Prelude.{◌≡◌, ◌++◌, ◌∷◌, [], List, IfErr, IfOk, None, OnOk, Some, take, true};
 ghost use Rattle.vf_base.specs.declared.element.Element.{Element as Of};
 ghost use Rattle.vf_elements.specs.declared.message.Message.TheVariants as messages;
-ghost use Rattle.vf_party_steps.specs.Recoveries.{IsFilled, TakesUpKept, cut_to as cut_to_meant, given_by as given_by_meant, write_by as write_by_meant};
+ghost use Rattle.vf_elements.specs.declared.message.Said.TheVariants as answers;
+ghost use Rattle.vf_party_steps.specs.Recoveries.{IsFilled, TakesUpKept, cut_to as cut_to_meant, given_by as given_by_meant, write_by as write_by_meant, writing_by};
 ghost use Rattle.vf_party_steps.specs.Writes.{IsWriting};
-ghost use Rattle.vf_pdu.specs.declared.pdu.Pdu.TheVariants.{RecoverRequest};
+ghost use Rattle.vf_pdu.specs.declared.pdu.Pdu.TheVariants as pdus;
 ghost use Rattle.vf_tables.specs.declared.docket.Direction.TheVariants.{Write};
 
+use crate::checking::put_and_cut;
 use crate::found_docket::holder_of;
 use crate::received::Received;
 use crate::recovered_open::{reopened, take_hold};
-use crate::step::{one_change, one_said};
+use crate::step::one_said;
 use crate::{Associated, Said, Step, Writing};
 use std::alloc::Global;
 use vf_base::{Element, Elements, Moment, NoMemory};
 use vf_locks::Locks;
 use vf_pdu::Pdu;
 use vf_pdu_fields::WriteOperation;
-use vf_tables::{Change, Changes, Docket, Operation, Pieces, Regime, Tables};
+use vf_tables::{Changes, Docket, Operation, Pieces, Regime, Tables};
 
 impl Associated {
     /// Takes up a docket in which a write is under way: it goes on after the smaller of the point that is asked for and
@@ -38,51 +40,73 @@ impl Associated {
         locks: &mut Locks,
     ) -> Result<Step<Writing>, Associated>
         requires { docket.now.regime.direction ≡ Write operation }
-        ensures consequence { TakesUpKept IsWriting tables.now locks.old locks.new self (record { moment = moment; serial = serial; token = token; sync = sync }) activity number (messages.Pdu (RecoverRequest activity number point)) docket.now result }
+        ensures consequence { TakesUpKept IsWriting tables.now locks.old locks.new self (record { moment = moment; serial = serial; token = token; sync = sync }) activity number (messages.Pdu (pdus.RecoverRequest activity number point)) docket.now result }
         ensures kept { IfErr result (λ back. back ≡ self) }
     {
         let check = point.min(docket.regime.point);
-        let answer = Pdu::RecoverResponse {
-            diagnostic: None,
-            number: Some(docket.regime.number),
-            point: check,
-            moving: true,
-            last: 0,
-        };
-        let Ok(said) = one_said(alloc, Said::Pdu(answer)) else {
-            return Err(self);
-        };
         let Ok(holder) = holder_of(alloc, &self.association.identity, activity) else {
             return Err(self);
         };
-        let Ok(received) = refilled(alloc, first_pieces(&docket.staged, check)) else {
-            return Err(self);
-        };
-        let Ok(octets) = received.octets() else {
-            return Err(self);
-        };
-        let Ok(changes) = cut_to(alloc, &docket.regime, check) else {
+        let Ok(done) = resume(alloc, &docket.regime, check) else {
             return Err(self);
         };
         let link = self.association.link;
-        let regimes = reopened(alloc, self, &docket.regime)?;
+        let state = written_on(alloc, self, docket, operation, check)?;
         take_hold(&docket.regime.file, &holder, link, locks);
-        let state = Writing {
-            regimes,
-            operation: write_by(operation),
-            fadu: docket.regime.fadu,
-            given: given_by(docket.regime.refused),
-            received,
-            octets,
-            start: check,
-            ended: None,
-        };
         Ok(Step {
             state,
-            said,
-            changes,
+            said: done.0,
+            changes: done.1,
         })
     }
+}
+
+/// What is said where a write goes on after this check, and what changes.
+fn resume(alloc: Global, regime: &Regime, check: u32) -> Result<(Vec<Said>, Changes), NoMemory>
+    ensures said { IfOk result (λ done. done.0.items ≡ answers.Pdu (pdus.RecoverResponse None (Some regime.now.number) check true 0) ∷ []) }
+    ensures changes { IfOk result (λ done. done.1 ≡ cut_to_meant regime.now check) }
+{
+    let answer = Pdu::RecoverResponse {
+        diagnostic: None,
+        number: Some(regime.number),
+        point: check,
+        moving: true,
+        last: 0,
+    };
+    let changes = cut_to(alloc, regime, check)?;
+    let said = one_said(alloc, Said::Pdu(answer))?;
+    Ok((said, changes))
+}
+
+/// The write of a docket after this check, of this party; without memory the party is given back.
+fn written_on(
+    alloc: Global,
+    associated: Associated,
+    docket: &Docket,
+    operation: Operation,
+    check: u32,
+) -> Result<Writing, Associated>
+    ensures made { IfOk result (λ made. made ≡ writing_by associated docket.now.regime operation check made.received) }
+    ensures filled { IfOk result (λ made. IsFilled made.received (take check docket.now.staged) []) }
+    ensures err { IfErr result (λ back. back ≡ associated) }
+{
+    let Ok(received) = refilled(alloc, first_pieces(&docket.staged, check)) else {
+        return Err(associated);
+    };
+    let Ok(octets) = received.octets() else {
+        return Err(associated);
+    };
+    let regimes = reopened(alloc, associated, &docket.regime)?;
+    Ok(Writing {
+        regimes,
+        operation: write_by(operation),
+        fadu: docket.regime.fadu,
+        given: given_by(docket.regime.refused),
+        received,
+        octets,
+        start: check,
+        ended: None,
+    })
 }
 
 fn write_by(operation: Operation) -> WriteOperation
@@ -148,15 +172,8 @@ fn cut_to(alloc: Global, regime: &Regime, check: u32) -> Result<Changes, NoMemor
     if check >= regime.point {
         return Ok(Changes::new(alloc));
     }
-    let identity = regime.identity.copy(alloc)?;
     let mut fields = regime.copy(alloc)?;
     fields.point = check;
-    let mut changes = one_change(alloc, Change::PutDocket { regime: fields })?;
-    let cut = Change::CutStage {
-        identity,
-        activity: regime.activity,
-        point: check,
-    };
-    changes.push(cut)?;
+    let changes = put_and_cut(alloc, fields, check)?;
     Ok(changes)
 }

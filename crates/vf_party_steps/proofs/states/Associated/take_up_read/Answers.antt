@@ -9,7 +9,6 @@ use Rattle.vf_locks.specs.declared.holder.Holder.{Holder}
 use Rattle.vf_locks.specs.declared.holder.Holder.TheVariants.{Party}
 use Rattle.vf_party_steps.specs.Leaving.{may_pass}
 use Rattle.vf_party_steps.specs.Recoveries.{docket_row, put_at, read_by}
-use Rattle.vf_party_steps.specs.declared.due.Due.{Due}
 use Rattle.vf_party_steps.specs.declared.reading.Reading.{Reading}
 use Rattle.vf_party_steps.specs.declared.step.Step.{Step}
 use Rattle.vf_party_steps.proofs.FoundDockets.{row_found}
@@ -25,8 +24,9 @@ returns-clause-consequence c = λ state party stands kept represents taken asked
     let tables = c.args.tables.now in
     let name = sym (ap identity_in represents.stands) in
     let check = c.min-check.result in
-    let first : Due = record { said = c.in-Ok.said; check = check; unacknowledged = 0; serial = c.from.result } in
-    let after = c.say.new.self in
+    let again = c.in-Ok-resume.ensures.says in
+    let after = c.in-Ok-resume.resumed.due in
+    let shown = c.in-Ok-resume.resumed.shown in
     let made : Reading = record {
       opened = c.in_ok-opened.opened;
       fadu = row.regime.fadu;
@@ -35,13 +35,13 @@ returns-clause-consequence c = λ state party stands kept represents taken asked
       check = after.check;
       point = check;
       start = check;
-      shown = c.in-Ok-say.shown;
+      shown = shown;
     } in
-    let step : Step Reading = record { state = made; said = after.said; changes = c.in-Ok-put_at.changes } in
+    let step : Step Reading = record { state = made; said = after.said; changes = c.in-Ok-resume.resumed.changes } in
     let is = row_found tables old state party stands (identity_of party) c.args.activity row (subst (λ (n : List ℕ). docket_row tables old n c.args.activity ≡ Some row) name asked) in
     takes_read tables old state party c.args.self stands represents setting c.args.activity c.args.number c.args.point row is kept c.args.context c.requires.directed free
     c.in-Ok-read_by.given (c.in-Ok-read_by.ensures ∙ ap (λ (file : Option File). read_by file row.regime c.args.context) c.selected-file.ensures.found)
-    first after c.in-Ok-say.shown c.min-check.ensures refl c.from.ensures c.in-Ok-say.ensures
+    again.first after shown (again.checked ∙ c.min-check.ensures) again.unanswered again.numbered again.says
     step c.take_hold.new.locks c.requires.may_send taken
     (λ i. record {
       opened = c.in_ok-opened.ensures.ok i;
@@ -51,10 +51,10 @@ returns-clause-consequence c = λ state party stands kept represents taken asked
       check = after.check;
       point = c.min-check.ensures i;
       start = c.min-check.ensures i;
-      shown = c.in-Ok-say.shown;
+      shown = shown;
     })
-    (c.in-Ok.ensures ∙ (λ i. answers.Pdu (RecoverResponse None (Some row.regime.number) (c.min-check.ensures i) true 0) ∷ []))
+    (again.said ∙ (λ i. answers.Pdu (RecoverResponse None (Some row.regime.number) (c.min-check.ensures i) true 0) ∷ []))
     refl
-    (c.in-Ok-put_at.ensures ∙ ap (put_at row.regime) c.min-check.ensures)
+    (c.in-Ok-resume.ensures.changes ∙ ap (put_at row.regime) c.min-check.ensures)
     (subst (λ (holder : Holder). may_pass old row.regime.file holder (Party c.args.self.association.link) ≡ true
-    → IsWith row.regime.file (passed holder (Party c.args.self.association.link) (held row.regime.file old)) old c.take_hold.new.locks) c.in-Ok-holder_of.ensures c.take_hold.ensures)
+    → IsWith row.regime.file (passed holder (Party c.args.self.association.link) (held row.regime.file old)) old c.take_hold.new.locks) c.in-Ok.ensures c.take_hold.ensures)

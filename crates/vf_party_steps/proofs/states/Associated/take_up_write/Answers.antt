@@ -8,7 +8,7 @@ use Rattle.vf_locks.specs.Table.{IsWith, held}
 use Rattle.vf_locks.specs.declared.holder.Holder.{Holder}
 use Rattle.vf_locks.specs.declared.holder.Holder.TheVariants.{Party}
 use Rattle.vf_party_steps.specs.Leaving.{may_pass}
-use Rattle.vf_party_steps.specs.Recoveries.{IsFilled, cut_to, docket_row}
+use Rattle.vf_party_steps.specs.Recoveries.{IsFilled, cut_to, docket_row, writing_by}
 use Rattle.vf_party_steps.specs.declared.step.Step.{Step}
 use Rattle.vf_party_steps.specs.declared.writing.Writing.{Writing}
 use Rattle.vf_party_steps.proofs.FoundDockets.{row_found}
@@ -23,34 +23,15 @@ returns-clause-consequence c = λ state party stands kept represents taken asked
     let old = c.args.locks.now in
     let tables = c.args.tables.now in
     let name = sym (ap identity_in represents.stands) in
-    let received = c.in-Ok-refilled.received in
-    let check = c.min-check.result in
-    let made : Writing = record {
-      regimes = c.in_ok-regimes.regimes;
-      operation = c.write_by.result;
-      fadu = row.regime.fadu;
-      given = c.given_by.result;
-      received = received;
-      octets = c.in-Ok-octets.octets;
-      start = check;
-      ended = None;
-    } in
-    let step : Step Writing = record { state = made; said = c.in-Ok.said; changes = c.in-Ok-cut_to.changes } in
+    let made : Writing = c.in_ok-state.state in
+    let received = made.received in
+    let step : Step Writing = record { state = made; said = c.in-Ok-resume.done.0; changes = c.in-Ok-resume.done.1 } in
     let is = row_found tables old state party stands (identity_of party) c.args.activity row (subst (λ (n : List ℕ). docket_row tables old n c.args.activity ≡ Some row) name asked) in
     takes_write tables old state party c.args.self stands represents setting c.args.activity c.args.number c.args.point row is kept c.args.operation c.requires received
-    (subst (λ (pieces : List (List Element)). IsFilled received pieces []) (c.first_pieces.ensures ∙ (λ i. take (c.min-check.ensures i) row.staged)) c.in-Ok-refilled.ensures)
+    (subst (λ (pieces : List (List Element)). IsFilled received pieces []) (λ i. take (c.min-check.ensures i) row.staged) c.in_ok-state.ensures.filled)
     free step c.take_hold.new.locks taken
-    (λ i. record {
-      regimes = c.in_ok-regimes.ensures.ok i;
-      operation = c.write_by.ensures i;
-      fadu = row.regime.fadu;
-      given = c.given_by.ensures i;
-      received = received;
-      octets = c.in-Ok-octets.ensures i;
-      start = c.min-check.ensures i;
-      ended = None;
-    })
-    (c.in-Ok.ensures ∙ (λ i. answers.Pdu (RecoverResponse None (Some row.regime.number) (c.min-check.ensures i) true 0) ∷ []))
-    (c.in-Ok-cut_to.ensures ∙ ap (cut_to row.regime) c.min-check.ensures)
+    (c.in_ok-state.ensures.made ∙ (λ i. writing_by c.args.self row.regime c.args.operation (c.min-check.ensures i) received))
+    (c.in-Ok-resume.ensures.said ∙ (λ i. answers.Pdu (RecoverResponse None (Some row.regime.number) (c.min-check.ensures i) true 0) ∷ []))
+    (c.in-Ok-resume.ensures.changes ∙ ap (cut_to row.regime) c.min-check.ensures)
     (subst (λ (holder : Holder). may_pass old row.regime.file holder (Party c.args.self.association.link) ≡ true
-    → IsWith row.regime.file (passed holder (Party c.args.self.association.link) (held row.regime.file old)) old c.take_hold.new.locks) c.in-Ok-holder_of.ensures c.take_hold.ensures)
+    → IsWith row.regime.file (passed holder (Party c.args.self.association.link) (held row.regime.file old)) old c.take_hold.new.locks) c.in-Ok.ensures c.take_hold.ensures)
