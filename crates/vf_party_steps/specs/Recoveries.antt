@@ -23,7 +23,6 @@ use Rattle.vf_filestore.specs.State.{State, StandingParty}
 use Rattle.vf_filestore.specs.Units.{recovery_unit, unit_row}
 use Rattle.vf_locks.specs.Holders.{controls_of}
 use Rattle.vf_locks.specs.Table.{IsAsBefore, held}
-use Rattle.vf_locks.specs.declared.holder.Holder.{Holder}
 use Rattle.vf_locks.specs.declared.holder.Holder.TheVariants as holders
 use Rattle.vf_party_steps.specs.Dues.{Says}
 use Rattle.vf_party_steps.specs.Reads.{IsReading, dues}
