@@ -1,9 +1,9 @@
 //! The presentation contexts that values are sent in, and the values in them.
-ghost use Rattle.std.specs.Prelude.{◌≡◌, [], ◌∷◌, IfOk, false, true};
+ghost use Rattle.std.specs.Prelude.{◌≡◌, ◌++◌, [], ◌∷◌, IfOk, OnOk, false, true};
 ghost use Rattle.vf_base.specs.Oid.{IsOid};
 ghost use Rattle.vf_elements.specs.ElementValue.{IsWritable as IsElement};
 ghost use Rattle.vf_pdu.specs.PduMeaning.{IsInRange};
-ghost use Rattle.vf_stack.specs.Contexts.{is_accepted as accepted_now};
+ghost use Rattle.vf_stack.specs.Contexts.{entries, is_accepted as accepted_now};
 ghost use Rattle.vf_stack.specs.Requests.{element_carried, maybe_carried, own_offer as offer_with, own_offers as offers_own, pdu_carried, results_of as results_among, syntax_for};
 ghost use Rattle.vf_stack.specs.Sends.{IsMaybeInRange};
 ghost use Rattle.vf_upper.specs.Carried.{carried_of};
@@ -13,11 +13,11 @@ ghost use Rattle.vf_upper_grammar.specs.Forms.{are_arcs};
 ghost use Rattle.vf_upper_grammar.specs.Syntaxes.{pci};
 ghost use Rattle.vf_upper_grammar.specs.declared.labels.NumberLabel.TheVariants.{AcseContext, AnyContext, PciContext};
 
-use crate::contexts::is_accepted;
+use crate::contexts::{entries_of, is_accepted};
 use std::alloc::Global;
 use vf_base::{BaseError, Element, NoMemory, Oid};
 use vf_pdu::{Boxed, Pdu};
-use vf_upper::{CarriedValue, CarriedValues, ContextEntry, Offer, Offers, Results};
+use vf_upper::{CarriedValue, CarriedValues, ContextEntry, Contexts, Offer, Offers, Results};
 
 // ---- contexts
 
@@ -153,17 +153,35 @@ fn own_offer(alloc: Global, id: i64, syntax: &[u32]) -> Result<Offer, NoMemory>
     }
 }
 
+/// Appends such a proposal.
+fn propose(alloc: Global, id: i64, syntax: &[u32], offers: &mut Offers) -> Result<(), NoMemory>
+    requires { IsOid syntax.now }
+    ensures { OnOk result (offers.new ≡ offers.old ++ offer_with id syntax.now ∷ []) }
+{
+    let offer = own_offer(alloc, id, syntax)?;
+    offers.push(offer)?;
+    Ok(())
+}
+
 /// What a calling end proposes.
 pub(crate) fn own_offers(alloc: Global) -> Result<Offers, NoMemory>
     ensures { IfOk result (λ made. made ≡ offers_own) }
 {
     let mut made = Offers::new(alloc);
-    made.push(own_offer(alloc, 1, &ACSE)?)?;
-    made.push(own_offer(alloc, 3, &PCI)?)?;
-    made.push(own_offer(alloc, 5, &FADU)?)?;
-    made.push(own_offer(alloc, 7, &TEXT)?)?;
-    made.push(own_offer(alloc, 9, &BINARY)?)?;
+    propose(alloc, 1, &ACSE, &mut made)?;
+    propose(alloc, 3, &PCI, &mut made)?;
+    propose(alloc, 5, &FADU, &mut made)?;
+    propose(alloc, 7, &TEXT, &mut made)?;
+    propose(alloc, 9, &BINARY, &mut made)?;
     Ok(made)
+}
+
+/// The contexts of these proposals.
+pub(crate) fn own_contexts(alloc: Global) -> Result<Contexts, NoMemory>
+    ensures { IfOk result (λ made. made ≡ entries offers_own) }
+{
+    let offers = own_offers(alloc)?;
+    entries_of(alloc, offers.as_slice())
 }
 
 /// The results of proposals.

@@ -13,7 +13,7 @@ ghost use Rattle.vf_upper.specs.Written.{IsWritable, universal, user_octets};
 
 use crate::contexts::entries_of;
 use crate::exchange::KeptExchange;
-use crate::placing::{element_in, maybe_pdu_in, own_offers, pdu_in, results_of};
+use crate::placing::{element_in, maybe_pdu_in, own_contexts, own_offers, pdu_in, results_of};
 use crate::{Item, Request};
 use std::alloc::Global;
 use vf_base::{Element, NoMemory, Octets};
@@ -194,13 +194,19 @@ impl KeptExchange {
 
     // ---- user data
 
-    /// What a request is written as, with the accepted contexts.
-    fn written(&self, alloc: Global, primitive: Option<Primitive>) -> Result<Octets, NoMemory>
-        requires { IsWritten self.now.accepted primitive }
-        ensures { IfOk result (λ octets. octets ≡ octets_by self.now.accepted primitive) }
+    /// What a request is written as with these contexts.
+    fn written(
+        &self,
+        alloc: Global,
+        request: &Request,
+        contexts: &Contexts,
+    ) -> Result<Octets, NoMemory>
+        requires carried { IsCarried (standing_of self.now) request.now }
+        requires is_written { IsWritten contexts.now (primitive_by (standing_of self.now) request.now) }
+        ensures { IfOk result (λ octets. octets ≡ octets_by contexts.now (primitive_by (standing_of self.now) request.now)) }
     {
-        match primitive {
-            Some(primitive) => spelled(alloc, &primitive, &self.accepted),
+        match self.primitive_of(alloc, request)? {
+            Some(primitive) => spelled(alloc, &primitive, contexts),
             None => Octets::of(alloc, &[]),
         }
     }
@@ -211,16 +217,11 @@ impl KeptExchange {
         requires is_written { IsWritten (contexts_of (standing_of self.now) request.now) (primitive_by (standing_of self.now) request.now) }
         ensures { IfOk result (λ octets. octets ≡ octets_sent (standing_of self.now) request.now) }
     {
-        let primitive = self.primitive_of(alloc, request)?;
         let Request::Associate { .. } = request else {
-            return self.written(alloc, primitive);
+            return self.written(alloc, request, &self.accepted);
         };
-        let offers = own_offers(alloc)?;
-        let contexts = entries_of(alloc, offers.as_slice())?;
-        match primitive {
-            Some(primitive) => spelled(alloc, &primitive, &contexts),
-            None => Octets::of(alloc, &[]),
-        }
+        let contexts = own_contexts(alloc)?;
+        self.written(alloc, request, &contexts)
     }
 
     /// The user data of a request's unit, which has these parameters: in a resynchronization and its answer within a
