@@ -2,6 +2,7 @@
 ghost use Rattle.std.specs.Prelude.{◌≡◌, IfOk, Ok, drop, map};
 ghost use Rattle.vf_ber.specs.Views.{tree_of};
 ghost use Rattle.vf_elements.specs.Messages.{message_in};
+ghost use Rattle.vf_elements.specs.declared.message.Message.TheVariants as messages;
 ghost use Rattle.vf_pdu.specs.PduNumbers.{number_of};
 ghost use Rattle.vf_pdu.specs.PduReading.{pdu_in};
 ghost use Rattle.vf_stack.specs.Carriage.{answer_told, bare_told, due as due_told, goes_in_data as goes, item_told, items_told, one_told, pdu_read, pdu_told, plain_told, read_told, resync_told, resynced_told, single_told, values_told};
@@ -45,6 +46,18 @@ pub(crate) fn goes_in_data(sync: bool, number: u16) -> bool
     6 <= number && (if sync { number <= 36 } else { true })
 }
 
+/// What a PDU in P-DATA tells, or its fault.
+fn placed_pdu(alloc: Global, sync: bool, pdu: Pdu) -> Result<Result<Indication, Fault>, NoMemory>
+    ensures { IfOk result (λ told. told ≡ item_told sync (Ok (messages.Pdu pdu))) }
+{
+    if !goes_in_data(sync, pdu.number()) {
+        drop(pdu);
+        return Ok(Err(misplaced()));
+    }
+    let pdu = Boxed::new(alloc, pdu)?;
+    Ok(Ok(Indication::Item(Item::Pdu(pdu))))
+}
+
 /// What a message in P-DATA tells, or its fault.
 fn placed(
     alloc: Global,
@@ -54,13 +67,7 @@ fn placed(
     ensures { IfOk result (λ told. told ≡ item_told sync (Ok message)) }
 {
     match message {
-        Message::Pdu(pdu) => {
-            if !goes_in_data(sync, pdu.number()) {
-                return Ok(Err(misplaced()));
-            }
-            let pdu = Boxed::new(alloc, pdu)?;
-            Ok(Ok(Indication::Item(Item::Pdu(pdu))))
-        }
+        Message::Pdu(pdu) => placed_pdu(alloc, sync, pdu),
         Message::Element(element) => Ok(Ok(Indication::Item(Item::Element(element)))),
         Message::Check => Ok(Err(misplaced())),
         Message::Acknowledge { .. } => Ok(Err(misplaced())),
@@ -123,6 +130,7 @@ fn due(is_due: bool, indication: Indication) -> Result<Indication, Fault>
     if is_due {
         Ok(indication)
     } else {
+        drop(indication);
         Err(misplaced())
     }
 }
