@@ -123,7 +123,10 @@ impl KeptExchange {
         ensures { IfOk result (λ made. PutsRead self.now unit (user_data_read kind (contexts_among self.now.offers self.now.accepted kind) octets.now) out.old.items out.new.items made.0 made.1) }
     {
         let read = self.read(alloc, kind, octets)?;
-        let negotiated = self.negotiated(alloc, unit, &read)?;
+        let Ok(negotiated) = self.negotiated(alloc, unit, &read) else {
+            drop(read);
+            return Err(NoMemory);
+        };
         let fault = put_read(alloc, self.state, unit, read, out)?;
         Ok((negotiated, fault))
     }

@@ -257,8 +257,9 @@ impl KeptExchange {
             return Ok(None);
         };
         let read = read_by(alloc, SpduKind::CN, &Contexts::new(alloc), data)?;
-        let offers = offers_in(alloc, &read)?;
-        Ok(Some(offers))
+        let offers = offers_in(alloc, &read);
+        drop(read);
+        Ok(Some(offers?))
     }
 
     /// Appends the SPDUs of a unit. After a fault it is an abort, which is written whatever session has taken.
