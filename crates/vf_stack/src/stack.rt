@@ -5,7 +5,7 @@ ghost use Rattle.vf_stack.specs.Pieces.{TellOnce};
 ghost use Rattle.vf_stack.specs.Receiving.{octets_received, piece_received};
 ghost use Rattle.vf_stack.specs.Represents.{Feeds, IsSame, Listens, Represents, offer_of, side_of};
 ghost use Rattle.vf_stack.specs.Sending.{May, is_associated as is_associated_now, tsdu_of};
-ghost use Rattle.vf_stack.specs.Sends.{IsPermitted, MaySend, Sends};
+ghost use Rattle.vf_stack.specs.Sends.{IsPermitted, Joins, MaySend, Sends};
 ghost use Rattle.vf_session.specs.Sending.{holds_token};
 ghost use Rattle.vf_session.specs.Trace.{next, phase, state as state_of};
 ghost use Rattle.vf_session.specs.declared.units.TokenSide.TheVariants as sides;
@@ -249,9 +249,29 @@ impl Stack {
         ensures err { OnErr result ((self.new ≡ self.old) × (out.new.items ≡ out.old.items)) }
     {
         let unit = self.exchange.unit_of(alloc, request)?;
-        let offers = self.exchange.offers_of(alloc, &unit)?;
-        self.put_packets(alloc, &unit, out)?;
-        self.exchange.join_sent(&unit, offers);
+        let sent = self.put_unit(alloc, &unit, out);
+        drop(unit);
+        sent
+    }
+
+    /// Appends the packets of a unit of session, which joins what is kept.
+    fn put_unit(
+        &mut self,
+        alloc: Global,
+        unit: &SessionSay,
+        out: &mut Vec<u8>,
+    ) -> Result<(), NoMemory>
+        requires connected { IsTrue (stands_now self.old.transport) }
+        requires permitted { IsPermitted self.old.exchange unit.now }
+        requires fits { length (tsdu_of (side_of self.old) unit.now) ≤ MOST_VALUE_OCTETS }
+        ensures ok { OnOk result ((out.new.items ≡ out.old.items ++ packets (most_of self.old.transport.connection.phase) (tsdu_of (side_of self.old) unit.now)) × Joins self.old.exchange unit.now self.new.exchange) }
+        ensures transport { self.new.transport ≡ self.old.transport }
+        ensures end { IsSame self.old.exchange self.new.exchange }
+        ensures err { OnErr result ((self.new ≡ self.old) × (out.new.items ≡ out.old.items)) }
+    {
+        let offers = self.exchange.offers_of(alloc, unit)?;
+        self.put_packets(alloc, unit, out)?;
+        self.exchange.join_sent(unit, offers);
         Ok(())
     }
 
