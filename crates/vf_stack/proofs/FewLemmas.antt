@@ -1,22 +1,21 @@
 -- As few octets as a packet lacks: the last of them alone tells something, or one that ends receiving.
-use Rattle.std.proofs.Common.{◌≡◌, ◌≤◌, ◌<◌, ◌-◌, ◌+◌, ◌*◌, ℕ, zero, suc, Bool, true, false, cond, nat_eq, nat_lt, List, [], ◌∷◌, ◌++◌, length, take, drop, refl, ap, sym, subst, ◌∙◌, append-nil, length-append, arith, Option, None, Some, Result, Ok, Err, ◌⊎◌, inl, inr}
+use Rattle.std.proofs.Common.{◌≡◌, ◌≤◌, ◌<◌, ◌-◌, ◌+◌, ◌*◌, ℕ, zero, suc, Bool, true, false, cond, nat_eq, nat_lt, List, [], ◌∷◌, ◌++◌, length, take, drop, refl, ap, sym, subst, ◌∙◌, append-nil, length-append, arith, Ok, Err, inl, inr}
 use Rattle.std.proofs.Math.Nat.{le_refl}
 use Rattle.std.proofs.lemmas.Bool.Decides.{nat_tests}
 use Rattle.vf_session.specs.declared.units.TokenSide.{TokenSide}
 use Rattle.vf_stack.specs.Association.{Association, end_of, is_ended}
 use Rattle.vf_stack.specs.Few.{FewTellLast, IsLast, IsStill, TellsLast, lengthened}
 use Rattle.vf_stack.specs.Receiving.{Fed, nothing_fed, octets_received, piece_received}
-use Rattle.vf_stack.specs.Represents.{Kept, Represents, side_of}
+use Rattle.vf_stack.specs.Represents.{Kept, side_of}
 use Rattle.vf_tpkt.specs.Receiving.{FirstPacket, Kept as TransportKept, Progress, Reading, after, after_first_packet, after_tpdu, bad, beginning, checked, first_packet, onward, packet_by_size, packet_reserved, part, place_at, receiving_in, whole}
-use Rattle.vf_tpkt.specs.Steps.{FitsOne, size_in}
-use Rattle.vf_tpkt.specs.Stream.{reading as stream_reading}
+use Rattle.vf_tpkt.specs.Steps.{FitsOne}
 use Rattle.vf_tpkt.specs.Wanting.{IsSilent as TellsNothing, TellsOnce, lacking}
 use Rattle.vf_tpkt.specs.declared.error.TpktError.{TpktError}
 use Rattle.vf_tpkt.specs.declared.error.TpktError.TheVariants as errors
 use Rattle.vf_tpkt.proofs.ReceivingLemmas.{first_packet-shorter}
 use Rattle.vf_tpkt.proofs.StreamLemmas.{receives-reads}
 use Rattle.vf_tpkt.proofs.WantLemmas.{tells-once_at}
-use Rattle.vf_stack.proofs.OctetLemmas.{Cut, Cuts, as_association, cuts-few, cuts-moved, fault-piece, kept_of, octets-ended, still-piece, with_others}
+use Rattle.vf_stack.proofs.OctetLemmas.{Cut, Cuts, cuts-few, cuts-moved, fault-piece, kept_of, octets-ended, still-piece, with_others}
 use Rattle.vf_stack.proofs.PieceLemmas.{as_fed, piece-ended}
 
 -- ---- the octets, by where receiving has ended
