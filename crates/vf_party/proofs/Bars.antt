@@ -1,5 +1,6 @@
 -- What aborts a message, and which stage takes it, by what typed states keep.
 use Rattle.std.proofs.Common.{◌≡◌, ℕ, ◌+◌, ◌-◌, ◌==◌, Bool, true, false, cond, not, length, nat_lt, ◌&&◌, ◌||◌, [], ◌∷◌, is_some, nat_le, Option, None, refl, ap, sym, ◌∙◌}
+use borrow.Author.Tests.{clash}
 use Rattle.vf_elements.specs.Stages.{initialize, lists, takes}
 use Rattle.vf_base.specs.declared.diagnostic.Diagnostic.{Diagnostic}
 use Rattle.vf_elements.specs.declared.message.Message.{Message}
@@ -58,19 +59,19 @@ module _ (party : StandingParty) (setting : Setting) where
   associated_bars : (units : ℕ) → units_of party ≡ units → (request : Pdu) → takes stages.Associated (messages.Pdu request) ≡ true
       → request_aborts party setting request ≡ aborts_of_units units request
   associated_bars units is (BeginGroupRequest threshold) taken = λ i. abort_where (not (includes (is i) grouping_unit)) wrong_state ∷ []
-  associated_bars units is (ReadRequest fadu context) taken = absurd cc
-  associated_bars units is (WriteRequest operation fadu) taken = absurd cc
-  associated_bars units is (CancelRequest diagnostic) taken = absurd cc
-  associated_bars units is (RestartRequest point) taken = absurd cc
+  associated_bars units is (ReadRequest fadu context) taken = absurd (clash taken)
+  associated_bars units is (WriteRequest operation fadu) taken = absurd (clash taken)
+  associated_bars units is (CancelRequest diagnostic) taken = absurd (clash taken)
+  associated_bars units is (RestartRequest point) taken = absurd (clash taken)
   associated_bars units is request taken = refl
 
   selected_bars : (units : ℕ) → units_of party ≡ units → (request : Pdu) → takes stages.Selected (messages.Pdu request) ≡ true
       → request_aborts party setting request ≡ aborts_of_units units request
   selected_bars units is (BeginGroupRequest threshold) taken = λ i. abort_where (not (includes (is i) grouping_unit)) wrong_state ∷ []
-  selected_bars units is (ReadRequest fadu context) taken = absurd cc
-  selected_bars units is (WriteRequest operation fadu) taken = absurd cc
-  selected_bars units is (CancelRequest diagnostic) taken = absurd cc
-  selected_bars units is (RestartRequest point) taken = absurd cc
+  selected_bars units is (ReadRequest fadu context) taken = absurd (clash taken)
+  selected_bars units is (WriteRequest operation fadu) taken = absurd (clash taken)
+  selected_bars units is (CancelRequest diagnostic) taken = absurd (clash taken)
+  selected_bars units is (RestartRequest point) taken = absurd (clash taken)
   selected_bars units is request taken = refl
 
   opened_bars : (units count : ℕ) → units_of party ≡ units → done party.history ≡ count → (request : Pdu) → takes stages.Opened (messages.Pdu request) ≡ true
@@ -78,8 +79,8 @@ module _ (party : StandingParty) (setting : Setting) where
   opened_bars units count is counted (BeginGroupRequest threshold) taken = λ i. abort_where (not (includes (is i) grouping_unit)) wrong_state ∷ []
   opened_bars units count is counted (ReadRequest fadu context) taken = λ i. abort_where (has_checks (is i) && not setting.token) wrong_state ∷ spent_aborts (counted i)
   opened_bars units count is counted (WriteRequest operation fadu) taken = λ i. spent_aborts (counted i)
-  opened_bars units count is counted (CancelRequest diagnostic) taken = absurd cc
-  opened_bars units count is counted (RestartRequest point) taken = absurd cc
+  opened_bars units count is counted (CancelRequest diagnostic) taken = absurd (clash taken)
+  opened_bars units count is counted (RestartRequest point) taken = absurd (clash taken)
   opened_bars units count is counted request taken = refl
 
   pub quiet_bars : (quiet : Quiet) (request : Pdu) → IsQuiet quiet party.link party.history → takes (stage_of quiet) (messages.Pdu request) ≡ true
@@ -117,7 +118,7 @@ quiet_stays (quiets.Open regimes) = refl
 pub leaving_decides : (state : State) (party : StandingParty) (setting : Setting) (request : Pdu) → (number_of request == 4 || number_of request == 5) ≡ true → request_decision state party setting request ≡ Leaves
 leaving_decides state party setting (UserAbort number) is = refl
 leaving_decides state party setting (ProviderAbort number place) is = refl
-leaving_decides state party setting request is = absurd cc
+leaving_decides state party setting request is = absurd (clash is)
 
 -- ---- transfers
 

@@ -1,5 +1,5 @@
 -- What a party in a group that isn't ended owes to a message.
-use Rattle.std.proofs.Common.{◌≡◌, ℕ, Bool, true, false, cond, List, [], ◌∷◌, ◌++◌, is_some, length, Option, option_map, Result, Ok, Err, refl, ap, sym, subst, ◌∙◌, nat_eq, nat_le}
+use Rattle.std.proofs.Common.{◌≡◌, ℕ, Bool, true, false, cond, not, ◌&&◌, List, [], ◌∷◌, ◌++◌, is_some, length, Option, option_map, Result, Ok, Err, refl, ap, sym, subst, ◌∙◌, nat_eq, nat_le}
 use Rattle.std.specs.Prelude.{IfErr, IfOk, IfSome}
 use borrow.Author.Tests.{clash}
 use Rattle.vf_base.specs.declared.errors.NoMemory.{NoMemory}
@@ -66,7 +66,7 @@ leaves_group : (request : Pdu) (group : Group) → takes stages.Grouping (messag
 leaves_group (UserAbort number) group taken item stays = refl
 leaves_group (ProviderAbort number place) group taken item stays = refl
 leaves_group EndGroupRequest group taken item stays = absurd (stays refl)
-leaves_group request group taken item stays = absurd cc
+leaves_group request group taken item stays = absurd (clash (λ i. taken i && not (item i)))
 
 -- ---- turns
 

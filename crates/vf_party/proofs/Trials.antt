@@ -1,6 +1,7 @@
 -- An item of a group that is tried, and items after it, in the words of the filestore.
 use Rattle.std.proofs.Common.{◌≡◌, ℕ, ◌+◌, Bool, true, false, cond, List, [], ◌∷◌, ◌++◌, append-nil, is_some, Option, None, Some, unwrap_or, Result, Ok, Err, refl, ap, sym, subst, ◌∙◌}
 use Rattle.std.specs.Prelude.{IfErr}
+use borrow.Author.Tests.{clash}
 use Rattle.std.proofs.lemmas.List.Concat.{flat_map-append}
 use Rattle.std.proofs.lemmas.List.Sums.{sum_by-append}
 use Rattle.vf_base.specs.declared.diagnostic.Diagnostic.{Diagnostic}
@@ -59,7 +60,7 @@ may_be_item (ReadAttribRequest names) item = refl
 may_be_item (ChangeAttribRequest name permitted terms others) item = refl
 may_be_item (OpenRequest mode contents controls activity) item = refl
 may_be_item CloseRequest item = refl
-may_be_item request item = absurd cc
+may_be_item request item = absurd (clash item)
 
 -- no item is answered by an abort
 unaborted : (state : State) (party : StandingParty) (setting : Setting) (given : Given) (request : Pdu) → is_item request ≡ true → has_abort (request_replies state party setting given request) ≡ false
@@ -71,7 +72,7 @@ unaborted state party setting given (ReadAttribRequest names) item = refl
 unaborted state party setting given (ChangeAttribRequest name permitted terms others) item = refl
 unaborted state party setting given (OpenRequest mode contents controls activity) item = refl
 unaborted state party setting given CloseRequest item = refl
-unaborted state party setting given request item = absurd cc
+unaborted state party setting given request item = absurd (clash item)
 
 -- the regime that a typed state represents
 pub stage_is : (quiet : Quiet) (link : ℕ) (history : History) → IsQuiet quiet link history → regime_stage history ≡ stage_of quiet
