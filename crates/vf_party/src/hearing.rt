@@ -3,6 +3,7 @@ ghost use Rattle.std.specs.Prelude.{◌≡◌};
 ghost use Rattle.vf_party.specs.Hearing.{outcome_in, turn_in};
 
 use crate::Said;
+use crate::outcomes::put;
 use crate::party::{Outcome, Party};
 use vf_base::NoMemory;
 use vf_tables::Changes;
@@ -16,7 +17,7 @@ pub struct Answered {
     pub changes: Changes,
 }
 
-/// Puts the party that is left, if one is, in the place of another.
+/// Puts the party that is left, if one is, in the place of one that has just arrived.
 #[inline(never)]
 pub(crate) fn settled(
     party: &mut Party,
@@ -33,7 +34,7 @@ pub(crate) fn settled(
     }
 }
 
-/// Puts the party that an outcome leaves, if it leaves one, in the place of another.
+/// Puts the party that an outcome leaves, if it leaves one, in the place of one that has just arrived.
 fn left(party: &mut Party, outcome: Outcome) -> Answered
     ensures { outcome_in party.new result ≡ outcome }
 {
@@ -55,13 +56,6 @@ fn left(party: &mut Party, outcome: Outcome) -> Answered
         said,
         changes,
     }
-}
-
-/// Puts a party in the place of another.
-fn put(party: &mut Party, next: Party)
-    ensures { party.new ≡ next }
-{
-    *party = next;
 }
 
 /// What came of a message that this party took in its place.

@@ -97,7 +97,7 @@ fn put_outcome<New: PartyState>(party: &mut Party, step: Step<New>, locks: &mut 
 }
 
 /// Puts a party in the place of one that has just arrived, which owns nothing that has to be given up.
-fn put(place: &mut Party, party: Party)
+pub(crate) fn put(place: &mut Party, party: Party)
     ensures { place.new ≡ party }
 {
     mem::forget(mem::replace(place, party));
