@@ -2,6 +2,7 @@
 use Rattle.std.proofs.Common.{◌≡◌, ℕ, true, ◌&&◌, Option, None, Some, is_none, Result, refl, ap, subst, sym, ◌∙◌}
 use Rattle.std.proofs.lemmas.Bool.{and_parts}
 use Rattle.std.specs.Prelude.{IfErr}
+use borrow.Author.Tests.{clash}
 use Rattle.vf_base.specs.declared.element.Element.{Element}
 use Rattle.vf_base.specs.declared.errors.NoMemory.{NoMemory}
 use Rattle.vf_elements.specs.Stages.{takes}
@@ -23,6 +24,14 @@ use Rattle.vf_party_steps.specs.declared.step.Step.{Step}
 use Rattle.vf_party_steps.specs.declared.step.StepError.{StepError}
 use Rattle.vf_party_steps.specs.declared.writing.Writing.{Writing}
 use Rattle.vf_tables.specs.declared.tables.Tables.{Tables}
+
+pub writing_party : (party : Party) (serial : ℕ) (message : Message) → writes_on party serial message ≡ true → (writing : Writing) × (party ≡ parties.Writing writing)
+writing_party (parties.Writing writing) serial message goes = (writing, refl)
+writing_party party serial message goes = absurd (clash goes)
+
+pub sent_element : (party : Party) (serial : ℕ) (message : Message) → writes_on party serial message ≡ true → (element : Element) × (message ≡ messages.Element element)
+sent_element (parties.Writing writing) serial (messages.Element element) goes = (element, refl)
+sent_element party serial message goes = absurd (clash goes)
 
 none_is : (one : Option ℕ) → is_none one ≡ true → one ≡ None
 none_is None is = refl
