@@ -3,8 +3,8 @@ ghost use Rattle.std.specs.Prelude.{[], ◌∷◌};
 ghost use Rattle.vf_elements.specs.declared.message.Said.TheVariants as answers;
 ghost use Rattle.vf_party.specs.Turns.{EndsSaying, IsEnded};
 
-use crate::Said;
 use crate::party::{Outcome, Party, PartyState};
+use crate::{Message, Said};
 use std::alloc::Global;
 use vf_base::NoMemory;
 use vf_locks::Locks;
@@ -53,4 +53,18 @@ pub(crate) fn aborted<S: PartyState>(
     ensures { EndsSaying S.represents S.party_of state (answers.Abort number 0 ∷ []) locks.old locks.new result }
 {
     return ended_saying(alloc, state, Said::Abort { number, place: 0 }, locks);
+}
+
+/// The provider aborts at this message, and the party is gone.
+pub(crate) fn aborted_at<S: PartyState>(
+    alloc: Global,
+    state: S,
+    message: Message,
+    number: u16,
+    locks: &mut Locks,
+) -> Result<Outcome, (Party, NoMemory)>
+    ensures { EndsSaying S.represents S.party_of state (answers.Abort number 0 ∷ []) locks.old locks.new result }
+{
+    drop(message);
+    return aborted(alloc, state, number, locks);
 }

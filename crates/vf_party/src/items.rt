@@ -4,7 +4,7 @@ ghost use Rattle.vf_elements.specs.Stages.{takes};
 ghost use Rattle.vf_elements.specs.declared.message.Message.TheVariants as messages;
 ghost use Rattle.vf_elements.specs.declared.stage.Stage.TheVariants as stages;
 ghost use Rattle.vf_party.specs.Items.{is_item as is_item_meant};
-ghost use Rattle.vf_party.specs.Quiets.{IsQuiet, stage_of};
+ghost use Rattle.vf_party.specs.Quiets.{IsQuiet};
 ghost use Rattle.vf_party.specs.Settings.{setting_of};
 ghost use Rattle.vf_party_steps.specs.Steps.{IsStep};
 ghost use Rattle.vf_party.specs.declared.quiet.Quiet.TheVariants as quiets;
@@ -24,32 +24,8 @@ pub(crate) fn is_item(request: &Pdu) -> bool
     matches!(request.number(), 6 | 8 | 10 | 12 | 14 | 16 | 18 | 20)
 }
 
-/// Takes a request that may be an item and that its regime takes.
-pub(crate) fn take_item(
-    quiet: Quiet,
-    alloc: Global,
-    request: Pdu,
-    setting: Setting,
-    tables: &Tables,
-    locks: &mut Locks,
-) -> Result<Step<Quiet>, (Quiet, StepError)>
-    requires item { is_item_meant request ≡ true }
-    requires taken { takes (stage_of quiet) (messages.Pdu request) ≡ true }
-    ensures consequence { IsStep IsQuiet IsQuiet tables.now locks.old locks.new quiet (setting_of setting) (messages.Pdu request) result }
-    ensures kept { IfErr result (λ back. back.0 ≡ quiet) }
-{
-    match quiet {
-        Quiet::Associated(associated) => {
-            return take_associated(associated, alloc, request, setting, tables, locks);
-        }
-        Quiet::Selected(selected) => {
-            return take_selected(selected, alloc, request, setting, tables, locks);
-        }
-        Quiet::Open(regimes) => return take_open(regimes, alloc, request, setting, tables, locks),
-    }
-}
-
-fn take_associated(
+/// Takes such a request with an association and no selected file.
+pub(crate) fn take_associated(
     associated: Associated,
     alloc: Global,
     request: Pdu,
@@ -82,7 +58,8 @@ fn take_associated(
     }
 }
 
-fn take_selected(
+/// Takes such a request with a selected file that isn't open.
+pub(crate) fn take_selected(
     selected: Selected,
     alloc: Global,
     request: Pdu,
@@ -124,8 +101,9 @@ fn take_selected(
     }
 }
 
+/// Takes such a request with an open file.
 #[inline(never)]
-fn take_open(
+pub(crate) fn take_open(
     regimes: Open,
     alloc: Global,
     request: Pdu,

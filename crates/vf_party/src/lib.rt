@@ -10,7 +10,6 @@ mod departing;
 mod grouping;
 mod hearing;
 mod items;
-mod leaving;
 mod outcomes;
 mod party;
 mod quiet;

@@ -17,7 +17,6 @@ ghost use Rattle.vf_party.specs.declared.quiet.Quiet.TheVariants as quiets;
 ghost use Rattle.vf_tables.specs.Changes.{after_all};
 
 use crate::hearing::{Answered, settled, told};
-use crate::leaving::leave_quiet;
 use crate::selecting::{deselects, hear_deselect, hear_select, selects};
 use crate::taking_group::{hear_end, take_grouping};
 use crate::taking_idle::take_idle;
@@ -135,6 +134,7 @@ impl Party {
         ensures ahead { IfOk result (λ heard. IfSome spare.new (λ second. second ≡ after_all tables.now heard.changes)) }
     {
         if self.ends_group(&message) {
+            drop(message);
             return hear_end(self, alloc, setting, tables, locks, spare);
         }
         *spare = None;
@@ -236,7 +236,7 @@ impl PartyState for Quiet {
     }
 
     fn leave(self, locks: &mut Locks) {
-        leave_quiet(self, locks);
+        Quiet::leave(self, locks);
     }
 }
 

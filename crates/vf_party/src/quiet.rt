@@ -1,19 +1,48 @@
-ghost use Rattle.std.specs.Prelude.{◌≡◌, ℕ};
+ghost use Rattle.std.specs.Prelude.{◌≡◌, ◌==◌, ◌||◌, ℕ, IfErr, None, false, true};
+ghost use Rattle.vf_elements.specs.Stages.{takes};
+ghost use Rattle.vf_elements.specs.declared.message.Message.TheVariants as messages;
+ghost use Rattle.vf_filestore.specs.Aborts.{first_abort};
 ghost use Rattle.vf_filestore.specs.History.{History};
+ghost use Rattle.vf_party.specs.Aborting.{aborts_of_quiet};
+ghost use Rattle.vf_party.specs.Items.{is_item};
 ghost use Rattle.vf_party.specs.Quiets.{IsQuiet, stage_of as stage_meant, taken_as};
+ghost use Rattle.vf_party.specs.Settings.{setting_of};
+ghost use Rattle.vf_party.specs.Turns.{IsTurnOf};
+ghost use Rattle.vf_party_steps.specs.Leaving.{LeavesHolders};
 ghost use Rattle.vf_party_steps.specs.Represents.{IsAssociated, IsOpen, IsSelected};
+ghost use Rattle.vf_party_steps.specs.Steps.{IsStep};
+ghost use Rattle.vf_party.specs.declared.party.Party.TheVariants as parties;
 ghost use Rattle.vf_party.specs.declared.quiet.Quiet.{Quiet as QuietMeant};
 ghost use Rattle.vf_party.specs.declared.quiet.Quiet.TheVariants as quiets;
+ghost use Rattle.vf_party_steps.specs.declared.states.Associated.{Associated as AssociatedMeant};
+ghost use Rattle.vf_party_steps.specs.declared.states.Selected.{Selected as SelectedMeant};
+ghost use Rattle.vf_pdu.specs.PduNumbers.{number_of};
 
-use crate::{Associated, Open, Selected, Step, StepError};
+use crate::party::{Outcome, Party};
+use crate::taking_regime::grouped;
+use crate::{Associated, Open, Selected, Setting, Step, StepError, items, taking_regime};
+use std::alloc::Global;
+use vf_base::NoMemory;
 use vf_elements::Stage;
+use vf_locks::Locks;
+use vf_pdu::Pdu;
+use vf_tables::Tables;
 
 /// A party with an association, in which no transfer is under way.
-#[derive(Drop)]
 pub enum Quiet {
     Associated(Associated),
     Selected(Selected),
     Open(Open),
+}
+
+impl Drop for Quiet {
+    fn drop(self) {
+        match self {
+            Quiet::Associated(associated) => drop(associated),
+            Quiet::Selected(selected) => drop(selected),
+            Quiet::Open(regimes) => drop(regimes),
+        }
+    }
 }
 
 impl Quiet {
@@ -25,6 +54,98 @@ impl Quiet {
             Quiet::Associated(_) => Stage::Associated,
             Quiet::Selected(_) => Stage::Selected,
             Quiet::Open(_) => Stage::Opened,
+        }
+    }
+
+    /// The state with an association and no selected file.
+    pub(crate) fn into_associated(self) -> Associated
+        requires { (associated : AssociatedMeant) × (self ≡ quiets.Associated associated) }
+        ensures { self ≡ quiets.Associated result }
+    {
+        let Quiet::Associated(associated) = self else {
+            unreachable!()
+        };
+        associated
+    }
+
+    /// The state with a selected file that isn't open.
+    pub(crate) fn into_selected(self) -> Selected
+        requires { (selected : SelectedMeant) × (self ≡ quiets.Selected selected) }
+        ensures { self ≡ quiets.Selected result }
+    {
+        let Quiet::Selected(selected) = self else {
+            unreachable!()
+        };
+        selected
+    }
+
+    /// Takes a request that may be an item of a group and that its regime takes.
+    pub(crate) fn take_item(
+        self,
+        alloc: Global,
+        request: Pdu,
+        setting: Setting,
+        tables: &Tables,
+        locks: &mut Locks,
+    ) -> Result<Step<Quiet>, (Quiet, StepError)>
+        requires item { is_item request ≡ true }
+        requires taken { takes (stage_meant self) (messages.Pdu request) ≡ true }
+        ensures consequence { IsStep IsQuiet IsQuiet tables.now locks.old locks.new self (setting_of setting) (messages.Pdu request) result }
+        ensures kept { IfErr result (λ back. back.0 ≡ self) }
+    {
+        match self {
+            Quiet::Associated(associated) => {
+                return items::take_associated(associated, alloc, request, setting, tables, locks);
+            }
+            Quiet::Selected(selected) => {
+                return items::take_selected(selected, alloc, request, setting, tables, locks);
+            }
+            Quiet::Open(regimes) => {
+                return items::take_open(regimes, alloc, request, setting, tables, locks);
+            }
+        }
+    }
+
+    /// Takes a request that its stage takes and nothing aborts, that is no item and by which the initiator doesn't leave.
+    #[inline(never)]
+    pub(crate) fn take_own(
+        self,
+        alloc: Global,
+        request: Pdu,
+        setting: Setting,
+        tables: &Tables,
+        locks: &mut Locks,
+    ) -> Result<Outcome, (Party, NoMemory)>
+        requires taken { takes (stage_meant self) (messages.Pdu request) ≡ true }
+        requires item { is_item request ≡ false }
+        requires stays { (number_of request == 4 || number_of request == 5) ≡ false }
+        requires unbarred { first_abort (aborts_of_quiet self setting.token request) ≡ None }
+        ensures { IsTurnOf IsQuiet parties.Quiet tables.now locks.old locks.new self (setting_of setting) (messages.Pdu request) result }
+    {
+        if let Pdu::BeginGroupRequest { threshold } = request {
+            return Ok(grouped(alloc, self, threshold));
+        }
+        match self {
+            Quiet::Associated(associated) => {
+                return taking_regime::take_associated(
+                    associated, alloc, request, setting, tables, locks,
+                );
+            }
+            Quiet::Selected(_) => unreachable!(),
+            Quiet::Open(regimes) => {
+                return taking_regime::take_open(regimes, alloc, request, setting, tables, locks);
+            }
+        }
+    }
+
+    /// The association is gone: what is left of the party.
+    pub(crate) fn leave(self, locks: &mut Locks)
+        ensures { LeavesHolders IsQuiet self locks.old locks.new }
+    {
+        match self {
+            Quiet::Associated(associated) => associated.leave(locks),
+            Quiet::Selected(selected) => selected.leave(locks),
+            Quiet::Open(regimes) => regimes.leave(locks),
         }
     }
 }

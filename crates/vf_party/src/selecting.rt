@@ -90,6 +90,7 @@ pub(crate) fn hear_deselect(
     requires message { message ≡ messages.Pdu PduMeant.DeselectRequest }
     ensures { IsTurn tables.now locks.old locks.new party.old (setting_of setting) message (turn_in party.new result) }
 {
+    drop(message);
     let selected = selected_in(mem::replace(party, Party::arrived(0)));
     let answer = selected.deselect(
         alloc,
@@ -109,10 +110,10 @@ fn associated_in(party: Party) -> Associated
     requires { (associated : AssociatedMeant) × (party ≡ parties.Quiet (quiets.Associated associated)) }
     ensures { party ≡ parties.Quiet (quiets.Associated result) }
 {
-    let Party::Quiet(Quiet::Associated(associated)) = party else {
+    let Party::Quiet(quiet) = party else {
         unreachable!()
     };
-    associated
+    quiet.into_associated()
 }
 
 /// The state of a party with a selected file that isn't open.
@@ -120,10 +121,10 @@ fn selected_in(party: Party) -> Selected
     requires { (selected : SelectedMeant) × (party ≡ parties.Quiet (quiets.Selected selected)) }
     ensures { party ≡ parties.Quiet (quiets.Selected result) }
 {
-    let Party::Quiet(Quiet::Selected(selected)) = party else {
+    let Party::Quiet(quiet) = party else {
         unreachable!()
     };
-    selected
+    quiet.into_selected()
 }
 
 /// The request that a message is.

@@ -13,11 +13,10 @@ ghost use Rattle.vf_party.specs.declared.party.Party.TheVariants as parties;
 ghost use Rattle.vf_tables.specs.Changes.{after_all};
 
 use crate::aborting::WRONG_STATE;
-use crate::departing::{aborted, ended};
+use crate::departing::{aborted_at, ended};
 use crate::grouping::end_group;
 use crate::hearing::{Answered, settled};
 use crate::items::is_item;
-use crate::leaving::leave_quiet;
 use crate::party::{Grouping, Outcome, Party, PartyState};
 use crate::{Message, Quiet, Setting, Step, StepError};
 use std::alloc::Global;
@@ -41,7 +40,7 @@ impl PartyState for Grouping {
     }
 
     fn leave(self, locks: &mut Locks) {
-        leave_quiet(self.quiet, locks);
+        Quiet::leave(self.quiet, locks);
     }
 }
 
@@ -59,7 +58,7 @@ pub(crate) fn take_grouping(
 {
     let stage = Stage::Grouping;
     if !stage.takes(&message) {
-        return aborted(alloc, grouping, WRONG_STATE, locks);
+        return aborted_at(alloc, grouping, message, WRONG_STATE, locks);
     }
     return take_taken(grouping, alloc, message, setting, tables, locks);
 }
@@ -103,11 +102,13 @@ fn take_request(
     let is_item = is_item(&request);
     if is_item {
         if MOST_ITEMS <= grouping.items.len() {
-            return aborted(alloc, grouping, WRONG_STATE, locks);
+            return aborted_at(alloc, grouping, Message::Pdu(request), WRONG_STATE, locks);
         }
         return added(alloc, grouping, request);
     }
-    if request.number() == 24 {
+    let number = request.number();
+    drop(request);
+    if number == 24 {
         return take_end(grouping, alloc, setting, tables, locks);
     }
     Ok(ended(alloc, grouping, Vec::new(alloc), locks))

@@ -9,7 +9,7 @@ ghost use Rattle.vf_party.specs.Turns.{Associates, IsTurnOf};
 ghost use Rattle.vf_party.specs.declared.party.Party.TheVariants as parties;
 
 use crate::aborting::WRONG_STATE;
-use crate::departing::{aborted, ended};
+use crate::departing::{aborted_at, ended};
 use crate::outcomes::outcome_of;
 use crate::party::{Outcome, Party};
 use crate::refusals::refusal;
@@ -34,7 +34,7 @@ pub(crate) fn take_idle(
     ensures { IsTurnOf IsIdle parties.Idle tables.now locks.old locks.new idle (setting_of setting) message result }
 {
     if !Stage::Idle.takes(&message) {
-        return aborted(alloc, idle, WRONG_STATE, locks);
+        return aborted_at(alloc, idle, message, WRONG_STATE, locks);
     }
     return take_taken(idle, alloc, message, setting, tables, locks);
 }

@@ -15,13 +15,11 @@ ghost use Rattle.vf_party.specs.declared.party.Party.TheVariants as parties;
 ghost use Rattle.vf_pdu.specs.PduNumbers.{number_of};
 
 use crate::aborting::{WRONG_STATE, aborted_in_quiet};
-use crate::departing::aborted;
+use crate::departing::aborted_at;
 use crate::hearing::{Answered, settled};
-use crate::items::{is_item, take_item};
-use crate::leaving::leave_quiet;
+use crate::items::is_item;
 use crate::outcomes::conclude;
 use crate::party::Party;
-use crate::taking_regime::take_own;
 use crate::{Message, Quiet, Setting};
 use std::alloc::Global;
 use vf_base::NoMemory;
@@ -42,7 +40,7 @@ pub(crate) fn take_quiet(
     ensures { IsTurnOf IsQuiet parties.Quiet tables.now locks.old locks.new quiet (setting_of setting) message (turn_in party.new result) }
 {
     if !quiet.stage().takes(&message) {
-        return abort_quiet(party, quiet, alloc, WRONG_STATE, locks);
+        return abort_quiet(party, quiet, alloc, message, WRONG_STATE, locks);
     }
     return take_taken(party, quiet, alloc, message, setting, tables, locks);
 }
@@ -87,15 +85,16 @@ fn take_request(
 {
     let bar = aborted_in_quiet(&quiet, &request, setting.token);
     if let Some(number) = bar {
-        return abort_quiet(party, quiet, alloc, number, locks);
+        return abort_quiet(party, quiet, alloc, Message::Pdu(request), number, locks);
     }
     let number = request.number();
     let is_item = is_item(&request);
     if is_item {
-        let answer = take_item(quiet, alloc, request, setting, tables, locks);
+        let answer = quiet.take_item(alloc, request, setting, tables, locks);
         return conclude(party, alloc, number, answer, locks);
     }
     if is_leaving(number) {
+        drop(request);
         return Ok(end_quiet(alloc, quiet, locks));
     }
     return take_other(party, quiet, alloc, request, setting, tables, locks);
@@ -103,18 +102,19 @@ fn take_request(
 
 // These stand out of line, since the room for what they keep costs each request that comes through one function with them.
 
-/// The provider aborts, and the party is gone.
+/// The provider aborts at this message, and the party is gone.
 #[inline(never)]
 fn abort_quiet(
     party: &mut Party,
     quiet: Quiet,
     alloc: Global,
+    message: Message,
     number: u16,
     locks: &mut Locks,
 ) -> Result<Answered, NoMemory>
     ensures { EndsSaying IsQuiet parties.Quiet quiet (answers.Abort number 0 ∷ []) locks.old locks.new (turn_in party.new result) }
 {
-    let taken = aborted(alloc, quiet, number, locks);
+    let taken = aborted_at(alloc, quiet, message, number, locks);
     return settled(party, taken);
 }
 
@@ -123,7 +123,7 @@ fn abort_quiet(
 fn end_quiet(alloc: Global, quiet: Quiet, locks: &mut Locks) -> Answered
     ensures { (party : PartyMeant) → IsEnded IsQuiet quiet [] locks.old locks.new (outcome_in party result) }
 {
-    leave_quiet(quiet, locks);
+    Quiet::leave(quiet, locks);
     Answered {
         goes: false,
         said: Vec::new(alloc),
@@ -148,7 +148,7 @@ fn take_other(
     requires unbarred { first_abort (aborts_of_quiet quiet setting.token request) ≡ None }
     ensures { IsTurnOf IsQuiet parties.Quiet tables.now locks.old locks.new quiet (setting_of setting) (messages.Pdu request) (turn_in party.new result) }
 {
-    let taken = take_own(quiet, alloc, request, setting, tables, locks);
+    let taken = quiet.take_own(alloc, request, setting, tables, locks);
     return settled(party, taken);
 }
 

@@ -10,7 +10,7 @@ ghost use Rattle.vf_party.specs.Turns.{IsTurnOf};
 ghost use Rattle.vf_party.specs.declared.party.Party.TheVariants as parties;
 
 use crate::aborting::{WRONG_STATE, aborted_in_reading};
-use crate::departing::{aborted, ended};
+use crate::departing::{aborted_at, ended};
 use crate::outcomes::concluded;
 use crate::party::{Outcome, Party};
 use crate::{Message, Reading, Setting};
@@ -33,11 +33,11 @@ pub(crate) fn take_reading(
     ensures { IsTurnOf IsReading parties.Reading tables.now locks.old locks.new reading (setting_of setting) message result }
 {
     if !reading.stage().takes(&message) {
-        return aborted(alloc, reading, WRONG_STATE, locks);
+        return aborted_at(alloc, reading, message, WRONG_STATE, locks);
     }
     let bar = aborted_in_reading(&reading, &message, setting.serial);
     if let Some(number) = bar {
-        return aborted(alloc, reading, number, locks);
+        return aborted_at(alloc, reading, message, number, locks);
     }
     return take_unbarred(reading, alloc, message, setting, tables, locks);
 }

@@ -7,7 +7,7 @@ ghost use Rattle.vf_elements.specs.declared.stage.Stage.TheVariants as stages;
 ghost use Rattle.vf_filestore.specs.Aborts.{first_abort};
 ghost use Rattle.vf_party.specs.Aborting.{aborts_of_quiet};
 ghost use Rattle.vf_party.specs.Items.{is_item as is_item_meant};
-ghost use Rattle.vf_party.specs.Quiets.{IsQuiet, stage_of};
+ghost use Rattle.vf_party.specs.Quiets.{IsQuiet};
 ghost use Rattle.vf_party_steps.specs.Represents.{IsAssociated};
 ghost use Rattle.vf_party.specs.Settings.{setting_of};
 ghost use Rattle.vf_party.specs.Turns.{EndsSaying, IsBegun, IsTurnOf};
@@ -28,36 +28,8 @@ use vf_locks::Locks;
 use vf_pdu::Pdu;
 use vf_tables::{Changes, Tables};
 
-/// Takes a request that its stage takes and nothing aborts, that is no item and by which the initiator doesn't leave.
-#[inline(never)]
-pub(crate) fn take_own(
-    quiet: Quiet,
-    alloc: Global,
-    request: Pdu,
-    setting: Setting,
-    tables: &Tables,
-    locks: &mut Locks,
-) -> Result<Outcome, (Party, NoMemory)>
-    requires taken { takes (stage_of quiet) (messages.Pdu request) ≡ true }
-    requires item { is_item_meant request ≡ false }
-    requires stays { (number_of request == 4 || number_of request == 5) ≡ false }
-    requires unbarred { first_abort (aborts_of_quiet quiet setting.token request) ≡ None }
-    ensures { IsTurnOf IsQuiet parties.Quiet tables.now locks.old locks.new quiet (setting_of setting) (messages.Pdu request) result }
-{
-    if let Pdu::BeginGroupRequest { threshold } = request {
-        return Ok(grouped(alloc, quiet, threshold));
-    }
-    match quiet {
-        Quiet::Associated(associated) => return take_associated(
-            associated, alloc, request, setting, tables, locks,
-        ),
-        Quiet::Selected(_) => unreachable!(),
-        Quiet::Open(regimes) => return take_open(regimes, alloc, request, setting, tables, locks),
-    }
-}
-
 /// A group begins.
-fn grouped(alloc: Global, quiet: Quiet, threshold: u8) -> Outcome
+pub(crate) fn grouped(alloc: Global, quiet: Quiet, threshold: u8) -> Outcome
     ensures { IsBegun quiet threshold result }
 {
     let grouping = Grouping {
@@ -72,8 +44,9 @@ fn grouped(alloc: Global, quiet: Quiet, threshold: u8) -> Outcome
     }
 }
 
-/// Takes such a request with an association and no selected file.
-fn take_associated(
+/// Takes a request with an association and no selected file that its stage takes and nothing aborts, that is no item and
+/// by which the initiator doesn't leave.
+pub(crate) fn take_associated(
     associated: Associated,
     alloc: Global,
     request: Pdu,
@@ -149,7 +122,7 @@ fn take_recovery(
 }
 
 /// Takes such a request with an open file.
-fn take_open(
+pub(crate) fn take_open(
     regimes: Open,
     alloc: Global,
     request: Pdu,

@@ -11,7 +11,7 @@ ghost use Rattle.vf_party.specs.Turns.{IsTurnOf};
 ghost use Rattle.vf_party.specs.declared.party.Party.TheVariants as parties;
 
 use crate::aborting::{WRONG_STATE, aborted_in_writing};
-use crate::departing::{aborted, ended};
+use crate::departing::{aborted_at, ended};
 use crate::outcomes::concluded;
 use crate::party::{Outcome, Party};
 use crate::{Message, Setting, Writing};
@@ -34,11 +34,11 @@ pub(crate) fn take_writing(
     ensures { IsTurnOf IsWriting parties.Writing tables.now locks.old locks.new writing (setting_of setting) message result }
 {
     if !writing.stage().takes(&message) {
-        return aborted(alloc, writing, WRONG_STATE, locks);
+        return aborted_at(alloc, writing, message, WRONG_STATE, locks);
     }
     let bar = aborted_in_writing(&writing, &message, setting.serial);
     if let Some(number) = bar {
-        return aborted(alloc, writing, number, locks);
+        return aborted_at(alloc, writing, message, number, locks);
     }
     return take_unbarred(writing, alloc, message, setting, tables, locks);
 }

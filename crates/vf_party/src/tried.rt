@@ -9,11 +9,17 @@ use vf_tables::{Change, Tables};
 
 /// The tables of a filestore, which stay as they are, and a second of them, in which changes are made: one that was lent, or
 /// a copy once something is changed.
-#[derive(Drop)]
 pub(crate) struct Tried<'t> {
     kept: &'t Tables,
     /// The second, with all changes.
     own: Option<Tables>,
+}
+
+impl Drop for Tried<'_> {
+    fn drop(self) {
+        let Tried { kept: _, own } = self;
+        drop(own);
+    }
 }
 
 impl<'t> Model for Tried<'t> {
@@ -63,7 +69,8 @@ impl<'t> Tried<'t> {
     pub(crate) fn into_second(self) -> Option<Tables>
         ensures { IfSome result (λ second. second ≡ self.entry) }
     {
-        self.own
+        let Tried { kept: _, own } = self;
+        own
     }
 }
 

@@ -6,7 +6,7 @@ ghost use Rattle.vf_party.specs.Settings.{setting_of};
 ghost use Rattle.vf_party.specs.Trials.{AreTried, ComesOf, IsBadItem, IsGoodItem, IsJoined, IsUntried, pdu_of, taken_in};
 ghost use Rattle.vf_tables.specs.Changes.{after_all};
 
-use crate::items::{is_item, take_item};
+use crate::items::is_item;
 use crate::refusals::refusal;
 use crate::tried::Tried;
 use crate::{Message, Quiet, Said, Setting, Step, StepError};
@@ -145,7 +145,7 @@ pub(crate) fn try_item<'t>(
         let trial = refused(alloc, quiet, item.number(), plain(WRONG_REGIME), tables)?;
         return Ok(trial);
     };
-    let answer = take_item(quiet, alloc, request, same(setting), tables.tables(), locks);
+    let answer = quiet.take_item(alloc, request, same(setting), tables.tables(), locks);
     let trial = answered(alloc, item.number(), answer, tables)?;
     Ok(trial)
 }
@@ -171,6 +171,7 @@ fn taken(alloc: Global, quiet: &Quiet, item: &Pdu) -> Result<Option<Pdu>, NoMemo
     let copy = item.copy(alloc)?;
     let message = Message::Pdu(copy);
     if !quiet.stage().takes(&message) {
+        drop(message);
         return Ok(None);
     }
     Ok(pdu_in(message))
@@ -182,7 +183,10 @@ fn pdu_in(message: Message) -> Option<Pdu>
 {
     match message {
         Message::Pdu(pdu) => Some(pdu),
-        _other => None,
+        other => {
+            drop(other);
+            None
+        }
     }
 }
 

@@ -12,8 +12,8 @@ returns-then-len-ge-MOST_ITEMS c = λ state party stands is.
     let grouping = c.args.grouping in
     let setting = setting_of c.args.setting in
     let full = le_true 16 (length grouping.items) (subst (λ (n : ℕ). 16 ≤ n) c.len.ensures c.if-len-ge-MOST_ITEMS.true) in
-    aborted_turn c.args.tables.now c.args.locks.now c.aborted.new.locks grouping setting (messages.Pdu c.args.request) state party stands is c.aborted.result
-    (full_decides c.args.tables.now c.args.locks.now grouping setting c.args.request state party stands is c.requires (sym c.is_item-is_item.ensures ∙ c.if-is_item.true) full) c.aborted.ensures
+    aborted_turn c.args.tables.now c.args.locks.now c.aborted_at.new.locks grouping setting (messages.Pdu c.args.request) state party stands is c.aborted_at.result
+    (full_decides c.args.tables.now c.args.locks.now grouping setting c.args.request state party stands is c.requires (sym c.is_item-is_item.ensures ∙ c.if-is_item.true) full) c.aborted_at.ensures
 
 pub returns-then-is_item : goal.returns-then-is_item
 returns-then-is_item c = λ state party stands is.
@@ -25,12 +25,12 @@ returns-then-is_item c = λ state party stands is.
 pub returns-then-number-eq24 : goal.returns-then-number-eq24
 returns-then-number-eq24 c =
     subst (λ (one : Pdu). IsGroupTurn c.args.tables.now c.args.locks.now c.take_end.new.locks c.args.grouping (setting_of c.args.setting) (messages.Pdu one) c.take_end.result)
-    (sym (end_request c.args.request (ap (λ (n : ℕ). nat_eq n 24) (sym c.number.ensures ∙ c.if-number-eq24.true)))) c.take_end.ensures
+    (sym (end_request c.args.request (ap (λ (n : ℕ). nat_eq n 24) (sym c.number-number.ensures ∙ c.if-number-eq24.true)))) c.take_end.ensures
 
 pub returns : goal.returns
 returns c = λ state party stands is.
     let grouping = c.args.grouping in
     let setting = setting_of c.args.setting in
     leaving_turn c.args.tables.now c.args.locks.now c.ended.new.locks grouping setting (messages.Pdu c.args.request) state party stands is c.ended.result
-    (gone_decides c.args.tables.now c.args.locks.now grouping setting c.args.request state party stands is c.requires (sym c.is_item-is_item.ensures ∙ c.if-is_item.false) (λ e. c.if-number-eq24.false (c.number.ensures ∙ e)))
+    (gone_decides c.args.tables.now c.args.locks.now grouping setting c.args.request state party stands is c.requires (sym c.is_item-is_item.ensures ∙ c.if-is_item.false) (λ e. c.if-number-eq24.false (c.number-number.ensures ∙ e)))
     (record { gone = c.ended.ensures.gone; says = c.ended.ensures.says ∙ c.new.ensures.items; differs = c.ended.ensures.differs; leaves = c.ended.ensures.leaves })

@@ -9,5 +9,5 @@ use Rattle.vf_party.proofs.taking_idle.take_idle.Goals as goal
 
 pub returns-then-not-takes : goal.returns-then-not-takes
 returns-then-not-takes c = λ state party stands histories alone.
-    untaken_turn IsIdle parties.Idle c.args.tables.now c.args.locks.now c.aborted.new.locks c.args.idle (setting_of c.args.setting) c.args.message state party stands alone c.aborted.result
-    (ap (λ stage. takes stage c.args.message) (idle_stage c.args.idle party.link party.history alone.represented) ∙ sym c.takes.ensures ∙ c.if-not-takes.true) c.aborted.ensures
+    untaken_turn IsIdle parties.Idle c.args.tables.now c.args.locks.now c.aborted_at.new.locks c.args.idle (setting_of c.args.setting) c.args.message state party stands alone c.aborted_at.result
+    (ap (λ stage. takes stage c.args.message) (idle_stage c.args.idle party.link party.history alone.represented) ∙ sym c.takes.ensures ∙ c.if-not-takes.true) c.aborted_at.ensures

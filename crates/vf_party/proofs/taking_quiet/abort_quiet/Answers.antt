@@ -7,4 +7,4 @@ use Rattle.vf_party.proofs.taking_quiet.abort_quiet.Goals as goal
 
 pub returns : goal.returns
 returns c =
-    subst (EndsSaying IsQuiet parties.Quiet c.args.quiet (answers.Abort c.args.number 0 ∷ []) c.args.locks.now c.aborted-taken.new.locks) (sym c.settled.ensures) c.aborted-taken.ensures
+    subst (EndsSaying IsQuiet parties.Quiet c.args.quiet (answers.Abort c.args.number 0 ∷ []) c.args.locks.now c.aborted_at-taken.new.locks) (sym c.settled.ensures) c.aborted_at-taken.ensures

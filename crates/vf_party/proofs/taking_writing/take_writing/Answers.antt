@@ -10,16 +10,16 @@ use Rattle.vf_party.proofs.taking_writing.take_writing.Goals as goal
 
 pub returns-then-not-takes : goal.returns-then-not-takes
 returns-then-not-takes c = λ state party stands histories alone.
-    untaken_turn IsWriting parties.Writing c.args.tables.now c.args.locks.now c.aborted.new.locks c.args.writing (setting_of c.args.setting) c.args.message state party stands alone c.aborted.result
-    (ap (λ stage. takes stage c.args.message) (writing_stage c.args.writing party.link party.history alone.represented ∙ sym c.stage.ensures) ∙ sym c.takes.ensures ∙ c.if-not-takes.true) c.aborted.ensures
+    untaken_turn IsWriting parties.Writing c.args.tables.now c.args.locks.now c.aborted_at.new.locks c.args.writing (setting_of c.args.setting) c.args.message state party stands alone c.aborted_at.result
+    (ap (λ stage. takes stage c.args.message) (writing_stage c.args.writing party.link party.history alone.represented ∙ sym c.stage.ensures) ∙ sym c.takes.ensures ∙ c.if-not-takes.true) c.aborted_at.ensures
 
 pub returns-in-Some : goal.returns-in-Some
 returns-in-Some c = λ state party stands histories alone.
     let setting = setting_of c.args.setting in
     let taken = ap (λ stage. takes stage c.args.message) (sym c.stage.ensures) ∙ sym c.takes.ensures ∙ c.if-not-takes.false in
-    barred_turn IsWriting parties.Writing c.args.tables.now c.args.locks.now c.aborted-in-Some.new.locks c.args.writing setting c.args.message state party stands alone c.in-Some.number c.aborted-in-Some.result
+    barred_turn IsWriting parties.Writing c.args.tables.now c.args.locks.now c.aborted_at-in-Some.new.locks c.args.writing setting c.args.message state party stands alone c.in-Some.number c.aborted_at-in-Some.result
     (ap (λ stage. takes stage c.args.message) (writing_stage c.args.writing party.link party.history alone.represented) ∙ taken)
-    (ap first_abort (writing_bars party setting c.args.writing alone.represented c.args.message taken) ∙ sym c.aborted_in_writing-bar.ensures ∙ c.in-Some.is) c.aborted-in-Some.ensures
+    (ap first_abort (writing_bars party setting c.args.writing alone.represented c.args.message taken) ∙ sym c.aborted_in_writing-bar.ensures ∙ c.in-Some.is) c.aborted_at-in-Some.ensures
 
 pub take_unbarred-requires-clause-taken : goal.take_unbarred-requires-clause-taken
 take_unbarred-requires-clause-taken c = ap (λ stage. takes stage c.args.message) (sym c.stage.ensures) ∙ sym c.takes.ensures ∙ c.if-not-takes.false

@@ -54,7 +54,7 @@ returns-clause-trial c = λ state party stands represents are.
     let taken = taken_some (stage_of quiet) item c.in-Some.request (sym c.in_ok-request.ensures ∙ c.in-Some.is) in
     let here : takes (regime_stage party.history) (messages.Pdu item) ≡ true
     = ap (λ (stage : Stage). takes stage (messages.Pdu item)) (stage_is quiet party.link party.history represents) ∙ taken.taken in
-    let looked : c.tables-2.result.now ≡ tables = c.tables-2.ensures in
+    let looked : c.tables.result.now ≡ tables = c.tables.ensures in
     let stands_so = subst (λ (one : Tables). StandsIn one old state party) (sym looked) stands in
     let met = subst (λ (one : Tables). MeetsStep IsQuiet one old new state party (setting_of c.same.result) (messages.Pdu c.in-Some.request) answer) looked
     (c.take_item-answer.ensures.consequence state party stands_so represents (subst (λ (request : Pdu). takes (regime_stage party.history) (messages.Pdu request) ≡ true) taken.same here)) in

@@ -10,16 +10,16 @@ use Rattle.vf_party.specs.declared.party.Party.TheVariants as parties
 use Rattle.vf_pdu.specs.declared.pdu.Pdu.{Pdu}
 use Rattle.vf_party.proofs.Bars.{quiet_bars, quiet_stage}
 use Rattle.vf_party.proofs.Turning.{unbarred_decides, waits_turn}
-use Rattle.vf_party.proofs.taking_regime.take_own.Goals as goal
+use Rattle.vf_party.proofs.quiet.Quiet.take_own.Goals as goal
 
 pub returns-in-BeginGroupRequest : goal.returns-in-BeginGroupRequest
 returns-in-BeginGroupRequest c = λ state party stands histories alone.
     let message = messages.Pdu c.args.request in
-    let taken = ap (λ stage. takes stage message) (quiet_stage c.args.quiet party alone.represented) ∙ c.requires.taken in
-    let unbarred = ap first_abort (quiet_bars party (setting_of c.args.setting) c.args.quiet c.args.request alone.represented c.requires.taken) ∙ c.requires.unbarred in
+    let taken = ap (λ stage. takes stage message) (quiet_stage c.args.self party alone.represented) ∙ c.requires.taken in
+    let unbarred = ap first_abort (quiet_bars party (setting_of c.args.setting) c.args.self c.args.request alone.represented c.requires.taken) ∙ c.requires.unbarred in
     waits_turn c.args.tables.now c.args.locks.now (setting_of c.args.setting) message state party stands c.grouped.result
-    (parties.Grouping (record { quiet = c.args.quiet; threshold = c.in-BeginGroupRequest.threshold; items = [] }))
-    (unbarred_decides IsQuiet parties.Quiet c.args.tables.now c.args.locks.now c.args.locks.now c.args.quiet (setting_of c.args.setting) message state party stands alone taken unbarred
+    (parties.Grouping (record { quiet = c.args.self; threshold = c.in-BeginGroupRequest.threshold; items = [] }))
+    (unbarred_decides IsQuiet parties.Quiet c.args.tables.now c.args.locks.now c.args.locks.now c.args.self (setting_of c.args.setting) message state party stands alone taken unbarred
     ∙ ap (λ (request : Pdu). message_decision state party (setting_of c.args.setting) (messages.Pdu request)) c.in-BeginGroupRequest.is)
     c.grouped.ensures.groups c.grouped.ensures.says c.grouped.ensures.differs
     (record {
