@@ -110,16 +110,16 @@ impl Conduct {
         ensures { IfOk result (λ is_good. Answers (rows given.now setting self.old heard) said.old.items said.new.items self.old self.new is_good) }
     {
         match self.stage {
-            Stage::Associating => self.associating(alloc, given, setting, heard, said),
-            Stage::Recovering => self.recovering(alloc, given, setting, heard, said),
-            Stage::Selecting => self.selecting(alloc, given, heard, said),
-            Stage::Opening => self.opening(alloc, given, setting, heard, said),
-            Stage::Sending(sent) => self.sending(alloc, given, setting, sent, heard, said),
+            Stage::Associating => self.associating(alloc, given, setting, &heard, said),
+            Stage::Recovering => self.recovering(alloc, given, setting, &heard, said),
+            Stage::Selecting => self.selecting(alloc, given, &heard, said),
+            Stage::Opening => self.opening(alloc, given, setting, &heard, said),
+            Stage::Sending(sent) => self.sending(alloc, given, setting, sent, &heard, said),
             Stage::Receiving => self.receiving(alloc, heard, said),
-            Stage::Received { diagnostic } => self.received(alloc, diagnostic, heard, said),
-            Stage::Closing { outcome } => self.closing(alloc, outcome, heard, said),
-            Stage::Deselecting { outcome } => self.deselecting(alloc, outcome, heard, said),
-            Stage::Terminating { outcome } => Ok(self.terminating(outcome, heard)),
+            Stage::Received { diagnostic } => self.received(alloc, diagnostic, &heard, said),
+            Stage::Closing { outcome } => self.closing(alloc, outcome, &heard, said),
+            Stage::Deselecting { outcome } => self.deselecting(alloc, outcome, &heard, said),
+            Stage::Terminating { outcome } => Ok(self.terminating(outcome, &heard)),
             Stage::Over(_) => Ok(false),
         }
     }

@@ -23,10 +23,10 @@ impl Conduct {
         alloc: Global,
         given: &Given,
         setting: Setting,
-        heard: Heard,
+        heard: &Heard,
         said: &mut Vec<Request>,
     ) -> Result<bool, NoMemory>
-        ensures { IfOk result (λ is_good. Answers (rows.associating given.now setting self.old heard) said.old.items said.new.items self.old self.new is_good) }
+        ensures { IfOk result (λ is_good. Answers (rows.associating given.now setting self.old heard.now) said.old.items said.new.items self.old self.new is_good) }
     {
         match heard {
             Heard::Accepted {
@@ -35,8 +35,8 @@ impl Conduct {
                 window,
             } => {
                 self.agreed = Agreed {
-                    checks: given.assignment.activity.is_some() && units & CHECK_UNITS != 0,
-                    window,
+                    checks: given.assignment.activity.is_some() && *units & CHECK_UNITS != 0,
+                    window: *window,
                 };
                 self.associated(alloc, given, setting, said)?;
                 Ok(true)
@@ -46,13 +46,13 @@ impl Conduct {
                 ..
             } => {
                 said.push(abort(alloc)?)?;
-                self.refuse(diagnostic);
+                self.refuse(*diagnostic);
                 Ok(true)
             }
             Heard::Refused {
                 diagnostic: Some(diagnostic),
             } => {
-                self.refuse(diagnostic);
+                self.refuse(*diagnostic);
                 Ok(true)
             }
             _ => Ok(false),

@@ -59,15 +59,15 @@ impl Conduct {
         &mut self,
         alloc: Global,
         outcome: Option<Diagnostic>,
-        heard: Heard,
+        heard: &Heard,
         said: &mut Vec<Request>,
     ) -> Result<bool, NoMemory>
-        ensures { IfOk result (λ is_good. Answers (rows.closing self.old outcome heard) said.old.items said.new.items self.old self.new is_good) }
+        ensures { IfOk result (λ is_good. Answers (rows.closing self.old outcome heard.now) said.old.items said.new.items self.old self.new is_good) }
     {
         let Heard::Closed { diagnostic } = heard else {
             return Ok(false);
         };
-        if let Some(diagnostic) = diagnostic {
+        if let Some(diagnostic) = *diagnostic {
             said.push(abort(alloc)?)?;
             self.refuse(diagnostic);
             return Ok(true);
@@ -81,15 +81,15 @@ impl Conduct {
         &mut self,
         alloc: Global,
         outcome: Option<Diagnostic>,
-        heard: Heard,
+        heard: &Heard,
         said: &mut Vec<Request>,
     ) -> Result<bool, NoMemory>
-        ensures { IfOk result (λ is_good. Answers (rows.deselecting self.old outcome heard) said.old.items said.new.items self.old self.new is_good) }
+        ensures { IfOk result (λ is_good. Answers (rows.deselecting self.old outcome heard.now) said.old.items said.new.items self.old self.new is_good) }
     {
         let Heard::Deselected { diagnostic } = heard else {
             return Ok(false);
         };
-        if let Some(diagnostic) = diagnostic {
+        if let Some(diagnostic) = *diagnostic {
             said.push(abort(alloc)?)?;
             self.refuse(diagnostic);
             return Ok(true);
@@ -100,8 +100,8 @@ impl Conduct {
     }
 
     /// The task ends with its outcome.
-    pub(crate) fn terminating(&mut self, outcome: Option<Diagnostic>, heard: Heard) -> bool
-        ensures { (said : List RequestMeant) → Answers (rows.terminating self.old outcome heard) said said self.old self.new result }
+    pub(crate) fn terminating(&mut self, outcome: Option<Diagnostic>, heard: &Heard) -> bool
+        ensures { (said : List RequestMeant) → Answers (rows.terminating self.old outcome heard.now) said said self.old self.new result }
     {
         if !matches!(heard, Heard::Terminated) {
             return false;

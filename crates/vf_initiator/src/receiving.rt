@@ -60,10 +60,10 @@ impl Conduct {
         &mut self,
         alloc: Global,
         data_end: Option<Diagnostic>,
-        heard: Heard,
+        heard: &Heard,
         said: &mut Vec<Request>,
     ) -> Result<bool, NoMemory>
-        ensures { IfOk result (λ is_good. Answers (rows.received self.old data_end heard) said.old.items said.new.items self.old self.new is_good) }
+        ensures { IfOk result (λ is_good. Answers (rows.received self.old data_end heard.now) said.old.items said.new.items self.old self.new is_good) }
     {
         let Heard::TransferEnded { diagnostic } = heard else {
             return Ok(false);

@@ -24,10 +24,10 @@ impl Conduct {
         alloc: Global,
         given: &Given,
         setting: Setting,
-        heard: Heard,
+        heard: &Heard,
         said: &mut Vec<Request>,
     ) -> Result<bool, NoMemory>
-        ensures { IfOk result (λ is_good. Answers (rows.recovering given.now setting self.old heard) said.old.items said.new.items self.old self.new is_good) }
+        ensures { IfOk result (λ is_good. Answers (rows.recovering given.now setting self.old heard.now) said.old.items said.new.items self.old self.new is_good) }
     {
         let Heard::Recovered {
             diagnostic,
@@ -39,14 +39,14 @@ impl Conduct {
         else {
             return Ok(false);
         };
-        if let Some(diagnostic) = diagnostic {
+        if let Some(diagnostic) = *diagnostic {
             self.not_recovered(alloc, given, diagnostic, said)?;
             return Ok(true);
         }
-        if moving {
-            return self.going_on(alloc, given, setting, number, point, said);
+        if *moving {
+            return self.going_on(alloc, given, setting, *number, *point, said);
         }
-        self.standing(alloc, given, setting, number, last, said)
+        self.standing(alloc, given, setting, *number, *last, said)
     }
 
     /// The other end keeps nothing: a task that is concluded ends, any other begins anew. Any other diagnostic refuses the

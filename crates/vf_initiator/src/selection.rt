@@ -19,12 +19,12 @@ impl Conduct {
         &mut self,
         alloc: Global,
         given: &Given,
-        heard: Heard,
+        heard: &Heard,
         said: &mut Vec<Request>,
     ) -> Result<bool, NoMemory>
-        ensures { IfOk result (λ is_good. Answers (rows.selecting given.now self.old heard) said.old.items said.new.items self.old self.new is_good) }
+        ensures { IfOk result (λ is_good. Answers (rows.selecting given.now self.old heard.now) said.old.items said.new.items self.old self.new is_good) }
     {
-        let Some(answer) = selection_in(given.assignment.way, &heard) else {
+        let Some(answer) = selection_in(given.assignment.way, heard) else {
             return Ok(false);
         };
         if let Some(diagnostic) = answer {
@@ -44,15 +44,15 @@ impl Conduct {
         alloc: Global,
         given: &Given,
         setting: Setting,
-        heard: Heard,
+        heard: &Heard,
         said: &mut Vec<Request>,
     ) -> Result<bool, NoMemory>
-        ensures { IfOk result (λ is_good. Answers (rows.opening given.now setting self.old heard) said.old.items said.new.items self.old self.new is_good) }
+        ensures { IfOk result (λ is_good. Answers (rows.opening given.now setting self.old heard.now) said.old.items said.new.items self.old self.new is_good) }
     {
         let Heard::Opened { diagnostic } = heard else {
             return Ok(false);
         };
-        if let Some(diagnostic) = diagnostic {
+        if let Some(diagnostic) = *diagnostic {
             said.push(abort(alloc)?)?;
             self.refuse(diagnostic);
             return Ok(true);

@@ -36,20 +36,20 @@ impl Conduct {
         given: &Given,
         setting: Setting,
         sent: Sent,
-        heard: Heard,
+        heard: &Heard,
         said: &mut Vec<Request>,
     ) -> Result<bool, NoMemory>
-        ensures { IfOk result (λ is_good. Answers (rows.sending given.now setting self.old sent heard) said.old.items said.new.items self.old self.new is_good) }
+        ensures { IfOk result (λ is_good. Answers (rows.sending given.now setting self.old sent heard.now) said.old.items said.new.items self.old self.new is_good) }
     {
         match heard {
             Heard::Acknowledged { serial } => {
-                self.acknowledged(alloc, given, setting, sent, serial, said)
+                self.acknowledged(alloc, given, setting, sent, *serial, said)
             }
             Heard::TransferEnded { diagnostic } => {
                 if !sent.is_ended {
                     return Ok(false);
                 }
-                self.conclude(alloc, diagnostic, said)?;
+                self.conclude(alloc, *diagnostic, said)?;
                 Ok(true)
             }
             _ => Ok(false),
