@@ -89,9 +89,14 @@ impl Conduct {
 fn selection_in(way: Way, heard: &Heard) -> Option<Option<Diagnostic>>
     ensures { result ≡ rows.selection_in way heard.now }
 {
-    match (way, heard) {
-        (Way::Put, Heard::Created { diagnostic }) => Some(*diagnostic),
-        (Way::Get, Heard::Selected { diagnostic }) => Some(*diagnostic),
-        _ => None,
+    match way {
+        Way::Put => match heard {
+            Heard::Created { diagnostic } => Some(*diagnostic),
+            _ => None,
+        },
+        Way::Get => match heard {
+            Heard::Selected { diagnostic } => Some(*diagnostic),
+            _ => None,
+        },
     }
 }
