@@ -35,8 +35,11 @@ is_check_due pace sent serial =
 abbrev pub is_full : Pace → Sent → Bool
 is_full pace sent = nat_le (pace.point + pace.window) sent.offered
 
+abbrev pub end_said : List Request
+end_said = item (DataEnd None) ∷ item TransferEndRequest ∷ []
+
 abbrev pub all_sent : Sent → Saying
-all_sent sent = record { said = item (DataEnd None) ∷ item TransferEndRequest ∷ []; sent = record sent { is_ended = true } }
+all_sent sent = record { said = end_said; sent = record sent { is_ended = true } }
 
 -- after a check: nothing where the window is full
 abbrev pub unless_full : Pace → Sent → Saying → Saying

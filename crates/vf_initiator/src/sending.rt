@@ -1,5 +1,5 @@
 //! The values of a put, its checkpoints, and their acknowledgements (ISO 8571-3, F-DATA and F-CHECK).
-ghost use Rattle.std.specs.Prelude.{◌≡◌, ◌+◌, ◌<◌, ◌≤◌, ◌∷◌, ◌&&◌, IfOk, IsTrue, length};
+ghost use Rattle.std.specs.Prelude.{◌≡◌, ◌+◌, ◌<◌, ◌≤◌, ◌∷◌, ◌++◌, ◌&&◌, IfOk, IsTrue, length};
 ghost use Rattle.vf_initiator.specs.Rows as rows;
 ghost use Rattle.vf_initiator.specs.Steps.{Answers, Follows};
 ghost use Rattle.vf_initiator.specs.Values as values_meant;
@@ -168,10 +168,18 @@ fn send_values(
             return Ok(now.sent);
         }
     }
-    said.push(item(alloc, Pdu::DataEnd { diagnostic: None })?)?;
-    said.push(item(alloc, Pdu::TransferEndRequest)?)?;
+    send_end(alloc, said)?;
     now.sent.is_ended = true;
     Ok(now.sent)
+}
+
+/// Sends the end of the data and of the transfer.
+fn send_end(alloc: Global, said: &mut Vec<Request>) -> Result<(), NoMemory>
+    ensures { IfOk result (λ done. said.new.items ≡ said.old.items ++ values_meant.end_said) }
+{
+    said.push(item(alloc, Pdu::DataEnd { diagnostic: None })?)?;
+    said.push(item(alloc, Pdu::TransferEndRequest)?)?;
+    Ok(())
 }
 
 /// Sends a value, and a check behind it where one is due; false where the window is full then.
