@@ -63,7 +63,6 @@ impl Task {
 }
 
 /// A task, in whose name it is done, and whether it is kept.
-#[derive(Drop)]
 pub struct Plan {
     pub task: Task,
     pub identity: Name,
@@ -71,6 +70,20 @@ pub struct Plan {
     pub password: Option<Octets>,
     /// With an activity, 1 to 2147483647, the task is kept, and goes on after a connection that broke.
     pub activity: Option<u32>,
+}
+
+impl Drop for Plan {
+    fn drop(self) {
+        let Plan {
+            task,
+            identity,
+            password,
+            activity: _,
+        } = self;
+        drop(task);
+        drop(identity);
+        drop(password);
+    }
 }
 
 /// How a task ended well.
