@@ -88,25 +88,18 @@ impl Initiator {
         ensures sent { IfOk result (λ made. out.new.items ≡ out.old.items ++ packet connection_request) }
         ensures memory { OnErr result (out.new.items ≡ out.old.items) }
     {
-        let progress = Progress::of(kept);
-        let gathered = gathered_of(alloc, &plan, kept)?;
+        let conduct = conduct_of(alloc, &plan, kept)?;
         let given = Given::of(alloc, plan, kept)?;
         let greeting = associate(alloc, &given.plan, &given.assignment)?;
-        let stack = Stack::calling(alloc, given.assignment.activity.is_some(), out)?;
+        let Ok(stack) = Stack::calling(alloc, given.assignment.activity.is_some(), out) else {
+            drop(greeting);
+            return Err(NoMemory);
+        };
         Ok(Initiator {
             given,
             stack,
             greeting: Some(greeting),
-            conduct: Conduct {
-                stage: Stage::Associating,
-                progress,
-                gathered,
-                agreed: Agreed {
-                    checks: false,
-                    window: 1,
-                },
-                good: 0,
-            },
+            conduct,
             waiting: VecDeque::new(alloc),
             octets: 0,
         })
@@ -404,6 +397,23 @@ fn gathered_of(alloc: Global, plan: &Plan, kept: Option<&KeptTask>) -> Result<Ga
         None => Gathered::of(alloc, &[]),
         Some(task) => Gathered::of(alloc, task.staged.as_slice()),
     }
+}
+
+/// How an initiator stands before it has heard anything.
+fn conduct_of(alloc: Global, plan: &Plan, kept: Option<&KeptTask>) -> Result<Conduct, NoMemory>
+    ensures { IfOk result (λ made. made ≡ beginning plan.now (option_copied kept.entry)) }
+{
+    let gathered = gathered_of(alloc, plan, kept)?;
+    Ok(Conduct {
+        stage: Stage::Associating,
+        progress: Progress::of(kept),
+        gathered,
+        agreed: Agreed {
+            checks: false,
+            window: 1,
+        },
+        good: 0,
+    })
 }
 
 /// Appends octets; where there are none yet they aren't copied.
