@@ -1,4 +1,4 @@
-use Rattle.std.proofs.Common.{arith, true, false}
+use Rattle.std.proofs.Common.{arith}
 use Rattle.std.proofs.lemmas.Bool.Decides.{nat_tests}
 use Rattle.vf_initiator.specs.Gathering.{after_marks, by_marks}
 use Rattle.vf_initiator.proofs.Kept.{after_there, back_there, other_early, other_none, other_there, there_by}
