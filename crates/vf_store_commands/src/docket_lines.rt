@@ -1,10 +1,9 @@
 //! The lines of dockets and tasks.
 ghost use Rattle.std.specs.Prelude.{◌≡◌, ◌++◌, IfOk, OnOk};
 ghost use Rattle.std.specs.List.{flat_map};
-ghost use Rattle.std.specs.String.{string_bytes};
 ghost use Rattle.vf_store_commands.specs.Dockets.{direction_word, docket_line, docket_lines, number_between, task_line, way_word};
 
-use crate::file_lines::numbers;
+use crate::file_lines::append_numbers;
 use std::alloc::Global;
 use vf_base::NoMemory;
 use vf_tables::{Direction, Docket, Tables, Task, Way};
@@ -42,13 +41,11 @@ fn append_docket(alloc: Global, docket: &Docket, text: &mut Vec<u8>) -> Result<(
     ensures { OnOk result (text.new.items ≡ text.old.items ++ docket_line docket.now) }
 {
     let regime = &docket.regime;
-    let activity = number(alloc, regime.activity)?;
-    let numbers = numbers(alloc, u64::from(regime.number), regime.point)?;
     text.extend_from_slice(b"docket\t")?;
     text.extend_from_slice(regime.identity.as_slice())?;
-    text.extend_from_slice(activity.as_bytes())?;
+    append_number(alloc, regime.activity, text)?;
     text.extend_from_slice(word_of(regime.direction))?;
-    text.extend_from_slice(numbers.as_bytes())?;
+    append_numbers(alloc, u64::from(regime.number), regime.point, text)?;
     text.extend_from_slice(regime.file.as_slice())?;
     text.push(b'\n')?;
     Ok(())
@@ -59,23 +56,22 @@ fn append_task(alloc: Global, task: &Task, text: &mut Vec<u8>) -> Result<(), NoM
     ensures { OnOk result (text.new.items ≡ text.old.items ++ task_line task.now) }
 {
     let plan = &task.plan;
-    let activity = number(alloc, plan.activity)?;
-    let numbers = numbers(alloc, u64::from(plan.number), plan.point)?;
     text.extend_from_slice(b"task")?;
-    text.extend_from_slice(activity.as_bytes())?;
+    append_number(alloc, plan.activity, text)?;
     text.extend_from_slice(word_of_way(plan.way))?;
-    text.extend_from_slice(numbers.as_bytes())?;
+    append_numbers(alloc, u64::from(plan.number), plan.point, text)?;
     text.extend_from_slice(plan.file.as_slice())?;
     text.push(b'\n')?;
     Ok(())
 }
 
-/// A number between tabs.
-fn number(alloc: Global, number: u32) -> Result<String, NoMemory>
-    ensures { IfOk result (λ text. string_bytes text ≡ number_between number) }
+/// Appends a number between tabs.
+fn append_number(alloc: Global, number: u32, text: &mut Vec<u8>) -> Result<(), NoMemory>
+    ensures { OnOk result (text.new.items ≡ text.old.items ++ number_between number) }
 {
-    let text = format!(in alloc; "\t{number}\t")?;
-    Ok(text)
+    let number = format!(in alloc; "\t{number}\t")?;
+    text.extend_from_slice(number.as_bytes())?;
+    Ok(())
 }
 
 /// Which transfer is under way.

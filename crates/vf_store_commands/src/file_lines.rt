@@ -2,15 +2,15 @@
 ghost use Rattle.std.specs.Prelude.{◌≡◌, ◌++◌, List, IfOk, OnOk, map};
 ghost use Rattle.std.specs.Cmp.Lexicographic.{slice_cmp};
 ghost use Rattle.std.specs.Ordering.{nat_cmp};
-ghost use Rattle.std.specs.String.{string_bytes};
 ghost use Rattle.vf_attr.specs.declared.file.File.{File as FileMeant};
+ghost use Rattle.vf_base.specs.Moment.{moment_text};
 ghost use Rattle.vf_doctype.specs.DocumentTypes.{kind_of};
 ghost use Rattle.vf_store_commands.specs.Listing.{IsInOrder, file_line, file_lines, numbers_between, type_word};
 
 use std::alloc::Global;
 use std::cmp::Ordering;
 use vf_attr::File;
-use vf_base::{NoMemory, Oid};
+use vf_base::{Moment, NoMemory, Oid};
 
 /// The lines of files, in the order of their names.
 pub fn text_of_files(alloc: Global, files: &[File]) -> Result<Vec<u8>, NoMemory>
@@ -46,23 +46,36 @@ fn by_name(one: &File, other: &File) -> Ordering
 fn append_line(alloc: Global, file: &File, text: &mut Vec<u8>) -> Result<(), NoMemory>
     ensures { OnOk result (text.new.items ≡ text.old.items ++ file_line file.now) }
 {
-    let numbers = numbers(alloc, file.tree.size(), file.version)?;
-    let date = file.created.moment.text(alloc)?;
     text.extend_from_slice(word_of(&file.contents.kind))?;
-    text.extend_from_slice(numbers.as_bytes())?;
-    text.extend_from_slice(date.as_slice())?;
+    append_numbers(alloc, file.tree.size(), file.version, text)?;
+    append_moment(alloc, &file.created.moment, text)?;
     text.push(b'\t')?;
     text.extend_from_slice(file.name.as_slice())?;
     text.push(b'\n')?;
     Ok(())
 }
 
-/// The size in octets and the version, between tabs.
-pub(crate) fn numbers(alloc: Global, size: u64, version: u32) -> Result<String, NoMemory>
-    ensures { IfOk result (λ text. string_bytes text ≡ numbers_between size version) }
+/// Appends the size in octets and the version, between tabs.
+pub(crate) fn append_numbers(
+    alloc: Global,
+    size: u64,
+    version: u32,
+    text: &mut Vec<u8>,
+) -> Result<(), NoMemory>
+    ensures { OnOk result (text.new.items ≡ text.old.items ++ numbers_between size version) }
 {
-    let text = format!(in alloc; "\t{size}\t{version}\t")?;
-    Ok(text)
+    let numbers = format!(in alloc; "\t{size}\t{version}\t")?;
+    text.extend_from_slice(numbers.as_bytes())?;
+    Ok(())
+}
+
+/// Appends a date and time.
+fn append_moment(alloc: Global, moment: &Moment, text: &mut Vec<u8>) -> Result<(), NoMemory>
+    ensures { OnOk result (text.new.items ≡ text.old.items ++ moment_text moment.now) }
+{
+    let date = moment.text(alloc)?;
+    text.extend_from_slice(date.as_slice())?;
+    Ok(())
 }
 
 /// The document type of a contents type.
