@@ -263,9 +263,20 @@ pub(crate) fn read_users<I: Source>(alloc: Global, input: &mut I) -> Result<Told
     ensures failed { IsErrOf result ReadError.Failed → HasRisen (I.fault_count input.old) (I.fault_count input.new) }
 {
     let mut block = room_for_a_block(alloc)?;
+    read_lines(alloc, input, block.as_mut_slice())
+}
+
+/// The same, as many octets at a time as the block has.
+fn read_lines<I: Source>(alloc: Global, input: &mut I, block: &mut [u8]) -> Result<Told, ReadError>
+    requires { 0 < length block.old }
+    ensures tells { (octets : List ℕ) → I.left input.old ≡ Some octets → IfOk result (λ told. Tells octets told) }
+    ensures end { IfOk result (λ told. IsUsers told → IsAtEnd (I.left input.new)) }
+    ensures falls { NeverFalls (I.fault_count input.old) (I.fault_count input.new) }
+    ensures failed { IsErrOf result ReadError.Failed → HasRisen (I.fault_count input.old) (I.fault_count input.new) }
+{
     let mut lines = UserLines::new(alloc);
     loop {
-        let count = input.read(block.as_mut_slice())?;
+        let count = input.read(block)?;
         if count == 0 {
             let told = lines.end(alloc)?;
             return Ok(told);
