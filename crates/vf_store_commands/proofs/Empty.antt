@@ -1,5 +1,5 @@
 -- A disk that is asked whether it is empty, and what lines lead to.
-use Rattle.std.proofs.Common.{◌≡◌, inl, inr, ⊎_elim, ℕ, List, [], ◌∷◌, length, Option, Some, Ok, refl, sym, subst, arith, ◌∙◌}
+use Rattle.std.proofs.Common.{◌≡◌, inl, inr, ⊎_elim, ℕ, List, [], ◌∷◌, length, Option, Some, Ok, Err, refl, sym, subst, ◌∙◌}
 use Rattle.vf_disk.specs.Disk.{Elapses, LeavesOnly, LeavesShown, Within}
 use Rattle.vf_disk.proofs.Runs.{joined, leaves_after, leaves_at_first, leaves_octets}
 use Rattle.vf_journal.specs.Image.{refusal}
@@ -10,7 +10,9 @@ use Rattle.vf_store_commands.specs.ErrorLines.{no_store_line}
 use Rattle.vf_store_commands.specs.Reading.{Tells}
 use Rattle.vf_store_commands.specs.UserLines.{users_told}
 use Rattle.vf_store_commands.specs.declared.user_lines.Told.{Told}
-use Rattle.vf_store_commands.specs.declared.user_lines.Told.TheVariants.{Users}
+use Rattle.vf_store_commands.specs.declared.user_lines.Told.TheVariants.{Users, Bad}
+use Rattle.vf_store_commands.proofs.Faults.{status_of}
+use Rattle.vf_store_commands.proofs.Statuses.{apart}
 
 -- the disk is empty, or it isn't
 pub on_empty_disk : (octets lines : List ℕ) → length octets ≡ 0 → printed_told (users_told lines) ≡ printed_by_init octets lines
@@ -33,20 +35,18 @@ empty_may lines = inl (inl refl)
 pub making_may : (lines : List ℕ) (users : List User) → users_told lines ≡ Ok users → (image : List ℕ) → IsMaking users image → MayLeave lines image
 making_may lines users told image making = ⊎_elim (λ none. inl none) (λ held. inr (users, told, held)) making
 
--- what was told is these users
+-- what was told is these users, or a bad line
 pub tells_users : (lines : List ℕ) (told : Told) (users : List User) → told ≡ Users users → Tells lines told → users_told lines ≡ Ok users
 tells_users lines told users is tells = subst (Tells lines) is tells
+
+pub tells_bad : (lines : List ℕ) (told : Told) (number : ℕ) → told ≡ Bad number → Tells lines told → users_told lines ≡ Err number
+tells_bad lines told number is tells = subst (Tells lines) is tells
 
 -- a store of users was made, or is being made
 pub zero_alone : (octets : List ℕ) (status : ℕ) (old new : Option (List ℕ)) → Prints (4 ∷ 5 ∷ 9 ∷ []) (record { octets = octets; status = 0 }) status old new
     → IsOneOf (3 ∷ 8 ∷ 11 ∷ []) status → ⊥
 zero_alone octets status old new prints is =
-    let none : (number : ℕ) → status ≡ number → (number ≡ 0 → ⊥) → (number ≡ 4 → ⊥) → (number ≡ 5 → ⊥) → (number ≡ 9 → ⊥) → ⊥ =
-    λ number e zero four five nine. ⊎_elim (λ all. zero (sym e ∙ all.0))
-    (λ some. ⊎_elim (λ a. four (sym e ∙ a)) (λ b. ⊎_elim (λ x. five (sym e ∙ x)) (λ y. ⊎_elim (λ z. nine (sym e ∙ z)) (λ n. absurd n) y) b) some.0) prints in
-    ⊎_elim (λ three. none 3 three (λ e. omega arith) (λ e. omega arith) (λ e. omega arith) (λ e. omega arith))
-    (λ rest. ⊎_elim (λ eight. none 8 eight (λ e. omega arith) (λ e. omega arith) (λ e. omega arith) (λ e. omega arith))
-    (λ last. ⊎_elim (λ eleven. none 11 eleven (λ e. omega arith) (λ e. omega arith) (λ e. omega arith) (λ e. omega arith)) (λ n. absurd n) last) rest) is
+    apart (0 ∷ 4 ∷ 5 ∷ 9 ∷ []) (3 ∷ 8 ∷ 11 ∷ []) status refl (status_of (4 ∷ 5 ∷ 9 ∷ []) (record { octets = octets; status = 0 }) status old new prints) is
 
 pub empty_making : (users : List User) → IsMaking users []
 unfolding refusal

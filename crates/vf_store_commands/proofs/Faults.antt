@@ -1,5 +1,6 @@
 -- What was printed, with other faults too.
-use Rattle.std.proofs.Common.{◌≡◌, inl, inr, ⊎_elim, ℕ, false, nat_eq, List, [], ◌∷◌, Option, Some, None, Err, refl, sym, ap, subst, ◌∙◌}
+use Rattle.std.proofs.Common.{◌≡◌, inl, inr, ⊎_elim, ℕ, true, false, nat_eq, List, [], ◌∷◌, Option, Some, None, Err, refl, sym, ap, subst, ◌∙◌}
+use Rattle.std.proofs.lemmas.List.{append-nil}
 use Rattle.vf_attr.specs.declared.file.File.{File}
 use Rattle.vf_journal.specs.Answers.{is_fault}
 use Rattle.vf_journal.specs.Image.{Refusal, refusal}
@@ -10,29 +11,25 @@ use Rattle.vf_store_commands.specs.Listing.{PrintsOpened}
 use Rattle.vf_store_commands.specs.Making.{IsOutside}
 use Rattle.vf_cli_printing.specs.Printed.{IsOneOf, Printed, Prints, Wrote}
 use Rattle.vf_store_commands.specs.ErrorLines.{PrintsError, no_store_line}
+use Rattle.vf_store_commands.proofs.Statuses.{among, has_all}
 
-pub more_faults : (faults others : List ℕ) (printed : Printed) (status : ℕ) (old new : Option (List ℕ)) → (IsOneOf faults status → IsOneOf others status)
-    → Prints faults printed status old new → Prints others printed status old new
-more_faults faults others printed status old new among prints = ⊎_elim (λ all. inl all) (λ some. inr (among some.0, some.1)) prints
+pub more_faults : (faults others : List ℕ) (printed : Printed) (status : ℕ) (old new : Option (List ℕ)) → has_all others faults ≡ true → Prints faults printed status old new → Prints others printed status old new
+more_faults faults others printed status old new all prints = ⊎_elim (λ whole. inl whole) (λ some. inr (among faults others status all some.0, some.1)) prints
 
-pub four_more : (status : ℕ) → IsOneOf (4 ∷ []) status → IsOneOf (4 ∷ 9 ∷ []) status
-four_more status is = ⊎_elim (λ e. inl e) (λ none. absurd none) is
-
-pub four_all : (status : ℕ) → IsOneOf (4 ∷ []) status → IsOneOf (4 ∷ 5 ∷ 9 ∷ []) status
-four_all status is = ⊎_elim (λ e. inl e) (λ none. absurd none) is
-
-pub five_more : (status : ℕ) → IsOneOf (4 ∷ 9 ∷ []) status → IsOneOf (4 ∷ 5 ∷ 9 ∷ []) status
-five_more status is = ⊎_elim (λ e. inl e) (λ nine. inr (inr nine)) is
-
-pub three_more : (status : ℕ) → IsOneOf (4 ∷ 5 ∷ 9 ∷ []) status → IsOneOf (3 ∷ 4 ∷ 5 ∷ 9 ∷ []) status
-three_more status is = inr is
-
-pub three_five_more : (status : ℕ) → IsOneOf (4 ∷ 9 ∷ []) status → IsOneOf (3 ∷ 4 ∷ 5 ∷ 9 ∷ []) status
-three_five_more status is = inr (five_more status is)
+-- with its own status, or one of the faults
+pub status_of : (faults : List ℕ) (printed : Printed) (status : ℕ) (old new : Option (List ℕ)) → Prints faults printed status old new → IsOneOf (printed.status ∷ faults) status
+status_of faults printed status old new prints = ⊎_elim (λ whole. inl whole.0) (λ some. inr some.0) prints
 
 -- nothing was written before a fault
 pub nothing : (faults : List ℕ) (printed : Printed) (status : ℕ) (old new : Option (List ℕ)) → IsOneOf faults status → Wrote [] old new → Prints faults printed status old new
 nothing faults printed status old new is wrote = inr (is, ([], printed.octets, refl, wrote))
+
+wrote_nothing : (old : Option (List ℕ)) → Wrote [] old old
+wrote_nothing None = tt
+wrote_nothing (Some octets) = ap Some (sym (append-nil octets))
+
+pub nothing_at_all : (faults : List ℕ) (printed : Printed) (status : ℕ) (old : Option (List ℕ)) → IsOneOf faults status → Prints faults printed status old old
+nothing_at_all faults printed status old is = nothing faults printed status old old is (wrote_nothing old)
 
 module _ (image : List ℕ) (files : List File) (status : ℕ) (old new : Option (List ℕ)) where
   faulty : (refused : Option Refusal) → status ≡ 5 → Wrote [] old new → PrintsOpened refused files status old new
@@ -42,7 +39,7 @@ module _ (image : List ℕ) (files : List File) (status : ℕ) (old new : Option
   pub error_printed : (error : JournalError) → IsOpenError image error → PrintsError error status old new → PrintsOpened (refusal image) files status old new
   error_printed (NotAStore place found expected) is prints =
       subst (λ (r : Option Refusal). PrintsOpened r files status old new) (sym is)
-      (more_faults (4 ∷ 9 ∷ []) (4 ∷ 5 ∷ 9 ∷ []) (record { octets = no_store_line place; status = 8 }) status old new (five_more status) prints)
+      (more_faults (4 ∷ 9 ∷ []) (4 ∷ 5 ∷ 9 ∷ []) (record { octets = no_store_line place; status = 8 }) status old new refl prints)
   error_printed (Full end limit) is prints = absurd is
   error_printed DiskFault is prints = faulty (refusal image) prints.0 prints.1
   error_printed NoMemory is prints = subst (λ (r : Option Refusal). PrintsOpened r files status old new) (sym is) (inl (inr (inl prints.0), prints.1))

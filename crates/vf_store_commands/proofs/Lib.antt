@@ -3,6 +3,7 @@ mod BadLines
 mod Blocks
 mod Ordered
 mod Bools
+mod Statuses
 mod Kept
 mod NewStores
 mod Faults

@@ -3,6 +3,8 @@ use Rattle.std.proofs.Common.{◌≡◌, inl, inr, ⊎_elim, ℕ, true, List, []
 use Rattle.std.specs.Prelude.{IfOk, IfErr}
 use Rattle.vf_disk.specs.Disk.{LeavesOnly}
 use Rattle.vf_disk.proofs.Runs.{joined, weaker}
+use Rattle.vf_base.specs.Faults.{HasRisen}
+use Rattle.vf_journal.specs.Answers.{OpenCauses}
 use Rattle.vf_journal.specs.Image.{Holds, records_of, refusal}
 use Rattle.vf_journal.specs.JournalState.{area_of}
 use Rattle.vf_journal.specs.Laws.{HeldIsRead}
@@ -36,6 +38,20 @@ open_outside (NotAStore place found expected) none is = absurd cc
 open_outside (Full end limit) none is = is
 open_outside DiskFault none is = tt
 open_outside NoMemory none is = tt
+
+-- the faults of the disk since before the journal was made
+module _ {D : Type 0} (count : D → ℕ) (before between : ℕ) where
+  pub opened_count : (result : Result (StoreState D) (D × JournalError)) → OpenCauses between (count (disk_of result)) (answer_of result) → between ≡ before
+      → IfOk result (λ store. count store.disk ≡ before)
+  opened_count (Ok store) causes same = causes ∙ same
+  opened_count (Err back) causes same = tt
+
+  pub opened_cause : (result : Result (StoreState D) (D × JournalError)) → OpenCauses between (count (disk_of result)) (answer_of result) → between ≡ before
+      → IfErr result (λ back. back.1 ≡ DiskFault → HasRisen before (count back.0))
+  opened_cause (Ok store) causes same = tt
+  opened_cause (Err back) causes same = λ fault.
+      let risen : HasRisen between (count back.0) = subst (λ (error : JournalError). OpenCauses {T = StoreState D} between (count back.0) (Err error)) fault causes in
+      subst (λ (n : ℕ). HasRisen n (count back.0)) same risen
 
 module _ {D : Type 0} (shown : D → Option (List ℕ)) (may_leave : D → List ℕ → Type 0) where
   -- OPENING a disk that holds a new journal

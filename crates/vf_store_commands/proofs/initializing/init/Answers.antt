@@ -1,9 +1,9 @@
-use Rattle.std.proofs.Common.{◌≡◌, ◌∙◌, ◌∷◌, [], ℕ, List, Some, length, ap, subst, sym}
+use Rattle.std.proofs.Common.{◌≡◌, ◌∙◌, ◌∷◌, [], ℕ, List, Some, length, ap, refl, subst, sym}
 use Rattle.vf_store_commands.specs.Making.{MayLeave}
 use Rattle.vf_cli_printing.specs.Printed.{Printed, Prints}
 use Rattle.vf_store_commands.specs.ErrorLines.{no_store_line}
 use Rattle.vf_store_commands.proofs.Empty.{empty_may, is_nothing, look_leaves, on_empty_disk, on_other_disk, shown_still, then_leaves}
-use Rattle.vf_store_commands.proofs.Faults.{more_faults, three_five_more}
+use Rattle.vf_store_commands.proofs.Faults.{more_faults}
 use Rattle.vf_store_commands.proofs.initializing.init.Goals as goal
 
 pub returns-in_default-clause-any_moment : goal.returns-in_default-clause-any_moment
@@ -40,7 +40,7 @@ returns-clause-prints g c = λ octets lines shows left.
     let new = g.O.Sink.taken c.print_no_store-status.new.out in
     subst (λ (p : Printed). Prints (3 ∷ 4 ∷ 5 ∷ 9 ∷ []) p c.print_no_store-status.result old new) (on_other_disk octets lines some)
     (more_faults (4 ∷ 9 ∷ []) (3 ∷ 4 ∷ 5 ∷ 9 ∷ []) (record { octets = no_store_line 0; status = 8 }) c.print_no_store-status.result old new
-    (three_five_more c.print_no_store-status.result) c.print_no_store-status.ensures.prints)
+    refl c.print_no_store-status.ensures.prints)
 
 pub returns-clause-any_moment : goal.returns-clause-any_moment
 returns-clause-any_moment g c = λ lines shows synced left.
