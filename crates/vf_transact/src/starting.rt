@@ -69,9 +69,9 @@ fn is_of(words: &PlanWords, plan: &KeptPlan) -> bool
 fn plan_of(alloc: Global, words: &PlanWords, elements: Elements) -> Result<Plan, NoMemory>
     ensures { IfOk result (λ plan. plan ≡ plan_meant words.now elements) }
 {
-    let task = task_of(alloc, words, elements)?;
     let identity = words.identity.copy(alloc)?;
     let password = copy_option(alloc, &words.password)?;
+    let task = task_of(alloc, words, elements)?;
     Ok(Plan {
         task,
         identity,
