@@ -75,10 +75,3 @@ pub civil_date-is : (d : Date) (days : ℕ) → epoch_day d ≡ pos days → rec
 civil_date-is d days same =
     let late = late_year d.year (year-from_1970 d (rw same (omega (arith, signed_arith)))) in
     sym (civil_date-from (unsigned_abs d.year) d.month d.day days (rw late.0 (d.year_in, d.month_in, d.day_in)) late.1 (rw late.0 same))
-
--- 1 January 1970 is day 0
-pub epoch : (d : Date) → d.year ≡ pos 1970 → pos d.month ≡ pos 1 → pos d.day ≡ pos 1 → epoch_day d ≡ pos 0
-epoch d year month day =
-    let m : d.month ≡ 1 = omega (arith, signed_arith) in
-    let n : d.day ≡ 1 = omega (arith, signed_arith) in
-    rw (year, m, n) (omega (arith, signed_arith, days_from_civil-day_count (pos 1970) 1 1, day_count-epoch))

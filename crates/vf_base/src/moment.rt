@@ -1,12 +1,11 @@
 ghost use Rattle.std.specs.Prelude.{◌≡◌, ◌↔◌, ◌<◌, ◌≤◌, IfOk, IsErrOf, IsOk, pos, [], ◌∷◌, ◌++◌, ◌+◌, ◌/◌, ◌%◌};
-ghost use Rattle.jiff.specs.Words.{epoch_day};
+ghost use Rattle.jiff_core.specs.Date.{epoch_day};
 ghost use Rattle.std.specs.List.{flat_map};
 ghost use Rattle.vf_base.specs.Calendar.{civil_date};
 ghost use Rattle.vf_base.specs.Moment.{moment_text, time_text, two_digits};
 
 use crate::{BaseError, NoMemory, Octets};
-use jiff::ToSpan;
-use jiff::civil::{Date, date};
+use jiff_core::civil::Date;
 use std::alloc::Global;
 use std::marker::Model;
 
@@ -66,7 +65,7 @@ fn date_of(days: u32) -> Date
     requires { days ≤ 2932896 }
     ensures { epoch_day result ≡ pos days }
 {
-    let Ok(date) = date(1970, 1, 1).checked_add((days as i64).days()) else {
+    let Ok(date) = Date::from_unix_epoch_day(days as i64) else {
         unreachable!()
     };
     date
@@ -78,11 +77,7 @@ fn civil(days: u32) -> (u16, u8, u8)
     ensures { record { year = result.0; month = result.1; day = result.2 } ≡ civil_date days }
 {
     let date = date_of(days);
-    (
-        date.year().unsigned_abs(),
-        date.month().unsigned_abs(),
-        date.day().unsigned_abs(),
-    )
+    (date.year.unsigned_abs(), date.month, date.day)
 }
 
 /// The pairs of digits of a date, and of the seconds into its day.
