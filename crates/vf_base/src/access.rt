@@ -1,5 +1,5 @@
 /// The constraint set of a file (ISO 8571-2, file model).
-#[derive(Clone, Copy, Debug, PartialEq, Eq)]
+#[derive(Clone, Copy, PartialEq, Eq)]
 pub enum Constraint {
     Unstructured,
     SequentialFlat,

@@ -4,7 +4,7 @@ use crate::{Moment, NoMemory, Octets};
 use std::alloc::Global;
 
 /// What comes next on the links; the octets of an event stand beside it.
-#[derive(Clone, Copy, Debug, PartialEq, Eq)]
+#[derive(Clone, Copy, PartialEq, Eq)]
 pub enum LinkEvent {
     /// A new link; its number is above 0 and above those before it.
     Arrived { link: u32 },

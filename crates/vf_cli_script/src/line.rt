@@ -5,7 +5,7 @@ use vf_elements::Message;
 use vf_tables::User;
 
 /// The end that a script keeps on a link: none, or a calling one that proposes sync or doesn't.
-#[derive(Clone, Copy, Debug, PartialEq, Eq)]
+#[derive(Clone, Copy, PartialEq, Eq)]
 pub enum LinkKind {
     Raw,
     Plain,
@@ -13,7 +13,7 @@ pub enum LinkKind {
 }
 
 /// An incarnation stops at a write or sync of its disk, of this number from 1, which leaves the disk so.
-#[derive(Clone, Copy, Debug, PartialEq, Eq)]
+#[derive(Clone, Copy, PartialEq, Eq)]
 pub struct Stop {
     pub call: u32,
     pub form: CrashForm,

@@ -2,7 +2,7 @@
 use vf_base::Octets;
 
 /// What the command line asks for.
-#[derive(Clone, Copy, Debug, PartialEq, Eq)]
+#[derive(Clone, Copy, PartialEq, Eq)]
 pub enum Command {
     /// `dialogue`: one party's messages over an empty filestore in memory.
     Dialogue,

@@ -8,7 +8,7 @@ ghost use Rattle.vf_cli_words.specs.Words.{all_fit, begins_badly as badly_test, 
 use crate::command::Command;
 
 /// An option.
-#[derive(Clone, Copy, Debug, PartialEq, Eq)]
+#[derive(Clone, Copy, PartialEq, Eq)]
 pub enum Key {
     Store,
     Host,
@@ -45,7 +45,7 @@ const ALL_KEYS: [Key; KEYS] = [
 ];
 
 /// The least and the most that a number may be.
-#[derive(Clone, Copy, Debug, PartialEq, Eq)]
+#[derive(Clone, Copy, PartialEq, Eq)]
 pub struct Range {
     pub least: u32,
     pub most: u32,

@@ -29,7 +29,7 @@ pub struct AskedWords<'a> {
 }
 
 /// The files that `generate` makes.
-#[derive(Clone, Copy, Debug, PartialEq, Eq)]
+#[derive(Clone, Copy, PartialEq, Eq)]
 pub struct Drawn {
     /// The number with which their drawing begins.
     pub number: u32,

@@ -1,5 +1,5 @@
 /// What a crash leaves of a disk in memory.
-#[derive(Clone, Copy, Debug, PartialEq, Eq)]
+#[derive(Clone, Copy, PartialEq, Eq)]
 pub enum CrashForm {
     /// All calls up to and with the stopped one.
     Keep,

@@ -4,7 +4,7 @@ ghost use Rattle.vf_doctype.specs.DocumentTypes.{constraint_of, doc_type, has_pa
 use vf_base::{Constraint, Contents, MOST_STRING_OCTETS};
 
 /// The document types of this profile.
-#[derive(Clone, Copy, Debug, PartialEq, Eq)]
+#[derive(Clone, Copy, PartialEq, Eq)]
 pub(crate) enum Kind {
     /// Unstructured text.
     Ftam1,
@@ -15,7 +15,7 @@ pub(crate) enum Kind {
 }
 
 /// A document type with its parameters.
-#[derive(Clone, Copy, Debug)]
+#[derive(Clone, Copy)]
 pub struct DocType {
     pub(crate) kind: Kind,
     /// The universal class of text.

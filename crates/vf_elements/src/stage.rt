@@ -5,7 +5,7 @@ use crate::Message;
 use crate::kind::{Kind, is_listed};
 
 /// The innermost regime in which a party is (ISO 8571-4), and how far a transfer in it has come (profile).
-#[derive(Clone, Copy, Debug, PartialEq, Eq)]
+#[derive(Clone, Copy, PartialEq, Eq)]
 pub enum Stage {
     /// No association.
     Idle,

@@ -26,7 +26,7 @@ pub enum TaskError {
 }
 
 /// How a task stands.
-#[derive(Clone, Copy, Debug, PartialEq, Eq)]
+#[derive(Clone, Copy, PartialEq, Eq)]
 pub enum Doing {
     Going,
     /// It ended well.

@@ -87,7 +87,7 @@ impl Drop for Plan {
 }
 
 /// How a task ended well.
-#[derive(Clone, Copy, Debug, PartialEq, Eq)]
+#[derive(Clone, Copy, PartialEq, Eq)]
 pub struct Report {
     /// The octets of the strings of the task's elements.
     pub octets: u64,

@@ -1,5 +1,5 @@
 /// Where a record is to stand.
-#[derive(Clone, Copy, Debug, PartialEq, Eq)]
+#[derive(Clone, Copy, PartialEq, Eq)]
 pub struct Placing {
     /// The start of the new area, where a switch is due and possible.
     pub switch: Option<u64>,

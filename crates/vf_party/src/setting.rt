@@ -1,7 +1,7 @@
 use vf_base::Moment;
 
 /// When a message comes, and what the session says of that moment (ISO 8327).
-#[derive(Clone, Copy, Debug, PartialEq, Eq)]
+#[derive(Clone, Copy, PartialEq, Eq)]
 pub struct Setting {
     pub moment: Moment,
     /// The number that the next check has in the session.

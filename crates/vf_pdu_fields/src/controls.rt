@@ -11,7 +11,7 @@ use vf_base::Control;
 use vf_ber::Value;
 
 /// How the actions on the attributes and on the file as a whole are shared (ISO 8571-2, concurrency control).
-#[derive(Clone, Copy, Debug, PartialEq, Eq)]
+#[derive(Clone, Copy, PartialEq, Eq)]
 pub struct AttributeControls {
     pub read_attribute: Control,
     pub change_attribute: Control,
@@ -69,7 +69,7 @@ fn attribute_controls_in(octets: &[u8]) -> Option<AttributeControls>
 }
 
 /// How the actions on the contents are shared (ISO 8571-2, concurrency control).
-#[derive(Clone, Copy, Debug, PartialEq, Eq)]
+#[derive(Clone, Copy, PartialEq, Eq)]
 pub struct ContentControls {
     pub read: Control,
     pub insert: Control,

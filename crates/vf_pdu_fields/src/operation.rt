@@ -1,5 +1,5 @@
 /// What a write does at the FADU that it names (ISO 8571-3, F-WRITE; the numbers are profile).
-#[derive(Clone, Copy, Debug, PartialEq, Eq)]
+#[derive(Clone, Copy, PartialEq, Eq)]
 pub enum WriteOperation {
     Insert = 1,
     Replace = 2,

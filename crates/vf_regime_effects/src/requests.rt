@@ -17,7 +17,7 @@ use vf_pdu_fields::WriteOperation;
 use vf_tree::Tree;
 
 /// What a write does, and where (ISO 8571-3, F-WRITE).
-#[derive(Clone, Copy, Debug, PartialEq, Eq)]
+#[derive(Clone, Copy, PartialEq, Eq)]
 pub struct Write {
     pub operation: WriteOperation,
     pub fadu: FaduId,
@@ -26,7 +26,7 @@ pub struct Write {
 }
 
 /// What a write is given.
-#[derive(Clone, Copy, Debug, PartialEq, Eq)]
+#[derive(Clone, Copy, PartialEq, Eq)]
 pub enum Writing {
     /// It goes on and performs nothing: the version of the file, 0 where there is none, and the number of the
     /// diagnostic.

@@ -28,7 +28,7 @@ use vf_disk::Disk;
 use vf_store::StoreError;
 
 /// How much was served; counts stand still at their type's end.
-#[derive(Clone, Copy, Debug, PartialEq, Eq)]
+#[derive(Clone, Copy, PartialEq, Eq)]
 pub struct Served {
     /// How many links arrived.
     pub links: u64,

@@ -1,5 +1,5 @@
 /// Where a session connection stands, as one end sees it.
-#[derive(Clone, Copy, Debug, PartialEq, Eq)]
+#[derive(Clone, Copy, PartialEq, Eq)]
 pub enum Phase {
     /// No CN was sent or received.
     Idle,

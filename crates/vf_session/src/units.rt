@@ -4,7 +4,7 @@ use std::alloc::Global;
 use vf_base::{NoMemory, Octets};
 
 /// The end of an association that has a token.
-#[derive(Clone, Copy, Debug, PartialEq, Eq)]
+#[derive(Clone, Copy, PartialEq, Eq)]
 pub enum TokenSide {
     /// The calling end.
     Initiator,
@@ -13,7 +13,7 @@ pub enum TokenSide {
 }
 
 /// What a resynchronization does to the transfer (ISO 8327, 5.4.8).
-#[derive(Clone, Copy, Debug, PartialEq, Eq)]
+#[derive(Clone, Copy, PartialEq, Eq)]
 pub enum ResyncKind {
     Restart,
     Abandon,

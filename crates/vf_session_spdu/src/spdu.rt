@@ -5,7 +5,7 @@ use std::alloc::Global;
 use vf_base::{NoMemory, Octets, SpduKind};
 
 /// The parameters of an SPDU that carry a number, each absent or with its value (ISO 8327, 8.3).
-#[derive(Clone, Copy, Debug, PartialEq, Eq)]
+#[derive(Clone, Copy, PartialEq, Eq)]
 pub struct SpduFields {
     /// The token item (16) of a GT: 4, the minor synchronize token.
     pub given: Option<u8>,

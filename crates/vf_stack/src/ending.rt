@@ -7,7 +7,7 @@ ghost use Rattle.vf_stack.specs.Receiving.{ending_by as ending_of};
 use vf_session::SessionOut;
 
 /// How receiving on an association ended, if it did.
-#[derive(Clone, Copy, Debug, PartialEq, Eq)]
+#[derive(Clone, Copy, PartialEq, Eq)]
 pub enum Ending {
     /// It goes on.
     Open,

@@ -1,5 +1,5 @@
 /// How much a filestore keeps.
-#[derive(Clone, Copy, Debug, PartialEq, Eq)]
+#[derive(Clone, Copy, PartialEq, Eq)]
 pub struct Counts {
     pub files: u64,
     /// The octets of the strings of all files, or the type's end where they are more; valid tables have fewer.

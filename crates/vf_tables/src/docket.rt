@@ -13,7 +13,7 @@ pub enum Operation {
 }
 
 /// Which transfer is under way in a recoverable regime.
-#[derive(Clone, Copy, Debug, PartialEq, Eq)]
+#[derive(Clone, Copy, PartialEq, Eq)]
 pub enum Direction {
     Idle,
     Read { context: Context },

@@ -5,7 +5,7 @@ use std::alloc::Global;
 use vf_base::{Duplicate, Name, NoMemory};
 
 /// Whether a task fetches a file or sends one.
-#[derive(Clone, Copy, Debug, PartialEq, Eq)]
+#[derive(Clone, Copy, PartialEq, Eq)]
 pub enum Way {
     Get = 1,
     Put = 2,

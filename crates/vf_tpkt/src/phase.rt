@@ -1,5 +1,5 @@
 /// Which end of the connection this is.
-#[derive(Clone, Copy, Debug, PartialEq, Eq)]
+#[derive(Clone, Copy, PartialEq, Eq)]
 pub enum Side {
     /// It sent the CR and waits for the CC.
     Calling,
@@ -8,7 +8,7 @@ pub enum Side {
 }
 
 /// Where a connection stands.
-#[derive(Clone, Copy, Debug, PartialEq, Eq)]
+#[derive(Clone, Copy, PartialEq, Eq)]
 pub enum Phase {
     /// No TPDU was received.
     First,

@@ -12,7 +12,7 @@ pub enum TransferError {
 }
 
 /// There is no such check (diagnostic 25).
-#[derive(Clone, Copy, Debug, PartialEq, Eq)]
+#[derive(Clone, Copy, PartialEq, Eq)]
 pub struct Unknown;
 
 impl From<NoMemory> for TransferError {

@@ -1,5 +1,5 @@
 /// What an integer of the user data is.
-#[derive(Clone, Copy, Debug, PartialEq, Eq)]
+#[derive(Clone, Copy, PartialEq, Eq)]
 pub enum NumberLabel {
     /// A number that is fixed.
     Fixed,
@@ -16,7 +16,7 @@ pub enum NumberLabel {
 }
 
 /// What an object identifier of the user data is.
-#[derive(Clone, Copy, Debug, PartialEq, Eq)]
+#[derive(Clone, Copy, PartialEq, Eq)]
 pub enum NameLabel {
     /// The transfer syntax of a PDV-list, which may be any, or of an accepted context, which is that of BER.
     Stated,

@@ -41,7 +41,7 @@ impl Marks {
 }
 
 /// Why a part isn't read to its end.
-#[derive(Clone, Copy, Debug, PartialEq, Eq)]
+#[derive(Clone, Copy, PartialEq, Eq)]
 pub enum Stop {
     /// A fault at this place.
     At(u32),
