@@ -3,6 +3,7 @@ pub mod Computed
 pub mod Found
 pub mod OneMeaning
 pub mod Ranges
+pub mod ReadingSteps
 pub mod Same
 pub mod Tables
 pub mod Whole

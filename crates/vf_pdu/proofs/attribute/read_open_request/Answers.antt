@@ -1,0 +1,65 @@
+use Rattle.std.proofs.Common.{refl, rules}
+use Rattle.vf_ber.specs.Views.{trees_in}
+use Rattle.vf_pdu.specs.PduAttribute.{open_request}
+use Rattle.vf_pdu.proofs.ReadingSteps.{found_end, found_next, read_is, read_stops, stops_at_end, stops_here, stops_later}
+use Rattle.vf_pdu.proofs.attribute.read_open_request.Goals as goal
+
+pub returns-in_err-mode : goal.returns-in_err-mode
+returns-in_err-mode c =
+    let error = c.in_err-mode.field-0.0 in
+    read_stops error 18 open_request (trees_in c.args.parts.now) c.from_residual.result c.from_residual.ensures.1
+    (stops_here error _ _ _ _ _ _ c.in_err-mode.ensures.value)
+
+pub returns-in_err-contents : goal.returns-in_err-contents
+returns-in_err-contents c =
+    let error = c.in_err-contents.field-0.0 in
+    read_stops error 18 open_request (trees_in c.args.parts.now) c.from_residual-in_err-contents.result c.from_residual-in_err-contents.ensures.1
+    (stops_later error _ _ _ _ _ _ _ _ _ c.in_ok-mode.ensures.value c.in_ok-mode.ensures.place c.in_ok-mode.ensures.others
+    (stops_here error _ _ _ _ _ _ c.in_err-contents.ensures.value))
+
+pub returns-in_err-controls : goal.returns-in_err-controls
+returns-in_err-controls c =
+    let error = c.in_err-controls.field-0.0 in
+    read_stops error 18 open_request (trees_in c.args.parts.now) c.from_residual-in_err-controls.result c.from_residual-in_err-controls.ensures.1
+    (stops_later error _ _ _ _ _ _ _ _ _ c.in_ok-mode.ensures.value c.in_ok-mode.ensures.place c.in_ok-mode.ensures.others
+    (stops_later error _ _ _ _ _ _ _ _ _ c.in_ok-contents.ensures.value c.in_ok-contents.ensures.place c.in_ok-contents.ensures.others
+    (stops_here error _ _ _ _ _ _ c.in_err-controls.ensures.value)))
+
+pub returns-in_err-activity : goal.returns-in_err-activity
+returns-in_err-activity c =
+    let error = c.in_err-activity.field-0.0 in
+    read_stops error 18 open_request (trees_in c.args.parts.now) c.from_residual-in_err-activity.result c.from_residual-in_err-activity.ensures.1
+    (stops_later error _ _ _ _ _ _ _ _ _ c.in_ok-mode.ensures.value c.in_ok-mode.ensures.place c.in_ok-mode.ensures.others
+    (stops_later error _ _ _ _ _ _ _ _ _ c.in_ok-contents.ensures.value c.in_ok-contents.ensures.place c.in_ok-contents.ensures.others
+    (stops_later error _ _ _ _ _ _ _ _ _ c.in_ok-controls.ensures.value c.in_ok-controls.ensures.place c.in_ok-controls.ensures.others
+    (stops_here error _ _ _ _ _ _ (rw c.from.ensures at c.in_err-activity.ensures.value)))))
+
+pub returns-in_err-end : goal.returns-in_err-end
+returns-in_err-end c =
+    let error = c.in_err-end.field-0.0 in
+    read_stops error 18 open_request (trees_in c.args.parts.now) c.from_residual-in_err-end.result c.from_residual-in_err-end.ensures.1
+    (stops_later error _ _ _ _ _ _ _ _ _ c.in_ok-mode.ensures.value c.in_ok-mode.ensures.place c.in_ok-mode.ensures.others
+    (stops_later error _ _ _ _ _ _ _ _ _ c.in_ok-contents.ensures.value c.in_ok-contents.ensures.place c.in_ok-contents.ensures.others
+    (stops_later error _ _ _ _ _ _ _ _ _ c.in_ok-controls.ensures.value c.in_ok-controls.ensures.place c.in_ok-controls.ensures.others
+    (stops_later error _ _ _ _ _ _ _ _ _ (rw c.from.ensures at c.in_ok-activity.ensures.value) c.in_ok-activity.ensures.place c.in_ok-activity.ensures.others
+    (stops_at_end error _ _ c.in_err-end.ensures)))))
+
+pub returns-in_default : goal.returns-in_default
+returns-in_default c =
+    read_is open_request (trees_in c.args.parts.now) _ _
+    (found_next _ _ _ _ _ _ _ _ _ _ c.in_ok-mode.ensures.value c.in_ok-mode.ensures.place c.in_ok-mode.ensures.others
+    (found_next _ _ _ _ _ _ _ _ _ _ c.in_ok-contents.ensures.value c.in_ok-contents.ensures.place c.in_ok-contents.ensures.others
+    (found_next _ _ _ _ _ _ _ _ _ _ c.in_ok-controls.ensures.value c.in_ok-controls.ensures.place c.in_ok-controls.ensures.others
+    (found_next _ _ _ _ _ _ _ _ _ _ (rw c.from.ensures at c.in_ok-activity.ensures.value) c.in_ok-activity.ensures.place c.in_ok-activity.ensures.others
+    (found_end _ _ c.in_ok-end.ensures))))) (search rules)
+
+pub returns : goal.returns
+returns c = (
+  refl,
+  read_is open_request (trees_in c.args.parts.now) _ _
+      (found_next _ _ _ _ _ _ _ _ _ _ c.in_ok-mode.ensures.value c.in_ok-mode.ensures.place c.in_ok-mode.ensures.others
+      (found_next _ _ _ _ _ _ _ _ _ _ c.in_ok-contents.ensures.value c.in_ok-contents.ensures.place c.in_ok-contents.ensures.others
+      (found_next _ _ _ _ _ _ _ _ _ _ c.in_ok-controls.ensures.value c.in_ok-controls.ensures.place c.in_ok-controls.ensures.others
+      (found_next _ _ _ _ _ _ _ _ _ _ (rw c.from.ensures at c.in_ok-activity.ensures.value) c.in_ok-activity.ensures.place c.in_ok-activity.ensures.others
+      (found_end _ _ c.in_ok-end.ensures))))) (search rules),
+)

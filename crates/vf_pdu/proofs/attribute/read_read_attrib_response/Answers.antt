@@ -1,0 +1,35 @@
+use Rattle.std.proofs.Common.{refl, rules}
+use Rattle.vf_ber.specs.Views.{trees_in}
+use Rattle.vf_pdu.specs.PduAttribute.{read_attrib_response}
+use Rattle.vf_pdu.proofs.ReadingSteps.{found_end, found_next, read_is, read_stops, stops_at_end, stops_here, stops_later}
+use Rattle.vf_pdu.proofs.attribute.read_read_attrib_response.Goals as goal
+
+pub returns-in_err-diagnostic : goal.returns-in_err-diagnostic
+returns-in_err-diagnostic c =
+    let error = c.in_err-diagnostic.field-0.0 in
+    read_stops error 15 read_attrib_response (trees_in c.args.parts.now) c.from_residual.result c.from_residual.ensures.1
+    (stops_here error _ _ _ _ _ _ c.in_err-diagnostic.ensures.value)
+
+pub returns-in_err-attributes : goal.returns-in_err-attributes
+returns-in_err-attributes c =
+    let error = c.in_err-attributes.field-0.0 in
+    read_stops error 15 read_attrib_response (trees_in c.args.parts.now) c.from_residual-in_err-attributes.result c.from_residual-in_err-attributes.ensures.1
+    (stops_later error _ _ _ _ _ _ _ _ _ c.in_ok-diagnostic.ensures.value c.in_ok-diagnostic.ensures.place c.in_ok-diagnostic.ensures.others
+    (stops_here error _ _ _ _ _ _ c.in_err-attributes.ensures.value))
+
+pub returns-in_err-end : goal.returns-in_err-end
+returns-in_err-end c =
+    let error = c.in_err-end.field-0.0 in
+    read_stops error 15 read_attrib_response (trees_in c.args.parts.now) c.from_residual-in_err-end.result c.from_residual-in_err-end.ensures.1
+    (stops_later error _ _ _ _ _ _ _ _ _ c.in_ok-diagnostic.ensures.value c.in_ok-diagnostic.ensures.place c.in_ok-diagnostic.ensures.others
+    (stops_later error _ _ _ _ _ _ _ _ _ c.in_ok-attributes.ensures.value c.in_ok-attributes.ensures.place c.in_ok-attributes.ensures.others
+    (stops_at_end error _ _ c.in_err-end.ensures)))
+
+pub returns : goal.returns
+returns c = (
+  refl,
+  read_is read_attrib_response (trees_in c.args.parts.now) _ _
+      (found_next _ _ _ _ _ _ _ _ _ _ c.in_ok-diagnostic.ensures.value c.in_ok-diagnostic.ensures.place c.in_ok-diagnostic.ensures.others
+      (found_next _ _ _ _ _ _ _ _ _ _ c.in_ok-attributes.ensures.value c.in_ok-attributes.ensures.place c.in_ok-attributes.ensures.others
+      (found_end _ _ c.in_ok-end.ensures))) (search rules),
+)

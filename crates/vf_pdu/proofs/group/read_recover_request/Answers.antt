@@ -1,0 +1,61 @@
+use Rattle.std.proofs.Common.{refl, rules}
+use Rattle.vf_ber.specs.Views.{trees_in}
+use Rattle.vf_pdu.specs.PduGroup.{recover_request}
+use Rattle.vf_pdu.proofs.ReadingSteps.{found_end, found_next, read_is, read_stops, stops_at_end, stops_here, stops_later}
+use Rattle.vf_pdu.proofs.group.read_recover_request.Goals as goal
+
+pub returns-in_err-activity : goal.returns-in_err-activity
+returns-in_err-activity c =
+    let error = c.in_err-activity.field-0.0 in
+    read_stops error 26 recover_request (trees_in c.args.parts.now) c.from_residual.result c.from_residual.ensures.1
+    (stops_here error _ _ _ _ _ _ (rw c.from.ensures at c.in_err-activity.ensures.value))
+
+pub returns-in_err-number : goal.returns-in_err-number
+returns-in_err-number c =
+    let error = c.in_err-number.field-0.0 in
+    read_stops error 26 recover_request (trees_in c.args.parts.now) c.from_residual-in_err-number.result c.from_residual-in_err-number.ensures.1
+    (stops_later error _ _ _ _ _ _ _ _ _ (rw c.from.ensures at c.in_ok-activity.ensures.value) c.in_ok-activity.ensures.place c.in_ok-activity.ensures.others
+    (stops_here error _ _ _ _ _ _ (rw c.from-2.ensures at c.in_err-number.ensures.value)))
+
+pub returns-in_err-point : goal.returns-in_err-point
+returns-in_err-point c =
+    let error = c.in_err-point.field-0.0 in
+    read_stops error 26 recover_request (trees_in c.args.parts.now) c.from_residual-in_err-point.result c.from_residual-in_err-point.ensures.1
+    (stops_later error _ _ _ _ _ _ _ _ _ (rw c.from.ensures at c.in_ok-activity.ensures.value) c.in_ok-activity.ensures.place c.in_ok-activity.ensures.others
+    (stops_later error _ _ _ _ _ _ _ _ _ (rw c.from-2.ensures at c.in_ok-number.ensures.value) c.in_ok-number.ensures.place c.in_ok-number.ensures.others
+    (stops_here error _ _ _ _ _ _ (rw c.from-3.ensures at c.in_err-point.ensures.value))))
+
+pub returns-in_err-end : goal.returns-in_err-end
+returns-in_err-end c =
+    let error = c.in_err-end.field-0.0 in
+    read_stops error 26 recover_request (trees_in c.args.parts.now) c.from_residual-in_err-end.result c.from_residual-in_err-end.ensures.1
+    (stops_later error _ _ _ _ _ _ _ _ _ (rw c.from.ensures at c.in_ok-activity.ensures.value) c.in_ok-activity.ensures.place c.in_ok-activity.ensures.others
+    (stops_later error _ _ _ _ _ _ _ _ _ (rw c.from-2.ensures at c.in_ok-number.ensures.value) c.in_ok-number.ensures.place c.in_ok-number.ensures.others
+    (stops_later error _ _ _ _ _ _ _ _ _ (rw c.from-3.ensures at c.in_ok-point.ensures.value) c.in_ok-point.ensures.place c.in_ok-point.ensures.others
+    (stops_at_end error _ _ c.in_err-end.ensures))))
+
+pub returns-in_default : goal.returns-in_default
+returns-in_default c =
+    read_is recover_request (trees_in c.args.parts.now) _ _
+    (found_next _ _ _ _ _ _ _ _ _ _ (rw c.from.ensures at c.in_ok-activity.ensures.value) c.in_ok-activity.ensures.place c.in_ok-activity.ensures.others
+    (found_next _ _ _ _ _ _ _ _ _ _ (rw c.from-2.ensures at c.in_ok-number.ensures.value) c.in_ok-number.ensures.place c.in_ok-number.ensures.others
+    (found_next _ _ _ _ _ _ _ _ _ _ (rw c.from-3.ensures at c.in_ok-point.ensures.value) c.in_ok-point.ensures.place c.in_ok-point.ensures.others
+    (found_end _ _ c.in_ok-end.ensures)))) (search rules)
+
+pub returns-in_default-number : goal.returns-in_default-number
+returns-in_default-number c =
+    read_is recover_request (trees_in c.args.parts.now) _ _
+    (found_next _ _ _ _ _ _ _ _ _ _ (rw c.from.ensures at c.in_ok-activity.ensures.value) c.in_ok-activity.ensures.place c.in_ok-activity.ensures.others
+    (found_next _ _ _ _ _ _ _ _ _ _ (rw c.from-2.ensures at c.in_ok-number.ensures.value) c.in_ok-number.ensures.place c.in_ok-number.ensures.others
+    (found_next _ _ _ _ _ _ _ _ _ _ (rw c.from-3.ensures at c.in_ok-point.ensures.value) c.in_ok-point.ensures.place c.in_ok-point.ensures.others
+    (found_end _ _ c.in_ok-end.ensures)))) (search rules)
+
+pub returns : goal.returns
+returns c = (
+  refl,
+  read_is recover_request (trees_in c.args.parts.now) _ _
+      (found_next _ _ _ _ _ _ _ _ _ _ (rw c.from.ensures at c.in_ok-activity.ensures.value) c.in_ok-activity.ensures.place c.in_ok-activity.ensures.others
+      (found_next _ _ _ _ _ _ _ _ _ _ (rw c.from-2.ensures at c.in_ok-number.ensures.value) c.in_ok-number.ensures.place c.in_ok-number.ensures.others
+      (found_next _ _ _ _ _ _ _ _ _ _ (rw c.from-3.ensures at c.in_ok-point.ensures.value) c.in_ok-point.ensures.place c.in_ok-point.ensures.others
+      (found_end _ _ c.in_ok-end.ensures)))) (search rules),
+)
