@@ -105,6 +105,7 @@ pub fn put_maybe_contents(
     let Some(contents) = contents else {
         return Ok(());
     };
-    put_contents(alloc, parts, number, contents)?;
+    let inside = contents_parts(alloc, contents)?;
+    put_sequence(parts, number, inside)?;
     Ok(())
 }
