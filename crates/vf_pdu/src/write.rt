@@ -23,7 +23,6 @@ use vf_pdu_parameters::put_diagnostic;
 
 /// The value of the PDU (ISO 8571-4), where each field is in the range of its row: defaults are left out, and each part
 /// is in one piece and in the fewest octets. What `of_value` answers is in range.
-#[tactic(auto, using(crate::proofs::Written::put_is))]
 pub fn to_value(alloc: Global, pdu: &Pdu) -> Result<Value, NoMemory>
     requires { IsInRange pdu.now }
     ensures { IfOk result (λ made. tree_of made ≡ value_meant pdu.now) }

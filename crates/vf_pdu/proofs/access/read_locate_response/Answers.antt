@@ -1,7 +1,8 @@
 use Rattle.std.proofs.Common.{refl, rules}
 use Rattle.vf_ber.specs.Views.{trees_in}
 use Rattle.vf_pdu.specs.PduAccess.{locate_response}
-use Rattle.vf_pdu.proofs.ReadingSteps.{found_end, found_next, read_is, read_stops, stops_at_end, stops_here, stops_later}
+use Rattle.vf_pdu_parameters.proofs.ReadingSteps.{found_end, found_next, read_is, stops_at_end, stops_here, stops_later}
+use Rattle.vf_pdu.proofs.ReadingSteps.{read_stops}
 use Rattle.vf_pdu.proofs.access.read_locate_response.Goals as goal
 
 pub returns-in_err-diagnostic : goal.returns-in_err-diagnostic

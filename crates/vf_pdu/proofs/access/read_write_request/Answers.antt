@@ -1,7 +1,8 @@
 use Rattle.std.proofs.Common.{refl, rules}
 use Rattle.vf_ber.specs.Views.{trees_in}
 use Rattle.vf_pdu.specs.PduAccess.{write_request}
-use Rattle.vf_pdu.proofs.ReadingSteps.{found_end, found_next, read_is, read_stops, stops_at_end, stops_here, stops_later}
+use Rattle.vf_pdu_parameters.proofs.ReadingSteps.{found_end, found_next, read_is, stops_at_end, stops_here, stops_later}
+use Rattle.vf_pdu.proofs.ReadingSteps.{read_stops}
 use Rattle.vf_pdu.proofs.access.read_write_request.Goals as goal
 
 pub returns-in_err-operation : goal.returns-in_err-operation

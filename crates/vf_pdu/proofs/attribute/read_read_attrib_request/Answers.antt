@@ -1,7 +1,8 @@
 use Rattle.std.proofs.Common.{refl, rules}
 use Rattle.vf_ber.specs.Views.{trees_in}
 use Rattle.vf_pdu.specs.PduAttribute.{read_attrib_request}
-use Rattle.vf_pdu.proofs.ReadingSteps.{found_end, found_next, read_is, read_stops, stops_at_end, stops_here, stops_later}
+use Rattle.vf_pdu_parameters.proofs.ReadingSteps.{found_end, found_next, read_is, stops_at_end, stops_here, stops_later}
+use Rattle.vf_pdu.proofs.ReadingSteps.{read_stops}
 use Rattle.vf_pdu.proofs.attribute.read_read_attrib_request.Goals as goal
 
 pub returns-in_err-names : goal.returns-in_err-names
