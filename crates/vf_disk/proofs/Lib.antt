@@ -9,5 +9,6 @@ pub mod Runs
 pub mod CallCounts
 pub mod Rows
 pub mod Noted
+pub mod Kept
 pub mod Stops
 pub mod Joins

@@ -36,7 +36,7 @@ noted_made plan step good short =
     rw (neither (is_after_stop plan.until_stop) (is_long step) running short, good) refl
 
 -- what a call leaves is what it is noted as
-ends : (plan : StopPlan) (step : Step) (state : State) (fails : Bool) → step_fails plan step ≡ fails
+pub ends : (plan : StopPlan) (step : Step) (state : State) (fails : Bool) → step_fails plan step ≡ fails
     → ((ending_of (step ∷ []) plan state).plan ≡ after_change plan) × ((ending_of (step ∷ []) plan state).state ≡ fold after state (noted plan step)) × ((ending_of (step ∷ []) plan state).failed ≡ fails)
 ends plan step state true is = (rw is refl, rw is refl, rw is refl)
 ends plan step state false is =

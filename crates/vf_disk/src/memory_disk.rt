@@ -8,7 +8,7 @@ ghost use Rattle.vf_disk.specs.State.{IsImage, left_by, state_of};
 ghost use Rattle.vf_disk.specs.Steps.{LeavesState, MakesSteps};
 ghost use Rattle.vf_disk.specs.declared.step.Step.TheVariants.{Wrote, CutTo, Synced};
 ghost use Rattle.vf_disk.specs.declared.step.Step.{Step};
-ghost use Rattle.vf_disk.specs.Plans.{ChangesWherePlanned, LooksAsPlanned, SyncsAsPlanned, sooner};
+ghost use Rattle.vf_disk.specs.Plans.{ChangesWherePlanned, LooksAsPlanned, SyncsAsPlanned, after_change, sooner};
 
 use crate::admitted::is_admitted;
 use crate::overwrite::overwrite;
@@ -183,6 +183,54 @@ impl MemoryDisk {
         self.lacks = self.lacks.saturating_add(1);
         self.fail()
     }
+
+    /// Keeps a write as the plan has it, and makes it where it is good.
+    fn write(&mut self, at: u64, octets: &[u8]) -> Result<(), Failed>
+        requires { at ≤ length (state self.old).shown }
+        ensures kept { Keeps self.old self.new (Wrote at octets.now true) (is_err result) }
+        ensures plan { self.new.plan ≡ after_change self.old.plan }
+        ensures ok { OnOk result (self.new.faults ≡ self.old.faults) }
+        ensures falls { NeverFalls self.old.faults self.new.faults }
+        ensures failed { OnErr result (HasRisen self.old.faults self.new.faults) }
+    {
+        let stopped = self.plan.is_after_stop();
+        let good = !self.plan.changes();
+        if stopped || octets.len() as u64 > GREATEST_LENGTH - at {
+            return Err(self.fail());
+        }
+        let (steps, shown) = (&mut self.steps, &mut self.octets);
+        let Ok(()) = keep_write(self.alloc, steps, shown, at, octets, good) else {
+            return Err(self.lack());
+        };
+        if !good {
+            return Err(self.fail());
+        }
+        Ok(())
+    }
+
+    /// Keeps a cut as the plan has it, and makes it where it is good.
+    fn shorten(&mut self, to: u64) -> Result<(), Failed>
+        requires { to ≤ length (state self.old).shown }
+        ensures kept { Keeps self.old self.new (CutTo to true) (is_err result) }
+        ensures plan { self.new.plan ≡ after_change self.old.plan }
+        ensures ok { OnOk result (self.new.faults ≡ self.old.faults) }
+        ensures falls { NeverFalls self.old.faults self.new.faults }
+        ensures failed { OnErr result (HasRisen self.old.faults self.new.faults) }
+    {
+        let stopped = self.plan.is_after_stop();
+        let good = !self.plan.changes();
+        if stopped {
+            return Err(self.fail());
+        }
+        let Ok(()) = keep(&mut self.steps, Step::CutTo { length: to, good }) else {
+            return Err(self.lack());
+        };
+        if !good {
+            return Err(self.fail());
+        }
+        self.octets.truncate(to as usize);
+        Ok(())
+    }
 }
 
 /// Puts a call after the others, with room for a sync after it; without memory they stay as they are.
@@ -312,19 +360,7 @@ impl Disk for MemoryDisk {
         ensures failed { OnErr result (HasRisen self.old.faults self.new.faults) }
         ensures kept { Keeps self.old self.new (Wrote at octets.now true) (is_err result) }
     {
-        let stopped = self.plan.is_after_stop();
-        let good = !self.plan.changes();
-        if stopped || octets.len() as u64 > GREATEST_LENGTH - at {
-            return Err(self.fail());
-        }
-        let (steps, shown) = (&mut self.steps, &mut self.octets);
-        let Ok(()) = keep_write(self.alloc, steps, shown, at, octets, good) else {
-            return Err(self.lack());
-        };
-        if !good {
-            return Err(self.fail());
-        }
-        Ok(())
+        self.write(at, octets)
     }
 
     fn write_parts(&mut self, at: u64, octets: &Parts) -> Result<(), Failed>
@@ -361,19 +397,7 @@ impl Disk for MemoryDisk {
         ensures failed { OnErr result (HasRisen self.old.faults self.new.faults) }
         ensures kept { Keeps self.old self.new (CutTo to true) (is_err result) }
     {
-        let stopped = self.plan.is_after_stop();
-        let good = !self.plan.changes();
-        if stopped {
-            return Err(self.fail());
-        }
-        let Ok(()) = keep(&mut self.steps, Step::CutTo { length: to, good }) else {
-            return Err(self.lack());
-        };
-        if !good {
-            return Err(self.fail());
-        }
-        self.octets.truncate(to as usize);
-        Ok(())
+        self.shorten(to)
     }
 
     fn sync(&mut self) -> Result<(), Failed>
