@@ -45,6 +45,10 @@ wants-none place (suc count) packet h e = absurd (omega arith)
 pub looks-whole : (p : Progress) (place count : ℕ) (packet tpdu : List ℕ) → place ≡ p.place → WantsSome place packet count → count ≤ 0 → tpdu ≡ drop 4 packet → first_packet p.place packet ≡ whole tpdu []
 looks-whole p place count packet tpdu e h n same = rw (← e, same) (wants-none place count packet h n)
 
+pub looks-part : (p : Progress) (place count : ℕ) (packet rest : List ℕ) (told : List Told) (answered : List ℕ) → place ≡ p.place → WantsSome place packet count → 0 < count → Onward p (packet ++ rest) told answered p packet rest told answered
+looks-part p place zero packet rest told answered e h some = absurd (omega arith)
+looks-part p place (suc count) packet rest told answered e h some = record { same = refl; begun = rw e at h.0; units = same-extends told told refl; answers = same-extends answered answered refl }
+
 pub looks-received : (p q : Progress) (packet tpdu rest : List ℕ) (told told' : List Told) (answered answered' : List ℕ) → first_packet p.place packet ≡ whole tpdu [] → ReceivesTpdu p tpdu told answered q told' answered' (Ok tt) → Onward p (packet ++ rest) told answered q [] rest told' answered'
 looks-received p q packet tpdu rest told told' answered answered' e h =
     let kind = h.0 in

@@ -2,7 +2,7 @@ use Rattle.std.proofs.Common.{◌≡◌, ◌-◌, List, [], ℕ, arith, drop, ta
 use Rattle.std.proofs.lemmas.List.{take_all}
 use Rattle.vf_tpkt.specs.Receiving.{first_packet, bad, whole}
 use Rattle.vf_tpkt.specs.Steps.{WantsSome}
-use Rattle.vf_tpkt.proofs.StepLemmas.{looks-bad, looks-whole, looks-received, looks-refused}
+use Rattle.vf_tpkt.proofs.StepLemmas.{looks-bad, looks-part, looks-whole, looks-received, looks-refused}
 use Rattle.vf_tpkt.proofs.tpkt.receive_whole.Goals as goal
 use Rattle.vf_tpkt.proofs.tpkt.receive_whole.Goals.{After-receive}
 
@@ -31,3 +31,8 @@ pub returns-in-Err-receive : goal.returns-in-Err-receive
 returns-in-Err-receive c = λ rest.
     let d = c.deref-2.result.now in
     looks-refused c.args.connection.now c.receive.new.self c.args.packet.now.items (take (length d - 4) (drop 4 d)) rest c.args.units.now.items c.receive.new.units.items c.args.answers.now.items c.receive.new.answers.items c.in-Err-receive.fault (is_whole (goal.at.returns-in-Err-receive c).After-receive) c.in-Err-receive.ensures
+
+pub returns-then-lacks-gt0 : goal.returns-then-lacks-gt0
+returns-then-lacks-gt0 c = λ rest.
+    let wants : WantsSome c.place.result c.deref.result.now c.in-Ok.lacks = c.in-Ok.ensures.wants in
+    looks-part c.args.connection.now c.place.result c.in-Ok.lacks c.args.packet.now.items rest c.args.units.now.items c.args.answers.now.items c.place.ensures (rw c.deref.ensures.value at wants) c.if-lacks-gt0.true
