@@ -3,8 +3,9 @@ ghost use Rattle.std.specs.Prelude.{◌≡◌, ◌++◌, ◌∷◌, [], OnOk};
 ghost use Rattle.vf_upper.specs.Carried.{carried_of};
 ghost use Rattle.vf_upper.specs.Conclusions.{Answers};
 ghost use Rattle.vf_upper.specs.Primitives.{is_bare as bare, may_lack as may_be_absent, reading};
-ghost use Rattle.vf_upper_grammar.specs.MarkViews.{marks_of};
+ghost use Rattle.vf_upper_grammar.specs.MarkViews.{Gives, marks_of};
 ghost use Rattle.vf_upper_grammar.specs.Marks.{number, value as value_mark};
+ghost use Rattle.vf_upper_grammar.specs.Types.{found_in as finding, user_data_of};
 ghost use Rattle.vf_upper_grammar.specs.declared.labels.NumberLabel.TheVariants.{AnyContext};
 
 use crate::conclusion::concluded;
@@ -75,6 +76,25 @@ fn put_carried(carried: CarriedValue, found: &mut Marks) -> Result<(), NoMemory>
     found.push(Mark::Value { value })
 }
 
+/// Finds what the user data of an SPDU say; those of one plain value are read without a walk over them.
+fn found_in(
+    alloc: Global,
+    carrier: SpduKind,
+    octets: &Octets,
+    found: &mut Marks,
+) -> Result<(), Stop>
+    requires { marks_of found.old ≡ [] }
+    ensures { Gives result (marks_of found.new) (finding (user_data_of carrier) octets.now) }
+{
+    if let SpduKind::DT = carrier {
+        if let Some(carried) = plain_in(octets)? {
+            put_carried(carried, found)?;
+            return Ok(());
+        }
+    }
+    find(alloc, carrier, octets, found)
+}
+
 /// The primitive that the user data of an SPDU are, as `read` gives it; the contents of values are not copied, but
 /// shared with the user data.
 pub fn read_shared(
@@ -89,13 +109,7 @@ pub fn read_shared(
     if is_bare(carrier, octets) {
         return concluded(alloc, carrier, contexts.as_slice(), found);
     }
-    if let SpduKind::DT = carrier {
-        if let Some(carried) = plain_in(octets)? {
-            put_carried(carried, &mut found)?;
-            return concluded(alloc, carrier, contexts.as_slice(), found);
-        }
-    }
-    match find(alloc, carrier, octets, &mut found) {
+    match found_in(alloc, carrier, octets, &mut found) {
         Ok(()) => concluded(alloc, carrier, contexts.as_slice(), found),
         Err(Stop::At(at)) => Err(UpperError::Grammar { at }),
         Err(Stop::NoMemory) => Err(UpperError::NoMemory),
