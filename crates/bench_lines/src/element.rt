@@ -5,9 +5,10 @@
 //! value.
 ghost use Rattle.vf_elements.specs.ElementValue.{IsWritable};
 
+use crate::fault::Fault;
 use crate::pdu::put_error;
 use crate::spelling::{put_spelling, value_in};
-use bench_base::{Fault, Text};
+use crate::text::Text;
 use std::alloc::Global;
 use vf_base::Element;
 use vf_ber::Value;

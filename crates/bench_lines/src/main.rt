@@ -5,18 +5,24 @@
 //! files of the layers say what a line has and what is answered to it, which is one line too.
 #![tactic(auto)]
 
+mod digests;
 mod element;
+mod fault;
 mod pdu;
+mod reading;
 mod responder;
 mod session;
 mod spelling;
 mod stack;
+mod text;
 mod transport;
 mod upper;
 mod value;
 
+use crate::fault::Fault;
+use crate::reading::{first_word, input};
 use crate::session::Ends;
-use bench_base::{Fault, Text, end, first_word, input};
+use crate::text::{Text, end};
 use std::alloc::Global;
 use std::process::ExitCode;
 

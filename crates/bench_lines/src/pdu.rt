@@ -3,8 +3,9 @@
 //! The answer is `pdu` and the one spelling of a copy of the PDU that the value means, `unknown CLASS NUMBER` with its tag
 //! where it means none, `field PLACE`, `range FIELD` or `missing FIELD` with its fault, or `none` where the octets don't
 //! begin with a value.
+use crate::fault::Fault;
 use crate::spelling::{put_spelling, value_in};
-use bench_base::{Fault, Text};
+use crate::text::Text;
 use std::alloc::Global;
 use vf_ber::Value;
 use vf_pdu::{Pdu, PduError, is_in_range, of_value, to_value};

@@ -3,7 +3,9 @@
 //!
 //! A line is a run, such as `deliver +1 1<0300 -1`, or many of them, as `responder/sweep.rt` says. A run is one life or more,
 //! each after ` / `; how a life is told stands in `responder/life.rt`.
-use bench_base::{Fault, Text, text_of};
+use crate::fault::Fault;
+use crate::reading::text_of;
+use crate::text::Text;
 use std::alloc::Global;
 
 mod deliver;

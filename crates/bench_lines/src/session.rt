@@ -14,7 +14,9 @@
 //! A unit is a letter, its number and, after a colon, its user data, so many `x` where these are `*` and a number. Of
 //! what is taken the units are told, and the fault that ends it. After the steps stands a colon, with the next serial
 //! number of each end that the first word names, and `*` where the end has the token.
-use bench_base::{Fault, Text, text_of};
+use crate::fault::Fault;
+use crate::reading::text_of;
+use crate::text::Text;
 use std::alloc::Global;
 use vf_base::Octets;
 use vf_session::{

@@ -1,5 +1,7 @@
 //! Values in digits, as they are read and written.
-use bench_base::{Fault, Text, octets_in};
+use crate::fault::Fault;
+use crate::reading::octets_in;
+use crate::text::Text;
 use std::alloc::Global;
 use vf_ber::{BerError, Value, WriteError, read, write};
 

@@ -11,9 +11,12 @@
 //!
 //! `cut` before a line asks for the same with each piece fed octet by octet and at seven other cuts, which must tell the
 //! same; the first that doesn't stands before what it tells.
+use crate::digests::next_random;
+use crate::fault::Fault;
 use crate::pdu::put_pdu;
+use crate::reading::{octets_in, text_of};
+use crate::text::Text;
 use crate::transport::show;
-use bench_base::{Fault, Text, next_random, octets_in, text_of};
 use std::alloc::Global;
 use vf_base::{Element, Name, NoMemory};
 use vf_pdu::{Boxed, Pdu};

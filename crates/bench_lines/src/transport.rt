@@ -10,7 +10,10 @@
 //!
 //! `pieces OCTETS` answers what the stream tells the called end, which must be the same in pieces of 200 cuts. `changes
 //! PLACE OCTETS` answers a digest (FNV-1a of 32 bits) of what it tells with each octet at this place.
-use bench_base::{Fault, NO_OCTETS, Text, digest, next_random, octets_in, text_of};
+use crate::digests::{NO_OCTETS, digest, next_random};
+use crate::fault::Fault;
+use crate::reading::{octets_in, text_of};
+use crate::text::Text;
 use std::alloc::Global;
 use vf_base::NoMemory;
 use vf_tpkt::{Side, Tpkt, TpktError, Unit};

@@ -4,8 +4,10 @@
 //!
 //! The answer is `grammar AT`, `context ID`, `application`, or `ok` with the offers or the results, the values, each with
 //! its context before it, and the user data that are written for what was read, `-` where none can be.
+use crate::fault::Fault;
+use crate::reading::{octets_in, text_of};
 use crate::spelling::put_spelling;
-use bench_base::{Fault, Text, octets_in, text_of};
+use crate::text::Text;
 use std::alloc::Global;
 use vf_base::{Oid, SpduKind};
 use vf_upper::{

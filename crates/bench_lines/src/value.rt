@@ -5,8 +5,10 @@
 //!
 //! Three layers tell how many octets there are, for counting what each costs: `hold` of the line itself, `parse` of the value
 //! that they begin with, which shares them, and `rewrite` of this value as it is written again.
+use crate::fault::Fault;
+use crate::reading::octets_in;
 use crate::spelling::put_spelling;
-use bench_base::{Fault, Text, octets_in};
+use crate::text::Text;
 use std::alloc::Global;
 use vf_base::Octets;
 use vf_ber::{BerError, Value, read, read_shared, write};

@@ -1,6 +1,8 @@
 //! A life through the responder itself: what is sent goes into words, `1:` and the octets, with `!` where the link is shut after
 //! them.
-use bench_base::{Fault, NO_OCTETS, Text, digest, next_random};
+use crate::digests::{NO_OCTETS, digest, next_random};
+use crate::fault::Fault;
+use crate::text::Text;
 use std::alloc::Global;
 use vf_base::{Moment, ScriptEvent};
 use vf_disk::Disk;

@@ -4,7 +4,8 @@
 //! `-1` the end of the link. `disk=5` lets the fifth call of the disk fail, `next=5` and `send=5` those of the links, `stop=5`
 //! the fifth write or sync, which count from the opening on, and all later ones. `limit=100` is where records have to end.
 //! `user=ann:7077` is a user of a store that is made, with the octets of a password; `user=bob` has none.
-use bench_base::{Fault, octets_in};
+use crate::fault::Fault;
+use crate::reading::octets_in;
 use std::alloc::Global;
 use vf_base::{Moment, Name, Octets, ScriptEvent};
 use vf_tables::{Change, Changes, User};

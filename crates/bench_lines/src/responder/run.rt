@@ -3,11 +3,12 @@
 //! The first life begins with its way, `deliver` or `serve`. Each later one begins with what the crash leaves of the disk
 //! after the one before, `keep`, `lose` or `fill`, goes by `deliver`, and first tells the tables of the store as it is opened.
 //! A life through `deliver` that has events ends with `=` and the tables, where the responder goes on to its end.
+use crate::fault::Fault;
 use crate::responder::deliver::{deliver_all, put_error};
 use crate::responder::life::{Life, Plan, broken_after, listed, octets_in_all, users_in};
 use crate::responder::served::{links_of, put_served};
 use crate::responder::tables::put_tables;
-use bench_base::{Fault, Text};
+use crate::text::Text;
 use std::alloc::Global;
 use vf_base::ScriptLinks;
 use vf_disk::{CrashForm, Disk, GREATEST_LENGTH, MemoryDisk};

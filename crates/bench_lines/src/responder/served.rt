@@ -5,9 +5,10 @@ ghost use Rattle.std.specs.Prelude.{◌≡◌, ◌∷◌, List, true, false, IfS
 ghost use Rattle.vf_base.specs.Links.{is_script};
 ghost use Rattle.vf_base.specs.declared.events.ScriptEvent.{ScriptEvent as ScriptEventMeant};
 
+use crate::fault::Fault;
 use crate::responder::deliver::{put_error, put_sent};
 use crate::responder::life::{Life, listed};
-use bench_base::{Fault, Text};
+use crate::text::Text;
 use std::alloc::Global;
 use vf_base::{ScriptEvent, ScriptLinks};
 use vf_responder::{ServeError, Served};

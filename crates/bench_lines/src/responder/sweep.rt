@@ -4,8 +4,10 @@
 //! first that doesn't stands before what it tells. `fronts` breaks the first life after each number of its octets, and `each
 //! send` lets each send fail in turn, so also `next`, `disk` and `stop`, until a run is as without; both answer how many runs
 //! there were and a digest of what they tell.
+use crate::digests::{NO_OCTETS, digest};
+use crate::fault::Fault;
 use crate::responder::run::{Change, octets_of_first, told_by};
-use bench_base::{Fault, NO_OCTETS, Text, digest};
+use crate::text::Text;
 use std::alloc::Global;
 
 /// At most so many calls fail in turn.

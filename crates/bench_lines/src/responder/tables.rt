@@ -7,7 +7,7 @@
 //! controls, mode, position, next number, last outcome, and the transfer with its FADU, its diagnostic and its point, of a
 //! read with its version; a password stands after `s`.
 use crate::responder::deliver::put_octets;
-use bench_base::Text;
+use crate::text::Text;
 use std::alloc::Global;
 use vf_attr::{File, Stamp};
 use vf_base::{Contents, Control, Controls, Element, FaduId, Name, Octets, Term};

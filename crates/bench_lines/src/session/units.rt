@@ -1,5 +1,6 @@
 //! Units of sessions, and SPDUs that are taken, by letters.
-use bench_base::{Fault, Text};
+use crate::fault::Fault;
+use crate::text::Text;
 use std::alloc::Global;
 use vf_base::Octets;
 use vf_session::{ResyncKind, SessionSay, TokenSide};

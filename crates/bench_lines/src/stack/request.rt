@@ -1,7 +1,7 @@
 //! Requests by words: a name with `+` or `-` for sync, a serial number, and after a colon the digits of a PDU or of a data
 //! element, as `Accept+:A10381010F`, `Check2` and `Restart2:BF2703800101`.
+use crate::fault::Fault;
 use crate::spelling::value_in;
-use bench_base::Fault;
 use std::alloc::Global;
 use vf_ber::Value;
 use vf_pdu::{Boxed, Pdu};
