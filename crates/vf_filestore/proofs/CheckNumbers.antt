@@ -2,7 +2,7 @@
 use Rattle.std.proofs.Common.{◌≡◌, ℕ, ◌+◌, ◌≤◌, Bool, true, false, cond, not, List, [], ◌∷◌, ◌++◌, drop, Option, None, Some, refl, ap, sym, subst, ◌∙◌, arith}
 use Rattle.std.specs.Prelude.{count_by, flat_map, nat_le}
 use Rattle.std.specs.List.{AllByRecursion}
-use Rattle.std.proofs.lemmas.Bool.Decides.{nat_tests}
+use Rattle.std.proofs.lemmas.Bool.{ltb-false}
 use Rattle.vf_base.specs.declared.diagnostic.Diagnostic.{Diagnostic}
 use Rattle.vf_base.specs.declared.element.Element.{Element}
 use Rattle.vf_elements.specs.Stages.{takes}
@@ -40,7 +40,7 @@ use Rattle.vf_filestore.proofs.Views.{NotMoving, Place, in_association, in_selec
 -- ---- what is due
 
 few_serial : (serial : ℕ) → passes_serials serial ≡ false → serial ≤ most_serial
-few_serial serial is = grind (arith, nat_tests)
+few_serial serial is = ltb-false most_serial serial is
 
 -- a check that is due, or nothing, before what comes later
 checked : (window : Option ℕ) (now : Progress) (later : List Said) (is_due : Bool) → (is_due ≡ true → AreNumbersLeft (with_check now).serial later) → (is_due ≡ false → AreNumbersLeft now.serial later)
