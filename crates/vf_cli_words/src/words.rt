@@ -65,37 +65,19 @@ pub fn asked(words: &Vec<String>) -> Option<AskedWords<'_>>
 fn command_named(name: &str) -> Option<Command>
     ensures { result ≡ command_meant name.now }
 {
-    if name == "dialogue" {
-        return Some(Command::Dialogue);
+    match name {
+        "dialogue" => Some(Command::Dialogue),
+        "init" => Some(Command::InitStore),
+        "list" => Some(Command::ListFiles),
+        "dockets" => Some(Command::ListDockets),
+        "drop" => Some(Command::DropKept),
+        "replay" => Some(Command::Replay),
+        "serve" => Some(Command::Serve),
+        "put" => Some(Command::Put),
+        "get" => Some(Command::Get),
+        "generate" => Some(Command::Generate),
+        _ => None,
     }
-    if name == "init" {
-        return Some(Command::InitStore);
-    }
-    if name == "list" {
-        return Some(Command::ListFiles);
-    }
-    if name == "dockets" {
-        return Some(Command::ListDockets);
-    }
-    if name == "drop" {
-        return Some(Command::DropKept);
-    }
-    if name == "replay" {
-        return Some(Command::Replay);
-    }
-    if name == "serve" {
-        return Some(Command::Serve);
-    }
-    if name == "put" {
-        return Some(Command::Put);
-    }
-    if name == "get" {
-        return Some(Command::Get);
-    }
-    if name == "generate" {
-        return Some(Command::Generate);
-    }
-    None
 }
 
 /// What the command line wants of the outside; `Usage` exactly where its words ask for no command.
