@@ -10,6 +10,3 @@ mod waking;
 
 pub use socket_dial::SocketDial;
 pub use socket_links::SocketLinks;
-
-#[cfg(test)]
-mod tests;

@@ -1,8 +1,14 @@
-use crate::streams::listen;
-use crate::{SocketDial, SocketLinks};
+//! Links over a port of this host, and a dial to it.
 use std::io::{Read, Write};
-use std::net::TcpStream;
+use std::net::{TcpListener, TcpStream};
 use vf_base::{Dial, LinkEvent, Links};
+use vf_cli_sockets::{SocketDial, SocketLinks};
+
+/// A port of this host at which nobody listens.
+fn free_port(rt: &HostRuntime) -> anyhow::Result<u16> {
+    let listener = TcpListener::bind(rt, ("127.0.0.1", 0))?;
+    Ok(listener.local_addr()?.port())
+}
 
 /// Links over a port, and the octets that came last.
 #[derive(Drop)]
@@ -15,11 +21,10 @@ struct Port {
 
 impl Port {
     fn open(rt: &HostRuntime) -> anyhow::Result<Port> {
-        let listener = listen(rt, 0)?;
-        let port = listener.local_addr()?.port();
+        let port = free_port(rt)?;
         Ok(Port {
             rt: *rt,
-            links: SocketLinks::over(rt, Some(listener), 50),
+            links: SocketLinks::open(rt, port, 50),
             port,
             piece: Vec::new(rt.alloc()),
         })
