@@ -66,7 +66,7 @@ impl Caller {
         let Some(request) = found else {
             return Ok(());
         };
-        let sent = self.send(alloc, &request, out)?;
+        let sent = self.send(alloc, request, out)?;
         if !sent {
             return Ok(());
         }
@@ -74,12 +74,26 @@ impl Caller {
         Ok(())
     }
 
+    /// Says a message, and drops it.
+    fn say_once(
+        &mut self,
+        alloc: Global,
+        message: Message,
+        out: &mut Vec<u8>,
+    ) -> Result<(), NoMemory>
+        ensures { (calling : Calling) → Represents self.old calling → OnOk result (Speaks (Says calling message) out.old.items self.new out.new.items) }
+    {
+        let said = self.say(alloc, &message, out);
+        drop(message);
+        said
+    }
+
     /// Offers the next check, where it may (ISO 8571-3, F-CHECK). Without memory the calling end is only to be dropped.
     pub fn check(&mut self, alloc: Global, out: &mut Vec<u8>) -> Result<(), NoMemory>
         ensures { (calling : Calling) → Represents self.old calling → OnOk result (Speaks (SaysCheck calling) out.old.items self.new out.new.items) }
     {
         let serial = self.stack.next_serial();
-        self.offer(alloc, &Request::Check { serial }, out)?;
+        self.offer(alloc, Request::Check { serial }, out)?;
         Ok(())
     }
 
@@ -95,7 +109,7 @@ impl Caller {
     {
         match self.base.serial_of(point) {
             Some(serial) => {
-                self.offer(alloc, &Request::Acknowledge { serial }, out)?;
+                self.offer(alloc, Request::Acknowledge { serial }, out)?;
                 Ok(())
             }
             None => Ok(()),
@@ -107,7 +121,7 @@ impl Caller {
     pub fn restart(&mut self, alloc: Global, point: u32, out: &mut Vec<u8>) -> Result<(), NoMemory>
         ensures { (calling : Calling) → Represents self.old calling → OnOk result (Speaks (SaysRestart calling point) out.old.items self.new out.new.items) }
     {
-        self.say(alloc, &Message::Pdu(Pdu::RestartRequest { point }), out)?;
+        self.say_once(alloc, Message::Pdu(Pdu::RestartRequest { point }), out)?;
         Ok(())
     }
 
@@ -115,20 +129,29 @@ impl Caller {
     pub fn pass(&mut self, alloc: Global, out: &mut Vec<u8>) -> Result<(), NoMemory>
         ensures { (calling : Calling) → Represents self.old calling → OnOk result (Speaks (SaysPass calling) out.old.items self.new out.new.items) }
     {
-        self.offer(alloc, &Request::Pass, out)?;
+        self.offer(alloc, Request::Pass, out)?;
         Ok(())
     }
 
     /// Sends a request where it may.
-    fn offer(&mut self, alloc: Global, request: &Request, out: &mut Vec<u8>) -> Result<(), NoMemory>
-        ensures { (calling : Calling) → Represents self.old calling → OnOk result (Speaks (SendsOne calling request.now) out.old.items self.new out.new.items) }
+    fn offer(&mut self, alloc: Global, request: Request, out: &mut Vec<u8>) -> Result<(), NoMemory>
+        ensures { (calling : Calling) → Represents self.old calling → OnOk result (Speaks (SendsOne calling request) out.old.items self.new out.new.items) }
     {
         let _sent = self.send(alloc, request, out)?;
         Ok(())
     }
 
+    /// Sends a request where it may, says whether it did, and drops it.
+    fn send(&mut self, alloc: Global, request: Request, out: &mut Vec<u8>) -> Result<bool, NoMemory>
+        ensures { (calling : Calling) → Represents self.old calling → IfOk result (Asks calling request out.old.items self.new out.new.items) }
+    {
+        let sent = self.try_send(alloc, &request, out);
+        drop(request);
+        sent
+    }
+
     /// Sends a request where it may, and says whether it did.
-    fn send(
+    fn try_send(
         &mut self,
         alloc: Global,
         request: &Request,

@@ -1,6 +1,6 @@
 use Rattle.std.proofs.Common.{refl}
 use Rattle.vf_cli_calling.proofs.Speaking.{asks_left, asks_sent}
-use Rattle.vf_cli_calling.proofs.caller.Caller.send.Goals as goal
+use Rattle.vf_cli_calling.proofs.caller.Caller.try_send.Goals as goal
 
 pub returns-then-not-may : goal.returns-then-not-may
 returns-then-not-may c = λ calling is.
