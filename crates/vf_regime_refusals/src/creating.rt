@@ -1,7 +1,12 @@
-ghost use Rattle.std.specs.Prelude.{◌≡◌, IfOk};
+ghost use Rattle.std.specs.Prelude.{◌≡◌, IfOk, []};
+ghost use Rattle.vf_doctype.specs.DocumentTypes.{constraint_of};
+ghost use Rattle.vf_filestore.specs.Diagnostics.{first_row};
 ghost use Rattle.vf_filestore.specs.Files.{made as made_meant};
+ghost use Rattle.vf_filestore.specs.Selecting.{selection_rows};
 ghost use Rattle.vf_regime_refusals.specs.Asked.{found_in, stamp_by, wanted_of};
-ghost use Rattle.vf_regime_refusals.specs.Creating.{creation_of, new_creation, there_creation};
+ghost use Rattle.vf_regime_refusals.specs.Creating.{creation_of, new_creation, there_creation, unless_refused};
+ghost use Rattle.vf_regime_refusals.specs.declared.creating.Creation.TheVariants as creations;
+ghost use Rattle.vf_tree.specs.FileTree.{new_file};
 
 use crate::access::named;
 use crate::numbers::{LIMITED_MANAGEMENT, unit_row};
@@ -89,36 +94,82 @@ fn make(
     ensures { IfOk result (λ creation. creation ≡ new_creation (found_in tables.now.files locks.now) (wanted_of association.now selection.now) (stamp_by association.now moment) new) }
 {
     let Some(doc) = DocType::of(&new.contents) else {
+        drop(new);
         return Ok(Creation::Refused(plain(CONTENTS_MISMATCH)));
     };
     if tables.files.len() >= MOST_FILES {
+        drop(new);
         return Ok(Creation::Refused(plain(STORE_FULL)));
     }
-    let identity = association.identity.copy(alloc)?;
-    let stamp = Stamp { moment, identity };
-    let file = made(alloc, doc, stamp, new)?;
-    let row = refused_selection(alloc, locks, association, selection, &file)?;
-    match row {
-        Some(diagnostic) => Ok(Creation::Refused(diagnostic)),
-        None => Ok(Creation::Made(file)),
+    let file = made(alloc, doc, association, moment, new)?;
+    let creation = unless_barred(alloc, locks, association, selection, file)?;
+    Ok(creation)
+}
+
+/// What a new file comes to, which its selection may refuse.
+fn unless_barred(
+    alloc: Global,
+    locks: &Locks,
+    association: &Association,
+    selection: &Selection,
+    file: File,
+) -> Result<Creation, NoMemory>
+    ensures { IfOk result (λ creation. creation ≡ unless_refused (first_row (selection_rows (found_in [] locks.now) (wanted_of association.now selection.now) file)) (creations.Made file)) }
+{
+    match refused_selection(alloc, locks, association, selection, &file) {
+        Ok(None) => Ok(Creation::Made(file)),
+        Ok(Some(diagnostic)) => {
+            drop(file);
+            Ok(Creation::Refused(diagnostic))
+        }
+        Err(error) => {
+            drop(file);
+            Err(error)
+        }
     }
 }
 
 /// The new file.
-fn made(alloc: Global, doc: DocType, stamp: Stamp, new: NewFile) -> Result<File, NoMemory>
-    ensures { IfOk result (λ file. file ≡ made_meant new stamp doc) }
+fn made(
+    alloc: Global,
+    doc: DocType,
+    association: &Association,
+    moment: Moment,
+    new: NewFile,
+) -> Result<File, NoMemory>
+    ensures { IfOk result (λ file. file ≡ made_meant new (stamp_by association.now moment) doc) }
+{
+    match begun(alloc, doc, association, moment) {
+        Ok((created, tree)) => Ok(File {
+            name: new.name,
+            permitted: new.permitted,
+            contents: new.contents,
+            terms: new.terms,
+            created,
+            modified: None,
+            read: None,
+            changed: None,
+            version: 1,
+            tree,
+        }),
+        Err(error) => {
+            drop(new);
+            Err(error)
+        }
+    }
+}
+
+/// The stamp of a new file, and its tree.
+fn begun(
+    alloc: Global,
+    doc: DocType,
+    association: &Association,
+    moment: Moment,
+) -> Result<(Stamp, Tree), NoMemory>
+    ensures stamp { IfOk result (λ begun. begun.0 ≡ stamp_by association.now moment) }
+    ensures tree { IfOk result (λ begun. begun.1 ≡ new_file (constraint_of doc.kind)) }
 {
     let tree = Tree::empty(alloc, doc.constraint())?;
-    Ok(File {
-        name: new.name,
-        permitted: new.permitted,
-        contents: new.contents,
-        terms: new.terms,
-        created: stamp,
-        modified: None,
-        read: None,
-        changed: None,
-        version: 1,
-        tree,
-    })
+    let identity = association.identity.copy(alloc)?;
+    Ok((Stamp { moment, identity }, tree))
 }
