@@ -240,6 +240,8 @@ def rows():
     yield from (" ".join(too_long(f"serve {start}")) for start in (f"+1 1<{CR}", associated))
     yield heading("two conversations through serve, the one whole, octet by octet and in pieces at random")
     yield from served(lines)
+    yield heading("long strings through serve")
+    yield f"serve {lines['long strings'].removeprefix('deliver ')} / lose"
     yield heading("a store that is full: its first record ends at 89, and behind an area that is made before it at 99")
     created = line_of(f"1 arrive\n1 A00380010F\n= 1 A10381010F\n1 AA0C810161A207800528C27B0503\n= 1 AB00")
     yield from (created.replace("deliver", f"deliver limit={limit}") + " / lose" for limit in (89, 88))

@@ -25,6 +25,31 @@ def strings(sign, first, count):
     return "".join(f"        {sign}1 0401{each:02X}\n" for each in range(first, first + count))
 
 
+def written_and_read(*lengths):
+    """Link 1 writes strings of so many octets, 256 and more, to a new file, and reads them."""
+    said = "".join(f"        1 0482{length:04X}{'61' * length}\n" for length in lengths)
+    told = said.replace("        1 ", "        = 1 ")
+    return f"""
+        1 arrive
+        1 A00380010F
+        = 1 A10381010F
+        1 AA0F810161A207800528C27B0503850105
+        = 1 AB00
+        1 B203800105
+        = 1 B309A107800528C27B0503
+        1 BF2103800102
+{said}        1 BF2200
+        1 BF2300
+        = 1 BF2400
+        1 BF2000
+{told}        = 1 BF2200
+        1 BF2300
+        = 1 BF2400
+        1 B400
+        = 1 B500
+    """
+
+
 # A file of nine strings that is created, opened, written and read, up to the check after the eighth of them.
 READ = f"""        1 AA0F810161A207800528C27B0503850105
         = 1 AB00
@@ -192,6 +217,8 @@ CONVERSATIONS = {
         = 1 A300
         = 1 shut
     """,
+    # strings about the length from which on one is sent from where the file has it
+    "long strings": written_and_read(1_023, 1_024, 1_025, 300),
     # links 1 and 2 read a file, and link 3, which would exclude them from reading, opens it once they have closed it
     "shared": """
         1 arrive

@@ -169,7 +169,7 @@ def element_of(value):
     if tag in ((0, 4), (0, 22), (0, 25), (0, 26), (0, 27)):
         if built and wrong_segment(value) is not None:
             raise Fault("Ftam", "Field", wrong_segment(value))
-        return f"String{value.tag}:" + shown(pdus.octets_of(value))
+        return f"String{value.tag}:{pdus.octets_of(value).hex().upper()}"
     if tag in ((1, 1), (1, 2)) and not built and not value.octets:
         return "Enter" if value.tag == 1 else "Exit"
     if tag != (1, 0) or not built:
@@ -184,13 +184,16 @@ def element_of(value):
         if not pdus.in_range(field.form, content):
             raise Fault("Ftam", "Range", field.tag)
         found[field.tag], least = content, field.tag + 1
-    name = ":" + shown(found[0]) if 0 in found else ""
+    name = f":{found[0].hex().upper()}" if 0 in found else ""
     return ("Descriptor+" if found.get(1, True) else "Descriptor-") + name
 
 
-def shown(octets):
-    """The octets, the first 12 and their number where there are more than 32."""
-    return octets.hex().upper() if len(octets) <= 32 else f"{octets[:12].hex().upper()}..{len(octets)}"
+def shown(word):
+    """A word of an answer; of a data element of more than 32 octets the first 12, and how many there are."""
+    name, _, digits = word.partition(":")
+    if not name.startswith(("String", "Descriptor")) or len(digits) <= 64:
+        return word
+    return f"{name}:{digits[:24]}..{len(digits) // 2}"
 
 
 def item_of(sync, value):
@@ -454,7 +457,7 @@ class End:
         """All that the end was told and has sent, and where it stands."""
         holds = "*" if sessions.sync(self.trace)[1] and sessions.token(self.trace) == self.own else ""
         ended = "open" if self.ending == OPEN else "ended"
-        words = "".join(word + " " for word in self.told)
+        words = "".join(shown(word) + " " for word in self.told)
         held = self.held + len(self.tpdus.tsdu)
         return f"{words}: {self.sent.hex()} : {ended} {held} {self.wanted} {sessions.next_serial(self.trace)}{holds}"
 
