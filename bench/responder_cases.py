@@ -247,9 +247,10 @@ def rows():
     yield from (created.replace("deliver", f"deliver limit={limit}") + " / lose" for limit in (89, 88))
     yield heading("64 links stand, and those after them are shut")
     yield from standing_rows()
-    yield heading("each send fails, of two links in turn; each wait; each call of the disk")
+    yield heading("each send fails, of two links in turn, and where a recovery ends another association; each wait; each call of the disk")
     both = in_turn(octets_of_link(lines["session"], 1), octets_of_link(line_of(OTHER), 1), 40)
     yield from (f"serve {both}", f"each send serve {both} / lose", f"each next serve {both} / lose")
+    yield f"each send serve {lines['recovered'].removeprefix('deliver ')} / lose"
     yield from (f"each disk serve {both} / {form}" for form in ("keep", "lose", "fill"))
     yield heading("a stop at each write and sync, of a session and of a recovery")
     for name in ("session", "recovered", "docket", "changed"):
