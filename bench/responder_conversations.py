@@ -434,7 +434,7 @@ CONVERSATIONS = {
         = 1 BF2600
         life lose
     """,
-    # who has made a file, or selected it, holds it until it lets it go; then it is selected by another, and deleted
+    # who has made a file, or selected it, holds it until it lets it go or deletes it; then it is another's
     "held": """
         1 arrive
         1 A00380010F
@@ -462,6 +462,8 @@ CONVERSATIONS = {
         = 1 AD00
         2 A60B8001618101208203020000
         = 2 A705A00380010B
+        2 AA14810161A207800528C27B05038501208603020000
+        = 2 AB00
     """,
     # a file whose permitted actions are changed stays held, and one that is renamed is held by its new name alone
     "renamed": """
