@@ -217,6 +217,27 @@ CONVERSATIONS = {
         = 1 A300
         = 1 shut
     """,
+    # a group whose second item is refused creates nothing, also beside what is created after it
+    "a group in vain": """
+        1 arrive
+        1 A00380012F
+        = 1 A10381012F
+        1 B603800102
+        1 AA0F810161A207800528C27B0503850105
+        1 B203800102
+        1 B800
+        = 1 B700
+        = 1 AB05A00380011E
+        = 1 B305A00380010D
+        = 1 B900
+        1 AA0F810162A207800528C27B0503850105
+        = 1 AB00
+        1 A800
+        = 1 A900
+        1 A603800161
+        = 1 A705A00380010B
+        life keep
+    """,
     # strings about the length from which on one is sent from where the file has it
     "long strings": written_and_read(1_023, 1_024, 1_025, 300),
     # links 1 and 2 read a file, and link 3, which would exclude them from reading, opens it once they have closed it
