@@ -1,11 +1,15 @@
 //! Octets that stand in parts, written to a file: row after row, of which short ones are gathered for one write.
 use crate::Parts;
 use std::alloc::Global;
+use std::os::fd::AsRawFd;
 use std::os::unix::fs::FileExt;
 use std::{fs, io};
 
 /// The most octets that are gathered for one write.
 const BLOCK: usize = 262_144;
+
+/// So many octets are written to the file before the system is asked to begin with them on the disk.
+const STRETCH: u64 = 1_048_576;
 
 /// Room to gather octets; none without memory, and then each row is a write of its own.
 pub(crate) fn block_of(alloc: Global) -> Vec<u8> {
@@ -29,10 +33,12 @@ pub(crate) fn write_rows(
     }
     block.clear();
     let mut place = at;
+    let mut begun = at;
     for part in strings {
         let (here, later) = rest.split_at(part.before);
         put(file, &mut place, here, block)?;
         put(file, &mut place, part.octets.as_slice(), block)?;
+        hasten(file, &mut begun, place);
         rest = later;
     }
     put(file, &mut place, rest, block)?;
@@ -60,4 +66,16 @@ fn flush(file: &fs::File, place: &mut u64, block: &mut Vec<u8>) -> io::Result<()
     *place = place.saturating_add(block.len() as u64);
     block.clear();
     Ok(())
+}
+
+/// Asks the system to begin to write to the disk what was written to the file since a place, once that is a stretch: the sync
+/// that follows then waits for less. This is advice, and whatever the system says to it is passed over.
+fn hasten(file: &fs::File, begun: &mut u64, place: u64) {
+    let count = place.saturating_sub(*begun);
+    if count < STRETCH {
+        return;
+    }
+    let fd = file.as_raw_fd();
+    let _ = libc::posix_fadvise(fd, *begun as i64, count as i64, libc::POSIX_FADV_DONTNEED);
+    *begun = place;
 }
