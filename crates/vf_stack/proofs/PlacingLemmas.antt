@@ -65,16 +65,3 @@ soon-by contexts syntax front (entry ∷ rest) whole are =
 
 pub found_soon : (contexts : List ContextEntry) (syntax : List ℕ) → id_soon contexts syntax contexts ≡ id_among contexts syntax contexts
 found_soon contexts syntax = soon-by contexts syntax [] contexts refl tt
-
--- lists whose last items differ
-and-false : (b : Bool) → b && false ≡ false
-and-false true = refl
-and-false false = refl
-
-pub apart_at_the_last : (xs ys : List ℕ) (x y : ℕ) → nat_eq x y ≡ false → are_arcs (xs ++ x ∷ []) (ys ++ y ∷ []) ≡ false
-apart_at_the_last [] [] x y e = ap (λ (c : Bool). c && true) e
-apart_at_the_last [] (v ∷ []) x y e = and-false (nat_eq x v)
-apart_at_the_last [] (v ∷ w ∷ ys) x y e = and-false (nat_eq x v)
-apart_at_the_last (v ∷ []) [] x y e = and-false (nat_eq v y)
-apart_at_the_last (v ∷ w ∷ xs) [] x y e = and-false (nat_eq v y)
-apart_at_the_last (v ∷ xs) (w ∷ ys) x y e = ap (λ (c : Bool). nat_eq v w && c) (apart_at_the_last xs ys x y e) ∙ and-false (nat_eq v w)

@@ -32,22 +32,21 @@ const TEXT: [u32; 5] = [1, 0, 8571, 2, 3];
 /// Unstructured binary (ISO 8571-2).
 const BINARY: [u32; 5] = [1, 0, 8571, 2, 4];
 
-/// Whether the last arcs differ.
-#[tactic(auto, using(crate::proofs::PlacingLemmas::apart_at_the_last))]
-fn differ_at_the_last(arcs: &[u32], others: &[u32]) -> bool
-    ensures { result ≡ true → are_arcs arcs.now others.now ≡ false }
-{
-    match (arcs.split_last(), others.split_last()) {
-        (Some((arc, _)), Some((other, _))) => arc != other,
-        _ => false,
-    }
-}
-
-/// Whether these are the same arcs. The last ones are looked at first, since those of most syntaxes differ.
+/// Whether these are the same arcs.
 fn are_same(arcs: &[u32], others: &[u32]) -> bool
     ensures { result ≡ are_arcs arcs.now others.now }
 {
-    !differ_at_the_last(arcs, others) && arcs == others
+    let mut rest = others;
+    for arc in arcs {
+        let Some((other, later)) = rest.split_first() else {
+            return false;
+        };
+        if arc != other {
+            return false;
+        }
+        rest = later;
+    }
+    rest.is_empty()
 }
 
 /// Whether the first of these contexts with this identifier has this abstract syntax.
