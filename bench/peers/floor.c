@@ -8,7 +8,8 @@
    The responder has the file's creation on the disk before it answers it, and the file before it answers the end of a put.
    In the first get after a put it has the whole file there once more, as the new area of its journal, and in each get a
    record of 80 octets, before it answers the end. Each record is synced, then the octet of the head that tells it is
-   written and synced. A STORE is a file of 34 octets. Status 1 where a call fails. */
+   written and synced. Of a store and of an output the system is asked to begin with each MiB on the disk as soon as it is
+   written. A STORE is a file of 34 octets. Status 1 where a call fails. */
 
 #include <arpa/inet.h>
 #include <fcntl.h>
@@ -19,7 +20,7 @@
 #include <sys/socket.h>
 #include <unistd.h>
 
-enum { PIECE = 65536, BLOCK = 262144, MOST = 17825792, HEAD = 34, TOLD = 33 };
+enum { PIECE = 65536, BLOCK = 262144, STRETCH = 1048576, MOST = 17825792, HEAD = 34, TOLD = 33 };
 
 static void fail(const char *what)
 {
@@ -65,13 +66,26 @@ static void hear(int link, size_t count)
     receive_all(link, octets, count);
 }
 
+/* Has the system begin with what was written since a place, once that is a stretch; what it says to it is passed over. */
+static void hasten(int file, off_t *begun, off_t place)
+{
+    if (place - *begun < STRETCH)
+        return;
+    posix_fadvise(file, *begun, place - *begun, POSIX_FADV_DONTNEED);
+    *begun = place;
+}
+
 static void write_at(int store, const char *octets, size_t count, off_t place)
 {
+    off_t begun = place;
     ssize_t written;
 
-    for (; count > 0; octets += written, count -= written, place += written)
+    for (; count > 0; octets += written, count -= written) {
         if ((written = pwrite(store, octets, least(count, BLOCK), place)) <= 0)
             fail("pwrite");
+        place += written;
+        hasten(store, &begun, place);
+    }
 }
 
 /* A record, and then what tells it, each on the disk; the place after it. */
@@ -250,6 +264,7 @@ static void get(const char *port)
     char *file = room();
     size_t length, done;
     ssize_t count;
+    off_t begun = 0;
     int link = connected(port);
 
     begin(link, 'g');
@@ -257,9 +272,11 @@ static void get(const char *port)
     receive_all(link, file, length);
     say(link, 23), hear(link, 23);
     end(link);
-    for (done = 0; done < length; done += count)
-        if ((count = write(1, file + done, least(PIECE, length - done))) <= 0)
+    for (done = 0; done < length; done += count) {
+        if ((count = write(1, file + done, least(BLOCK, length - done))) <= 0)
             fail("write");
+        hasten(1, &begun, done + count);
+    }
 }
 
 int main(int argc, char **argv)

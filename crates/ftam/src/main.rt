@@ -1,11 +1,14 @@
 //! The program: the words of its command line, its standard input and output, the disk of its store, and its status.
 #![tactic(auto)]
 
+mod output;
+
+use output::Output;
 use std::env;
 use std::fs::File;
 use std::io::{self, ErrorKind};
 use std::process::ExitCode;
-use vf_base::{ReadSource, WriteSink};
+use vf_base::ReadSource;
 use vf_cli::{Wanted, WordsError, ftam, wanted};
 use vf_cli_sockets::{SocketDial, SocketLinks};
 use vf_disk::FileDisk;
@@ -38,7 +41,7 @@ fn main(rt: HostRuntime) -> ExitCode {
     };
     let disk = disk_of(&rt, &wanted);
     let mut input = ReadSource::new(rt.stdin());
-    let mut out = WriteSink::new(rt.stdout());
+    let mut out = Output::new(&rt);
     let mut links = links_of(&rt, &wanted);
     let mut dial = dial_of(&rt, &wanted);
     let (_disk, status) = ftam(

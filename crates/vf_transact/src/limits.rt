@@ -9,8 +9,11 @@ pub(crate) const MOST_INPUT_OCTETS: usize = 17_039_360;
 /// A connection gives at most so many octets.
 pub(crate) const MOST_READS: u32 = 1_073_741_824;
 
-/// Octets of a connection that are read at a time, and that are written at a time.
+/// So many octets of an input or of a connection are read at a time.
 pub(crate) const BLOCK: usize = 65_536;
+
+/// So many octets of an output and more are written at a time.
+pub(crate) const OUTPUT_BLOCK: usize = 262_144;
 
 /// Diagnostic: an element is too long.
 pub(crate) const ELEMENT_TOO_LONG: u16 = 22;

@@ -7,7 +7,7 @@ ghost use Rattle.vf_transact.specs.Writing.{HasCause, Passes, PassesAll, PassesF
 ghost use Rattle.vf_transact.specs.declared.error.TransactError.TheVariants as errors;
 
 use crate::TransactError;
-use crate::limits::BLOCK;
+use crate::limits::OUTPUT_BLOCK;
 use std::alloc::Global;
 use vf_base::{Element, NoMemory, Sink};
 
@@ -77,7 +77,7 @@ fn write_if_large<O: Sink>(block: &mut Vec<u8>, out: &mut O) -> Result<(), Trans
     ensures front { OnErr result (PassesFront block.old.items (O.taken out.old) (O.taken out.new)) }
     ensures cause { HasCause result (O.fault_count out.old) (O.fault_count out.new) }
 {
-    if block.len() < BLOCK {
+    if block.len() < OUTPUT_BLOCK {
         return Ok(());
     }
     write_block(block, out)
