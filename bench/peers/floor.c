@@ -5,7 +5,7 @@
        floor put STORE PORT < FILE     has the whole input before it connects
        floor get STORE PORT > FILE     has the whole file before it writes its output
 
-   The responder has the file's creation on the disk before it answers it, and the file before it answers the end of a put.
+   The responder has memory at hand for a file before it listens. It has the file's creation on the disk before it answers it, and the file before it answers the end of a put.
    In the first get after a put it has the whole file there once more, as the new area of its journal, and in each get a
    record of 80 octets, before it answers the end. Each record is synced, then the octet of the head that tells it is
    written and synced. Of a store and of an output the system is asked to begin with each MiB on the disk as soon as it is
@@ -187,7 +187,6 @@ static struct {
 static void answer_put(int link)
 {
     receive_all(link, (char *)&served.length, sizeof served.length);
-    served.file = room();
     receive_all(link, served.file, served.length);
     served.end = keep(served.store, served.file, served.length, served.end);
     served.is_due = 1;
@@ -231,7 +230,10 @@ static void answer(int link)
 
 static void serve(const char *port)
 {
-    int listener = listening(port);
+    int listener;
+
+    served.file = memset(room(), 0, MOST);
+    listener = listening(port);
 
     for (;;) {
         int link = without_delay(accept(listener, NULL, NULL));

@@ -16,6 +16,9 @@ use vf_disk::FileDisk;
 /// The status where memory is wanting.
 const NO_MEMORY: u8 = 9;
 
+/// So many octets of memory are at hand once a port is served: what the longest file takes that comes in strings of 4,096.
+const AT_HAND: usize = 20_971_520;
+
 fn main(rt: HostRuntime) -> ExitCode {
     // A standard stream that was closed would else have its number taken by the store, which what is printed would then
     // overwrite. There are three such streams.
@@ -92,7 +95,15 @@ fn links_of(rt: &HostRuntime, wanted: &Option<Wanted>) -> SocketLinks {
     else {
         return SocketLinks::none(rt);
     };
+    have_memory_at_hand(rt);
     SocketLinks::open(rt, *port, *idle)
+}
+
+/// Takes memory from the system and gives it back to the allocator, which keeps it as `./ftam` has it: the first file that comes
+/// else waits for the system to clear it, and on a virtual machine for its host to find it.
+fn have_memory_at_hand(rt: &HostRuntime) {
+    let mut room: Vec<u8> = Vec::new(rt.alloc());
+    let _ = room.resize(AT_HAND, 0);
 }
 
 /// The dial to the host and the port that the words want, or one to no host.
