@@ -5,11 +5,11 @@
        floor put STORE PORT < FILE     has the whole input before it connects
        floor get STORE PORT > FILE     has the whole file before it writes its output
 
-   The responder has memory at hand for a file before it listens. It has the file's creation on the disk before it answers it, and the file before it answers the end of a put.
-   In the first get after a put it has the whole file there once more, as the new area of its journal, and in each get a
-   record of 80 octets, before it answers the end. Each record is synced, then the octet of the head that tells it is
-   written and synced. Of a store and of an output the system is asked to begin with each MiB on the disk as soon as it is
-   written. A STORE is a file of 34 octets. Status 1 where a call fails. */
+   The responder has memory at hand for a file before it listens. It has the file's creation on the disk before it answers
+   it, and the file before it answers the end of a put. In the first get after a put it has the whole file there once more,
+   as the new area of its journal, and in each get a record of 80 octets, before it answers the end. Each record is synced,
+   then the octet of the head that tells it is written and synced. Of a store and of an output the system is asked to begin
+   with each MiB on the disk as soon as it is written. A STORE is a file of 34 octets. Status 1 where a call fails. */
 
 #include <arpa/inet.h>
 #include <fcntl.h>
