@@ -51,17 +51,16 @@ impl Sink for Output {
 /// is passed over; it says that it can't where standard output has no position, as a pipe has none.
 fn hasten(count: u64) {
     let end = libc::lseek(libc::STDOUT_FILENO, 0, libc::SEEK_CUR);
-    let Ok(end) = u64::try_from(end) else {
+    let Ok(octets) = i64::try_from(count) else {
         return;
     };
-    if end < count {
+    if octets > end {
         return;
     }
-    let begin = end - count;
     let _ = libc::posix_fadvise(
         libc::STDOUT_FILENO,
-        begin as i64,
-        count as i64,
+        end - octets,
+        octets,
         libc::POSIX_FADV_DONTNEED,
     );
 }

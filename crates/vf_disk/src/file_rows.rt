@@ -75,7 +75,9 @@ fn hasten(file: &fs::File, begun: &mut u64, place: u64) {
     if count < STRETCH {
         return;
     }
-    let fd = file.as_raw_fd();
-    let _ = libc::posix_fadvise(fd, *begun as i64, count as i64, libc::POSIX_FADV_DONTNEED);
+    let (Ok(from), Ok(octets)) = (i64::try_from(*begun), i64::try_from(count)) else {
+        return;
+    };
+    let _ = libc::posix_fadvise(file.as_raw_fd(), from, octets, libc::POSIX_FADV_DONTNEED);
     *begun = place;
 }
