@@ -8,7 +8,7 @@ use std::{fs, io};
 /// The most octets that are gathered for one write.
 const BLOCK: usize = 262_144;
 
-/// So many octets are written to the file before the system is asked to begin with them on the disk.
+/// So many octets of a file are a stretch: once one is written, the system is asked to begin with it on the disk.
 const STRETCH: u64 = 1_048_576;
 
 /// Room to gather octets; none without memory, and then each row is a write of its own.
@@ -45,19 +45,29 @@ pub(crate) fn write_rows(
     flush(file, &mut place, block)
 }
 
-/// Puts a row after those in the block, which is written first where there is no room. A row that has no room in an
-/// empty block either is written by itself.
+/// Puts a row after those in the block, which is written once it is full. Blocks end where the file has a multiple of their
+/// length, since the system keeps a file in pages, so that a row may begin in one block and end in the next. A row that is longer
+/// than any block is written by itself.
 fn put(file: &fs::File, place: &mut u64, row: &[u8], block: &mut Vec<u8>) -> io::Result<()> {
-    if row.len() > block.capacity() - block.len() {
+    if row.len() > block.capacity() {
         flush(file, place, block)?;
-    }
-    if row.len() <= block.capacity() - block.len() {
-        block.extend_from_slice(row)?;
+        file.write_all_at(row, *place)?;
+        *place = place.saturating_add(row.len() as u64);
         return Ok(());
     }
-    file.write_all_at(row, *place)?;
-    *place = place.saturating_add(row.len() as u64);
+    let (front, later) = row.split_at(room_in(block, *place).min(row.len()));
+    block.extend_from_slice(front)?;
+    if !later.is_empty() {
+        flush(file, place, block)?;
+        block.extend_from_slice(later)?;
+    }
     Ok(())
+}
+
+/// So many octets more a block takes that is to be written at a place.
+fn room_in(block: &Vec<u8>, place: u64) -> usize {
+    let begun = (place % BLOCK as u64) as usize;
+    (BLOCK - begun).saturating_sub(block.len())
 }
 
 /// Writes what the block holds, which is empty then.
@@ -68,13 +78,13 @@ fn flush(file: &fs::File, place: &mut u64, block: &mut Vec<u8>) -> io::Result<()
     Ok(())
 }
 
-/// Asks the system to begin to write to the disk what was written to the file since a place, once that is a stretch: the sync
-/// that follows then waits for less. This is advice, and whatever the system says to it is passed over.
+/// Asks the system to begin to write to the disk what was written to the file since a place, once a stretch of the file ends
+/// there: the sync that follows then waits for less. This is advice, and whatever the system says to it is passed over.
 fn hasten(file: &fs::File, begun: &mut u64, place: u64) {
-    let count = place.saturating_sub(*begun);
-    if count < STRETCH {
+    if place / STRETCH == *begun / STRETCH {
         return;
     }
+    let count = place.saturating_sub(*begun);
     let (Ok(from), Ok(octets)) = (i64::try_from(*begun), i64::try_from(count)) else {
         return;
     };
