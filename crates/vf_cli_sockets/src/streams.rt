@@ -2,9 +2,12 @@
 ghost use Rattle.std.specs.Prelude.{◌<◌, ◌≤◌, IfOk, length};
 ghost use Rattle.vf_cli_sockets.specs.Heard.{IsWithin};
 
+use libc::net::{POLLOUT, poll};
+use libc::types::pollfd;
 use mio::net::{TcpListener, TcpStream};
 use std::io::{self, ErrorKind, Read, Write};
 use std::net::{Ipv4Addr, Net, Shutdown, SocketAddr};
+use std::os::fd::AsRawFd;
 use std::thread;
 use std::time::{Clock, Duration, SystemTime};
 use vf_base::{Failed, Moment};
@@ -58,7 +61,8 @@ fn is_passing(error: &io::Error) -> bool {
     matches!(error.kind(), ErrorKind::WouldBlock | ErrorKind::Interrupted)
 }
 
-/// Sends all octets. After a try that would block it sleeps for a millisecond; after many such tries in a row it fails.
+/// Sends all octets. After a try that would block it waits for a millisecond, or until the stream takes octets again; after many
+/// such tries in a row it fails.
 pub(crate) fn send_all(
     rt: &HostRuntime,
     stream: &mut TcpStream,
@@ -81,12 +85,24 @@ fn send_some(rt: &HostRuntime, stream: &mut TcpStream, octets: &[u8]) -> Result<
         match stream.write(octets) {
             Ok(0) => return Err(Failed),
             Ok(count) => return Ok(count),
-            Err(error) if error.kind() == ErrorKind::WouldBlock => sleep(rt),
+            Err(error) if error.kind() == ErrorKind::WouldBlock => wait_to_send(rt, stream),
             Err(error) if error.kind() == ErrorKind::Interrupted => {}
             Err(_) => return Err(Failed),
         }
     }
     Err(Failed)
+}
+
+/// Waits until a stream takes octets again, a millisecond at most. Where the system has no such wait, it sleeps for that time.
+fn wait_to_send(rt: &HostRuntime, stream: &TcpStream) {
+    let mut asked = [pollfd {
+        fd: stream.as_raw_fd(),
+        events: POLLOUT,
+        revents: 0,
+    }];
+    if poll(&mut asked, 1) < 0 {
+        sleep(rt);
+    }
 }
 
 /// Tells the peer of a stream that nothing more is sent.
