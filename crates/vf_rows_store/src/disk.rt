@@ -41,7 +41,8 @@ fn a_disk_over_a_file_gives_what_was_written(rt: HostRuntime) -> Result<(), Fail
     Ok(())
 }
 
-/// Short octets, and between them two strings that are shared, of which one is longer than what is gathered for a write.
+/// Short octets, and between them strings that are shared: one that is longer than what is gathered for a write, and more of
+/// others than that, so that one of these is cut by its end.
 fn parts(alloc: Global) -> Result<Parts, NoMemory> {
     let string = Octets::from_vec(vec![in alloc; 7; 2_000]?)?;
     let long = Octets::from_vec(vec![in alloc; 8; 300_000]?)?;
@@ -51,7 +52,10 @@ fn parts(alloc: Global) -> Result<Parts, NoMemory> {
     octets.push_shared(&string)?;
     octets.push(b'd')?;
     octets.push_shared(&long)?;
-    octets.push_shared(&string)?;
+    for _ in 0..140 {
+        octets.push_shared(&string)?;
+        octets.push(b'f')?;
+    }
     octets.extend_from_slice(b"e")?;
     Ok(octets)
 }
@@ -68,7 +72,7 @@ fn writes_parts<D: Disk>(alloc: Global, disk: &mut D) -> Result<bool, NoMemory> 
     };
     let mut found = vec![in alloc; 0; length as usize]?;
     let read = disk.read(0, &mut found).is_ok();
-    Ok(read && found == wanted && found.starts_with(b"Abc\x07") && found.len() == 304_005)
+    Ok(read && found == wanted && found.starts_with(b"Abc\x07") && found.len() == 582_145)
 }
 
 #[test]
