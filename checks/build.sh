@@ -1,12 +1,13 @@
 # The proved program and what it was made of, for ./ftam and ./test, which set top to the repository's top.
 #
-# Beside the program stands a stamp: the sum of the sources that it was made of and its own, and the folders of these
-# sources. Where nothing there has changed since the stamp was made, by the times that the system keeps, the program is
-# built, which is told in some milliseconds. Where something has, the sums decide.
+# Beside the program stand a stamp, which has the sum of the sources that it was made of and its own, and a list of these
+# sources and of the folders that they are in. Where nothing of the list has changed since the stamp was made, by the times
+# that the system keeps, the program is built, which is told in some milliseconds. Where something has, the sums decide.
 
 # where the toolchain leaves it
 program=$top/crates/ftam/out/ftam
 stamp=$program.made-of
+list=$program.sources
 
 # The folders of the crates that the program is made of, each after those that it stands on, in one line. The names on
 # the right of crates.txt that are none on its left are libraries of the toolchain.
@@ -35,12 +36,19 @@ sum_of_sources() (
     done | sha256sum
 )
 
-# Whether neither a source nor the program has changed since the stamp was made.
+# Prints the program and its sources, with the folders that they are in, each name ended by a NUL: a folder changes where a
+# file comes or goes.
+list_of_sources() (
+    # shellcheck disable=SC2046
+    cd -- "$top" && find crates.txt crates/ftam/out/ftam $(folders_of_program) \
+        \( -name out -o -name must-fail \) -prune -o -print0
+)
+
+# Whether neither a source nor the program has changed since the stamp was made. Folders aren't searched anew, which would
+# take most of the time.
 is_untouched() {
-    { read -r _ && read -r _ && read -r folders; } < "$stamp" 2> /dev/null || return
-    # shellcheck disable=SC2086
-    touched=$(cd -- "$top" && find crates.txt crates/ftam/out/ftam $folders \
-        \( -name out -o -name must-fail \) -prune -o -newercm "$stamp" -print -quit 2>&1) && [ -z "$touched" ]
+    [ -f "$stamp" ] && touched=$(cd -- "$top" && find -files0-from "$list" -prune -newercm "$stamp" -print -quit 2>&1) &&
+        [ -z "$touched" ]
 }
 
 is_built() {
@@ -51,7 +59,7 @@ is_built() {
 is_same() {
     [ -f "$stamp" ] || return
     sources=$(sum_of_sources)
-    [ "$(echo "$sources" && sha256sum < "$program")" = "$(head -n 2 "$stamp")" ] && note_built "$sources"
+    [ "$(echo "$sources" && sha256sum < "$program")" = "$(cat "$stamp")" ] && note_built "$sources"
 }
 
 # Notes that the program was made of sources of this sum, where they haven't changed since. The stamp has the time before
@@ -59,10 +67,10 @@ is_same() {
 note_built() {
     : > "$stamp.$$" && sleep 0.05
     if [ "$1" = "$(sum_of_sources)" ]; then
-        { echo "$1" && sha256sum < "$program" && folders_of_program && echo; } > "$stamp.$$.all" &&
-            touch -r "$stamp.$$" "$stamp.$$.all" && mv -f "$stamp.$$.all" "$stamp"
+        list_of_sources > "$stamp.$$.list" && { echo "$1" && sha256sum < "$program"; } > "$stamp.$$.all" &&
+            touch -r "$stamp.$$" "$stamp.$$.all" && mv -f "$stamp.$$.list" "$list" && mv -f "$stamp.$$.all" "$stamp"
     fi
-    rm -f "$stamp.$$"
+    rm -f "$stamp.$$" "$stamp.$$.list" "$stamp.$$.all"
 }
 
 # Proves and builds the program, and says so on standard error, a line for each crate.
